@@ -47,9 +47,9 @@ pow-small o h = pow-lt o 16 h
 
 pub note-bit : (seen o : ℕ) (hit : Bool) → hit ≡ true → o < 16 → Noted seen hit o (bitOr seen ((1 * 2 ^ o) % 4294967296))
 note-bit seen o hit t h = rw e record {
-    small = λ l. or-lt 16 seen (2 ^ o) l (pow-small o h);
-    bits = λ k l. bit-or k seen (2 ^ o) ∙ ap (λ b. bit seen k || b) (bit-pow k o ∙ ap (λ b. b && eqb o k) (sym t));
-  }
+  small = λ l. or-lt 16 seen (2 ^ o) l (pow-small o h);
+  bits = λ k l. bit-or k seen (2 ^ o) ∙ ap (λ b. bit seen k || b) (bit-pow k o ∙ ap (λ b. b && eqb o k) (sym t));
+}
   where
     e : (1 * 2 ^ o) % 4294967296 ≡ 2 ^ o
     e = omega (arith, pow-small o h)

@@ -51,14 +51,16 @@ module _ {A : Type 0} where
     pub any-at : (n : ℕ) {i : ℕ} → i < n → p (f i) ≡ true → any p (table n f) ≡ true
     any-at zero l e = absurd (omega arith)
     any-at (suc n) {i} l e = any-suc n ∙ elim (decLt i n) [
-        yes m ↦ ap (λ x. x || p (f n)) (any-at n m e)
-      | no m ↦ (let q : n ≡ i = omega arith in ap (λ x. any p (table n f) || p (f x)) q ∙ ap (λ x. any p (table n f) || x) e ∙ or-true (any p (table n f))) ]
+      | yes m ↦ ap (λ x. x || p (f n)) (any-at n m e)
+      | no m ↦ (let q : n ≡ i = omega arith in ap (λ x. any p (table n f) || p (f x)) q ∙ ap (λ x. any p (table n f) || x) e ∙ or-true (any p (table n f)))
+    ]
 
     pub all-miss : (n : ℕ) {i : ℕ} → i < n → p (f i) ≡ false → all p (table n f) ≡ false
     all-miss zero l e = absurd (omega arith)
     all-miss (suc n) {i} l e = all-suc n ∙ elim (decLt i n) [
-        yes m ↦ ap (λ x. x && p (f n)) (all-miss n m e)
-      | no m ↦ (let q : n ≡ i = omega arith in ap (λ x. all p (table n f) && p (f x)) q ∙ ap (λ x. all p (table n f) && x) e ∙ and-false (all p (table n f))) ]
+      | yes m ↦ ap (λ x. x && p (f n)) (all-miss n m e)
+      | no m ↦ (let q : n ≡ i = omega arith in ap (λ x. all p (table n f) && p (f x)) q ∙ ap (λ x. all p (table n f) && x) e ∙ and-false (all p (table n f)))
+    ]
 
   pub table-length : (n : ℕ) (f : ℕ → A) → length (table n f) ≡ n
   unfolding table
@@ -73,8 +75,9 @@ module _ {A : Type 0} where
   unfolding table
   table-at zero f d p l = absurd (omega arith)
   table-at (suc n) f d p l = elim (decLt p n) [
-      yes m ↦ List·getD-append (table n f) (f n ∷ []) d p (rw (table-length n f) m) ∙ table-at n f d p m
-    | no m ↦ (let q : n ≡ p = omega arith in getD-at (table n f) (f n) [] d p (table-length n f ∙ q) ∙ ap f q) ]
+    | yes m ↦ List·getD-append (table n f) (f n ∷ []) d p (rw (table-length n f) m) ∙ table-at n f d p m
+    | no m ↦ (let q : n ≡ p = omega arith in getD-at (table n f) (f n) [] d p (table-length n f ∙ q) ∙ ap f q)
+  ]
 
   pub tables-at : (n : ℕ) (f g : ℕ → A) (p : ℕ) → p < n → table n f ≡ table n g → f p ≡ g p
   tables-at n f g p l e = sym (table-at n f (f p) p l) ∙ ap (λ t. getD t p (f p)) e ∙ table-at n g (f p) p l

@@ -8,17 +8,5 @@ use Rattle.views.proofs.words.below_view.Reads as reads
 use Rattle.views.proofs.words.below_view.Lts as lts
 use Rattle.views.proofs.words.within_view.Reads as within-view-reads
 
--- src/words.rt:77:9
-within-view-requires : tie.Need-within-view-requires
-within-view-requires c κs = search needs
-
--- src/words.rt:78:9
-returns : tie.Need-returns
-returns c = below-stop _ _ _ (c .before .within-view .ensures) (not-true _ (c .if1 .taken))
-
--- src/words.rt:74:1
-returns-2 : tie.Need-returns-2
-returns-2 c = below-words (c .before .before .args .u) (c .before .before .args .v) _ (omega arith) (omega arith) (c .before .within-view .ensures) (not-false _ (c .if1 .left))
-
 pub below-view-spec : {M : Type 1} → statement M
-below-view-spec = tie.close (tie.spec within-view-requires returns returns-2)
+below-view-spec = tie.close (tie.spec (λ c κs. search needs) (λ c. below-stop _ _ _ (c .before .within-view .ensures) (not-true _ (c .if1 .taken))) (λ c. below-words (c .before .before .args .u) (c .before .before .args .v) _ (omega arith) (omega arith) (c .before .within-view .ensures) (not-false _ (c .if1 .left))))

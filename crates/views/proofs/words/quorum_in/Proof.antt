@@ -11,27 +11,7 @@ use Rattle.views.proofs.words.count_without.Reads as count-without-read
 use Rattle.views.proofs.words.members.Reads as members-reads
 use Rattle.views.proofs.words.quorum_of.Reads as quorum-of-reads
 
--- src/words.rt:58:9
-members-requires : tie.Need-members-requires
-members-requires c κs = search needs
-
--- src/words.rt:60:9
-returns : tie.Need-returns
-returns c = quorum-empty _ _ _ (c .before .members .ensures .0) (c .if1 .taken)
-
--- src/words.rt:62:9
-count-without-requires : tie.Need-count-without-requires
-count-without-requires c κs = (omega (arith, and-le-l (c .before .before .args .t % 65536) (c .before .before .args .seen)), omega arith)
-
--- src/words.rt:63:5
-quorum-of-requires : tie.Need-quorum-of-requires
-quorum-of-requires c κs = search needs
-
--- src/words.rt:55:1
-returns-2 : tie.Need-returns-2
-returns-2 c = quorum-seen (c .before .before .before .before .args .t) (c .before .before .before .before .args .seen) _ _ _ (omega arith) (c .before .before .before .members .ensures .0) (c .before .before .if1 .left) (c .before .count-without .ensures .0) (c .quorum-of .ensures)
-
 pub quorum-in-spec : {M : Type 1} → statement M
 quorum-in-spec =
     tie.close
-    (tie.spec members-requires returns count-without-requires quorum-of-requires returns-2)
+    (tie.spec (λ c κs. search needs) (λ c. quorum-empty _ _ _ (c .before .members .ensures .0) (c .if1 .taken)) (λ c κs. (omega (arith, and-le-l (c .before .before .args .t % 65536) (c .before .before .args .seen)), omega arith)) (λ c κs. search needs) (λ c. quorum-seen (c .before .before .before .before .args .t) (c .before .before .before .before .args .seen) _ _ _ (omega arith) (c .before .before .before .members .ensures .0) (c .before .before .if1 .left) (c .before .count-without .ensures .0) (c .quorum-of .ensures)))

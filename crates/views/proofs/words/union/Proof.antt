@@ -7,9 +7,5 @@ use Rattle.views.proofs.words.union.Tie as tie
 use Rattle.views.proofs.words.union.Reads as reads
 use Rattle.views.proofs.words.union.Lts as lts
 
--- src/words.rt:33:1
-returns : tie.Need-returns
-returns c = record { is = refl; small = λ p q. or-lt 16 _ _ p q }
-
 pub union-spec : {M : Type 1} → statement M
-union-spec = tie.close (tie.spec returns)
+union-spec = tie.close (tie.spec (λ c. record { is = refl; small = λ p q. or-lt 16 _ _ p q }))

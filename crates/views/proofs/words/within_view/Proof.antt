@@ -6,9 +6,5 @@ use Rattle.views.proofs.words.within_view.Tie as tie
 use Rattle.views.proofs.words.within_view.Reads as reads
 use Rattle.views.proofs.words.within_view.Lts as lts
 
--- src/words.rt:67:1
-returns : tie.Need-returns
-returns c = within-words (c .args .u) (c .args .v) (omega arith) (omega arith)
-
 pub within-view-spec : {M : Type 1} → statement M
-within-view-spec = tie.close (tie.spec returns)
+within-view-spec = tie.close (tie.spec (λ c. within-words (c .args .u) (c .args .v) (omega arith) (omega arith)))
