@@ -1,0 +1,25 @@
+// Statements in lent memory. Every word of it can be read: specs/Pool.antt says what each stands for.
+mod compare;
+mod read;
+
+pub use compare::has_view;
+pub use compare::is_history;
+pub use compare::is_start;
+pub use compare::same_views;
+pub use compare::top_view;
+pub use read::at;
+pub use read::binding;
+pub use read::count;
+pub use read::kept;
+pub use read::kind;
+pub use read::limit;
+pub use read::nth;
+pub use read::origin;
+pub use read::payload;
+pub use read::pool_len;
+pub use read::stored;
+pub use read::view;
+pub use read::word_at;
+
+// 512 statements of 32 words, and how many there are.
+pub const POOL_WORDS: usize = 16385;

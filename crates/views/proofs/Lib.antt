@@ -1,0 +1,4 @@
+pub mod Histories
+pub mod Sets
+pub mod Tables
+pub mod Views

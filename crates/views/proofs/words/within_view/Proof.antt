@@ -1,0 +1,10 @@
+use borrow.Author.Needs.{needs}
+use native.Mathlib.Omega.{arith}
+use Rattle.views.proofs.Views.{within-words}
+use Rattle.views.proofs.words.within_view.Statement.{statement}
+use Rattle.views.proofs.words.within_view.Tie as tie
+use Rattle.views.proofs.words.within_view.Reads as reads
+use Rattle.views.proofs.words.within_view.Lts as lts
+
+pub within-view-spec : {M : Type 1} → statement M
+within-view-spec = tie.close (tie.spec (λ c. within-words (c .args .u) (c .args .v) (omega arith) (omega arith)))
