@@ -1,0 +1,1 @@
+// The votes of a record, each quorum counted once.
