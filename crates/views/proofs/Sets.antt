@@ -2,14 +2,15 @@
 -- Assumes nothing.
 use mathlib.Core.Path.{_≡_, refl, sym, ap, ap₂, _∙_}
 use mathlib.Core.Bool.{Bool, true, false, not, _&&_, _||_}
-use Prim.Native.Nat.{ℕ, zero, suc, _+_, _*_, _%_, _^_, _≤_, _<_}
+use Prim.Native.Nat.{ℕ, zero, suc, _+_, _-_, _*_, _/_, _%_, _^_, _≤_, _<_}
 use native.Mathlib.Omega.{arith}
 use lib.Dec.{eqb}
-use lib.Bits.{bitAnd, bitOr, or-lt, and-lt}
+use native.Mathlib.Nat.{pow-succ', div-div-eq-div-mul}
+use lib.Bits.{bitAnd, bitOr, or-lt, and-lt, or-add-and}
 use lib.Count.{ones}
 use borrow.Author.Tests.{ne-eqb}
 use Rattle.protocol.specs.Sets.{bit, one, count, setOf}
-use Rattle.protocol.proofs.Bits.{bit-and, bit-or, bit-pow, bit-setOf, bits-ext, ones-count}
+use Rattle.protocol.proofs.Bits.{bit-and, bit-or, bit-zero, bit-pow, bit-setOf, bits-ext, ones-count}
 use Rattle.views.specs.Sets.{IsSet, Noted}
 
 -- ---- one bit more
@@ -88,3 +89,46 @@ count-le (suc n) p = omega (arith, one-le (p n), count-le n p)
 
 pub both-count : (a b : ℕ) → a < 65536 → b < 65536 → ones (bitAnd a b) ≡ count 16 (λ k. bit a k && bit b k)
 both-count a b p q = ones-count 16 (bitAnd a b) (and-lt 16 a b p q) ∙ count-cong 16 (bit (bitAnd a b)) (λ k. bit a k && bit b k) (λ k l. bit-and k a b)
+
+-- ---- one set without another, and one bit of a set
+
+pub bit-shift : (k a : ℕ) → eqb (a / 2 ^ k % 2) 1 ≡ bit a k
+unfolding bit
+bit-shift zero a = let e : a / 1 ≡ a = omega arith in ap (λ x. eqb (x % 2) 1) e
+bit-shift (suc k) a = ap (λ x. eqb (x % 2) 1) (ap (λ x. a / x) (pow-succ' 2 k) ∙ sym (div-div-eq-div-mul a 2 (2 ^ k))) ∙ bit-shift k (a / 2)
+
+pub bit-far : (n a k : ℕ) → a < 2 ^ n → n ≤ k → bit a k ≡ false
+unfolding bit
+bit-far zero a k l h = let e : a ≡ 0 = omega arith in rw e (bit-zero k)
+bit-far (suc n) a zero l h = absurd (omega arith)
+bit-far (suc n) a (suc k) l h = bit-far n (a / 2) k (omega arith) (omega arith)
+
+pub set-without : (a b : ℕ) → a < 65536 → b < 65536 → a - bitAnd a b ≡ setOf 16 (λ k. bit a k && not (bit b k))
+set-without a b p q = omega (arith, or-add-and rest (bitAnd a b), joined, apart)
+  where
+    rest : ℕ
+    rest = setOf 16 (λ k. bit a k && not (bit b k))
+
+    without-and : (x y : Bool) → (x && not y || x && y) ≡ x
+    without-and true true = refl
+    without-and true false = refl
+    without-and false y = refl
+
+    both : (x y : Bool) → ((x && not y) && (x && y)) ≡ false
+    both true true = refl
+    both true false = refl
+    both false y = refl
+
+    small : bitAnd a b < 65536
+    small = and-lt 16 a b p q
+
+    of-rest : (k : ℕ) → k < 16 → bit rest k ≡ (bit a k && not (bit b k))
+    of-rest k l = bit-setOf 16 (λ k. bit a k && not (bit b k)) k l
+
+    joined : bitOr rest (bitAnd a b) ≡ a
+    joined = bits-ext 16 (bitOr rest (bitAnd a b)) a (or-lt 16 rest (bitAnd a b) (setOf-lt 16 (λ k. bit a k && not (bit b k))) small) p
+        (λ k l. bit-or k rest (bitAnd a b) ∙ ap₂ _||_ (of-rest k l) (bit-and k a b) ∙ without-and (bit a k) (bit b k))
+
+    apart : bitAnd rest (bitAnd a b) ≡ 0
+    apart = bits-ext 16 (bitAnd rest (bitAnd a b)) 0 (and-lt 16 rest (bitAnd a b) (setOf-lt 16 (λ k. bit a k && not (bit b k))) small) (omega arith)
+        (λ k l. bit-and k rest (bitAnd a b) ∙ ap₂ _&&_ (of-rest k l) (bit-and k a b) ∙ both (bit a k) (bit b k) ∙ sym (bit-zero k))

@@ -7,8 +7,8 @@ use Prim.Native.Nat.{ℕ, zero, suc, _+_, _-_, _≤_, _<_}
 use native.Mathlib.Decide.{decLt}
 use native.Mathlib.Numerals.{add-one}
 use native.Mathlib.Omega.{arith}
-use lib.ListN.{length, getD, length-append, List·getD-append}
-use lib.Seq.{getD-at}
+use lib.ListN.{length, getD, take, length-append, List·getD-append}
+use lib.Seq.{getD-at, take-all, take-append-le}
 use Rattle.protocol.specs.Lists.{any, all}
 use Rattle.views.specs.Table.{table}
 
@@ -90,3 +90,12 @@ module _ {A : Type 0} where
   unfolding table
   table-cong zero f g h = refl
   table-cong (suc n) f g h = ap₂ (λ l a. l ++ (a ∷ [])) (table-cong n f g (λ i l. h i (omega arith))) (h n (omega arith))
+
+  pub take-table : (n m : ℕ) (f : ℕ → A) → m ≤ n → take m (table n f) ≡ table m f
+  unfolding table
+  take-table zero zero f l = refl
+  take-table zero (suc m) f l = absurd (omega arith)
+  take-table (suc n) m f l = elim (decLt n m) [
+    | yes h ↦ (let e : m ≡ suc n = omega arith in rw e (take-all (suc n) (table (suc n) f) (omega (arith, table-length (suc n) f))))
+    | no h ↦ take-append-le m (table n f) (f n ∷ []) (omega (arith, table-length n f)) ∙ take-table n m f (omega arith)
+  ]

@@ -1,3 +1,4 @@
+pub mod Held
 pub mod Sets
 pub mod Table
 pub mod View

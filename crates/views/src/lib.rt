@@ -1,4 +1,17 @@
-// Views, histories and quorums.
+// Views, histories and quorums. A history's unused places may differ from one correct program to another: only its first len views count.
+ghost use mathlib.Core.Path.{_≡_};
+ghost use mathlib.Core.List.{[], _∷_, _++_};
+ghost use Prim.Native.Nat.{_+_, _<_, _≤_, min};
+ghost use Rattle.protocol.specs.Sets.{setOf};
+ghost use Rattle.protocol.specs.Lists.{any, all};
+ghost use Rattle.protocol.specs.View.{sameView, member, quorum, isView, memberCount, hasMembers, within, comparable, size, below};
+ghost use Rattle.protocol.specs.History.{last, holds};
+ghost use Rattle.protocol.specs.Statement.{isRising};
+ghost use Rattle.protocol.specs.Turn.{enteredAfter};
+ghost use Rattle.views.specs.Table.{table};
+ghost use Rattle.views.specs.View.{viewOf};
+ghost use Rattle.views.specs.Held.{viewIs, heldAt, viewsIs};
+
 mod words;
 
 pub use words::below_view;
@@ -6,5 +19,273 @@ pub use words::members;
 pub use words::note;
 pub use words::quorum_in;
 pub use words::quorum_of;
+pub use words::size_view;
 pub use words::union;
 pub use words::within_view;
+
+// Who joined and who left: bit k of each stands for controller k.
+pub struct View {
+    pub joined: u16,
+    pub left: u16,
+}
+
+// The first `len` views count; a len above 16 counts as 16.
+pub struct History {
+    pub views: [View; 16],
+    pub len: usize,
+}
+
+// A set as a word: it brings the range of its type.
+fn wide(set: u16) -> u32
+    ensures { λ r. ⌜ (r ≡ set) × (r < 65536) ⌝ }
+{
+    set as u32
+}
+
+impl View {
+    // Controllers are numbered below this.
+    pub const WIDTH: u32 = 16;
+
+    // The view in one word.
+    pub fn word(self) -> u32
+        ensures { λ r. ⌜ viewOf r ≡ viewIs self ⌝ }
+    {
+        wide(self.joined) + wide(self.left) * 65536
+    }
+
+    // The view of a word.
+    pub fn of_word(w: u32) -> View
+        ensures { λ r. ⌜ viewIs r ≡ viewOf w ⌝ }
+    {
+        View {
+            joined: (w % 65536) as u16,
+            left: (w / 65536) as u16,
+        }
+    }
+
+    // Who joined and has not left.
+    pub fn members(self) -> u16
+        ensures { λ r. ⌜ r ≡ setOf 16 (member (viewIs self)) ⌝ }
+    {
+        self.joined - (self.joined & self.left)
+    }
+
+    // How many members there are.
+    pub fn count(self) -> u32
+        ensures { λ r. ⌜ (r ≡ memberCount 16 (viewIs self)) × (r ≤ 16) ⌝ }
+    {
+        words::members(self.word())
+    }
+
+    // How many of the members make a quorum.
+    pub fn quorum(self) -> u32
+        ensures { λ r. ⌜ r ≡ quorum (memberCount 16 (viewIs self)) ⌝ }
+    {
+        words::quorum_of(self.count())
+    }
+
+    pub fn has_members(self) -> bool
+        ensures { λ r. ⌜ r ≡ hasMembers 16 (viewIs self) ⌝ }
+    {
+        self.count() > 0
+    }
+
+    // Whether the left set lies within the joined.
+    pub fn is_view(self) -> bool
+        ensures { λ r. ⌜ r ≡ isView 16 (viewIs self) ⌝ }
+    {
+        (self.left & self.joined) == self.left
+    }
+
+    pub fn has_member(self, k: u8) -> bool
+        ensures { λ r. ⌜ r ≡ member (viewIs self) k ⌝ }
+    {
+        if k >= 16 {
+            return false;
+        }
+        (self.members() >> k) % 2 == 1
+    }
+
+    pub fn within(self, v: View) -> bool
+        ensures { λ r. ⌜ r ≡ within 16 (viewIs self) (viewIs v) ⌝ }
+    {
+        words::within_view(self.word(), v.word())
+    }
+
+    // Strictly within.
+    pub fn below(self, v: View) -> bool
+        ensures { λ r. ⌜ r ≡ below 16 (viewIs self) (viewIs v) ⌝ }
+    {
+        words::below_view(self.word(), v.word())
+    }
+
+    pub fn comparable(self, v: View) -> bool
+        ensures { λ r. ⌜ r ≡ comparable 16 (viewIs self) (viewIs v) ⌝ }
+    {
+        if self.within(v) {
+            return true;
+        }
+        v.within(self)
+    }
+
+    // How many joined and how many left.
+    pub fn size(self) -> u32
+        ensures { λ r. ⌜ (r ≡ size 16 (viewIs self)) × (r ≤ 32) ⌝ }
+    {
+        words::size_view(self.word())
+    }
+
+    pub fn same(self, v: View) -> bool
+        ensures { λ r. ⌜ r ≡ sameView (viewIs self) (viewIs v) ⌝ }
+    {
+        self.word() == v.word()
+    }
+}
+
+impl History {
+    // A history has at most this many views.
+    pub const LIMIT: usize = 16;
+
+    pub fn new() -> History
+        ensures { λ r. ⌜ (viewsIs r ≡ []) × (r .len ≡ 0) ⌝ }
+    {
+        History {
+            views: [View { joined: 0, left: 0 }; 16],
+            len: 0,
+        }
+    }
+
+    // How many views there are.
+    pub fn count(self) -> usize
+        ensures { λ r. ⌜ (r ≡ min (self .len) 16) × (r ≤ 16) ⌝ }
+    {
+        if self.len < 16 {
+            return self.len;
+        }
+        16
+    }
+
+    // The first `at` views, and v after them.
+    fn cut(self, at: usize, v: View) -> History
+        requires { ⌜ at < 16 ⌝ }
+        ensures { λ r. ⌜ (viewsIs r ≡ table at (heldAt (self .views)) ++ (viewIs v ∷ [])) × (r .len ≡ at + 1) ⌝ }
+    {
+        let mut views = self.views;
+        views[at] = v;
+        History {
+            views: views,
+            len: at + 1,
+        }
+    }
+
+    // The views and v after them. Where there are 16 already, v takes the place of the last.
+    pub fn push(self, v: View) -> History
+        ensures { λ r. ⌜ (viewsIs r ≡ enteredAfter (viewIs v) (viewsIs self)) × (r .len ≤ 16) ⌝ }
+    {
+        let n = self.count();
+        if n < 16 {
+            return self.cut(n, v);
+        }
+        self.cut(15, v)
+    }
+
+    // The last view, or `init` if there is none.
+    pub fn last(self, init: View) -> View
+        ensures { λ r. ⌜ viewIs r ≡ last (viewIs init) (viewsIs self) ⌝ }
+    {
+        let n = self.count();
+        if n == 0 {
+            return init;
+        }
+        let views = self.views;
+        views[n - 1]
+    }
+
+    pub fn has(self, v: View) -> bool
+        ensures { λ r. ⌜ r ≡ any (sameView (viewIs v)) (viewsIs self) ⌝ }
+    {
+        let n = self.count();
+        let views = self.views;
+        let mut p = 0usize;
+        while p < n {
+            let u = views[p];
+            if v.same(u) {
+                return true;
+            }
+            p += 1;
+        }
+        false
+    }
+
+    // Whether all views of h are among these.
+    pub fn holds(self, h: History) -> bool
+        ensures { λ r. ⌜ r ≡ holds (viewsIs self) (viewsIs h) ⌝ }
+    {
+        let n = h.count();
+        let views = h.views;
+        let mut p = 0usize;
+        while p < n {
+            let v = views[p];
+            if !self.has(v) {
+                return false;
+            }
+            p += 1;
+        }
+        true
+    }
+
+    // Whether there are views and they rise strictly.
+    pub fn rising(self) -> bool
+        ensures { λ r. ⌜ r ≡ isRising 16 (viewsIs self) ⌝ }
+    {
+        let n = self.count();
+        if n == 0 {
+            return false;
+        }
+        let views = self.views;
+        let mut p = 1usize;
+        while p < n {
+            let u = views[p - 1];
+            let v = views[p];
+            if !u.below(v) {
+                return false;
+            }
+            p += 1;
+        }
+        true
+    }
+
+    // Whether each view has its left set within the joined.
+    pub fn each_is_view(self) -> bool
+        ensures { λ r. ⌜ r ≡ all (isView 16) (viewsIs self) ⌝ }
+    {
+        let n = self.count();
+        let views = self.views;
+        let mut p = 0usize;
+        while p < n {
+            let v = views[p];
+            if !v.is_view() {
+                return false;
+            }
+            p += 1;
+        }
+        true
+    }
+
+    // Whether each view has members.
+    pub fn each_has_members(self) -> bool
+        ensures { λ r. ⌜ r ≡ all (hasMembers 16) (viewsIs self) ⌝ }
+    {
+        let n = self.count();
+        let views = self.views;
+        let mut p = 0usize;
+        while p < n {
+            let v = views[p];
+            if !v.has_members() {
+                return false;
+            }
+            p += 1;
+        }
+        true
+    }
+}

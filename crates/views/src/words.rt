@@ -2,7 +2,7 @@
 ghost use mathlib.Core.Path.{_≡_};
 ghost use Prim.Native.Nat.{_<_, _≤_};
 ghost use Rattle.protocol.specs.Sets.{bit};
-ghost use Rattle.protocol.specs.View.{quorum, memberCount, within, below};
+ghost use Rattle.protocol.specs.View.{quorum, memberCount, within, below, size};
 ghost use Rattle.views.specs.Sets.{Noted, Joined};
 ghost use Rattle.views.specs.View.{viewOf, quorumHas};
 
@@ -78,4 +78,11 @@ pub fn below_view(u: u32, v: u32) -> bool
         return false;
     }
     u != v
+}
+
+// How many joined in v and how many left.
+pub fn size_view(v: u32) -> u32
+    ensures { λ r. ⌜ (r ≡ size 16 (viewOf v)) × (r ≤ 32) ⌝ }
+{
+    u32::count_ones(v)
 }

@@ -1,0 +1,120 @@
+-- Laws of the structs View and History: each is what one method needs.
+-- Assumes nothing.
+use mathlib.Core.Path.{_≡_, refl, sym, ap, ap₂, _∙_}
+use mathlib.Core.Bool.{Bool, true, false, not, _&&_, _||_}
+use mathlib.Core.List.{List, [], _∷_, _++_}
+use Prim.Native.Nat.{ℕ, zero, suc, _+_, _-_, _*_, _/_, _%_, _^_, _≤_, _<_, min}
+use native.Mathlib.Numerals.{add-one}
+use native.Mathlib.Omega.{arith}
+use lib.Dec.{eqb, leb, ltb}
+use lib.Bits.{bitAnd}
+use lib.Count.{ones, ones-cat}
+use lib.ListN.{length, getD, set, take}
+use lib.Seq.{getD-set-same, getD-set-other}
+use borrow.Author.Tests.{lt-ltb, le-ltb}
+use Rattle.protocol.specs.Sets.{bit, count, setOf}
+use Rattle.protocol.specs.Lists.{any, all}
+use Rattle.protocol.specs.View.{View, sameView, member, isView, within, comparable, size}
+use Rattle.protocol.specs.History.{holds}
+use Rattle.protocol.specs.Turn.{enteredAfter}
+use Rattle.protocol.proofs.Bits.{bit-setOf, ones-count, subset-and}
+use Rattle.views.specs.declared.View as held
+use Rattle.views.specs.declared.History.{History}
+use Rattle.views.specs.Table.{table}
+use Rattle.views.specs.View.{viewOf}
+use Rattle.views.specs.Held.{viewIs, heldAt, viewsIs}
+use Rattle.views.proofs.Sets.{bit-shift, bit-far, set-without}
+use Rattle.views.proofs.Tables.{table-length, table-cong, take-table, all-zero, all-more, all-miss}
+use Rattle.views.proofs.Views.{pair, same-view}
+
+-- ---- one view
+
+pub word-is : (v : held.View) (j l : ℕ) → j ≡ v .joined → j < 65536 → l ≡ v .left → l < 65536 → viewOf (j + l * 65536) ≡ viewIs v
+unfolding viewOf
+word-is v j l a p b q i = record { joined = (low ∙ a) i; left = (high ∙ b) i }
+  where
+    low : (j + l * 65536) % 65536 ≡ j
+    low = omega arith
+
+    high : (j + l * 65536) / 65536 % 65536 ≡ l
+    high = omega arith
+
+pub member-far : (a b k : ℕ) → a < 65536 → 16 ≤ k → false ≡ member (pair a b) k
+member-far a b k p l = ap (λ x. x && not (bit b k)) (sym (bit-far 16 a k p l))
+
+pub member-at : (v : View) (r k : ℕ) → r ≡ setOf 16 (member v) → k < 16 → eqb (r / 2 ^ k % 2) 1 ≡ member v k
+member-at v r k e l = bit-shift k r ∙ ap (λ x. bit x k) e ∙ bit-setOf 16 (member v) k l
+
+pub view-test : (a b : ℕ) → a < 65536 → b < 65536 → eqb (bitAnd b a) b ≡ isView 16 (pair a b)
+unfolding isView
+view-test a b p q = rw (lt-ltb a 65536 p, lt-ltb b 65536 q) (subset-and 16 b a q p)
+
+pub size-word : (v : ℕ) → v < 4294967296 → ones v ≡ size 16 (viewOf v)
+unfolding size viewOf
+size-word v h =
+    let e : v ≡ v / 65536 % 65536 * 65536 + v % 65536 = omega arith in
+    ap ones e ∙ omega (arith, ones-cat 16 (v / 65536 % 65536) (v % 65536) (omega arith), ones-count 16 (v % 65536) (omega arith), ones-count 16 (v / 65536 % 65536) (omega arith))
+
+-- a test of words is the test of their views
+
+pub of-words : (p : View → View → Bool) (a b : ℕ) {u v : View} {r : Bool} → r ≡ p (viewOf a) (viewOf b) → viewOf a ≡ u → viewOf b ≡ v → r ≡ p u v
+of-words p a b e f g = e ∙ ap₂ p f g
+
+pub comparable-one : (u v : View) (b : Bool) → b ≡ within 16 u v → b ≡ true → true ≡ comparable 16 u v
+unfolding comparable
+comparable-one u v b e t = rw (sym e ∙ t)
+
+pub comparable-other : (u v : View) (b r : Bool) → b ≡ within 16 u v → b ≡ false → r ≡ within 16 v u → r ≡ comparable 16 u v
+unfolding comparable
+comparable-other u v b r e f g = rw (sym e ∙ f) g
+
+-- ---- a list of views
+
+-- a fact of the first n views of an array, where the history has n, is one of the history
+
+pub views-of : (h : History) (n : ℕ) → n ≡ min (h .len) 16 → table n (heldAt (h .views)) ≡ viewsIs h
+unfolding viewsIs
+views-of h n e = ap (λ k. table k (heldAt (h .views))) e
+
+module _ {A : Type 0} (g : List View → A) (h : History) where
+  pub of-history : (n : ℕ) {r : A} → n ≡ min (h .len) 16 → r ≡ g (table n (heldAt (h .views))) → r ≡ g (viewsIs h)
+  of-history n e q = q ∙ ap g (views-of h n e)
+
+pub none-held : (h : History) → h .len ≡ 0 → viewsIs h ≡ []
+unfolding viewsIs table
+none-held h e = let q : min (h .len) 16 ≡ 0 = omega arith in rw q
+
+-- v at place n of an array, after the first n
+
+set-view : (l : List held.View) (n : ℕ) (v : held.View) → n < length l → table (suc n) (heldAt (set l n v)) ≡ table n (heldAt l) ++ (viewIs v ∷ [])
+unfolding table
+set-view l n v h =
+    ap₂ (λ k u. k ++ (u ∷ [])) (table-cong n (heldAt (set l n v)) (heldAt l) (λ i m. ap viewIs (getD-set-other l n i v _ (λ e. omega arith)))) (ap viewIs (getD-set-same l n v _ h))
+
+pub cut-is : (l : List held.View) (n : ℕ) (v : held.View) (h : History) → length l ≡ 16 → n < 16 → h .views ≡ set l n v → h .len ≡ n + 1 → viewsIs h ≡ table n (heldAt l) ++ (viewIs v ∷ [])
+cut-is l n v h a b p q = sym (views-of h (suc n) (omega arith)) ∙ ap (λ k. table (suc n) (heldAt k)) p ∙ set-view l n v (omega arith)
+
+pub push-room : (h : History) (n : ℕ) (v : View) → n ≡ min (h .len) 16 → n < 16 → table n (heldAt (h .views)) ++ (v ∷ []) ≡ enteredAfter v (viewsIs h)
+unfolding enteredAfter
+push-room h n v e l = of-history (enteredAfter v) h n e (sym (rw (lt-ltb (length (table n (heldAt (h .views)))) 16 (rw (table-length n (heldAt (h .views))) l))))
+
+pub push-full : (h : History) (n : ℕ) (v : View) → n ≡ min (h .len) 16 → (n < 16 → ⊥) → table 15 (heldAt (h .views)) ++ (v ∷ []) ≡ enteredAfter v (viewsIs h)
+unfolding enteredAfter
+push-full h n v e l =
+    of-history (enteredAfter v) h n e
+    (sym (rw (le-ltb (length (table n (heldAt (h .views)))) 16 (omega (arith, table-length n (heldAt (h .views)))), take-table n 15 (heldAt (h .views)) (omega arith))))
+
+-- ---- a list that holds another
+
+module _ (H : List View) (f : ℕ → View) where
+  pub holds-none : holds H (table 0 f) ≡ true
+  unfolding holds
+  holds-none = all-zero (λ v. any (sameView v) H) f
+
+  pub holds-more : (n : ℕ) (b : Bool) → holds H (table n f) ≡ true → b ≡ any (sameView (f n)) H → b ≡ true → holds H (table (n + 1) f) ≡ true
+  unfolding holds
+  holds-more n b t e g = all-more (λ v. any (sameView v) H) f n t (sym e ∙ g)
+
+  pub holds-miss : (n p : ℕ) (b : Bool) → p < n → b ≡ any (sameView (f p)) H → b ≡ false → false ≡ holds H (table n f)
+  unfolding holds
+  holds-miss n p b l e g = sym (all-miss (λ v. any (sameView v) H) f n l (sym e ∙ g))
