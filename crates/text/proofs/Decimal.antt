@@ -15,7 +15,7 @@ use borrow.Author.Tests.{ltb-true, lt-ltb, le-ltb, eqb-true, eqb-false, ne-eqb}
 use Rattle.text.specs.declared.Read.{Read}
 use Rattle.text.specs.declared.Read.the-variants.{Got, Refused}
 use Rattle.text.specs.Text.{glyph, digits, decText}
-use Rattle.text.specs.Scan.{isDigit, scanDec, zeroThen, decFrom}
+use Rattle.text.specs.Scan.{isDigit, Stops, scanDec, zeroThen, decFrom}
 use Rattle.text.proofs.Bytes.{below?, digit-is, digit-range, digit-back, digit-less, glyph-small}
 
 -- ---- the text
@@ -68,11 +68,6 @@ pub most-long : (n : ℕ) → n < 18446744073709551616 → length (decText n) �
 most-long n h = long-below 19 n (omega arith)
 
 -- ---- reading
--- what can follow a number: no digit
-abbrev pub Stops : List ℕ → Type 0
-Stops [] = Unit {0}
-Stops (c ∷ s) = isDigit c ≡ false
-
 scan-stops : (n i : ℕ) (s : List ℕ) → Stops s → scanDec n i s ≡ Got n i
 unfolding scanDec
 scan-stops n i [] h = refl

@@ -16,9 +16,9 @@ use lib.Seq.{drop-drop, drop-append-seam, drop-cons, getD-drop}
 use borrow.Author.Tests.{eqb-true, eq-eqb}
 use Rattle.text.specs.declared.Read.the-variants.{Got}
 use Rattle.text.specs.Text.{decText, hexText}
-use Rattle.text.specs.Scan.{decFrom, decAt, scanHex, hexAt, isComma}
+use Rattle.text.specs.Scan.{Stops, decFrom, decAt, scanHex, hexAt, isComma}
 use Rattle.text.proofs.Bytes.{below?}
-use Rattle.text.proofs.Decimal.{Stops, Taken, dec-from, dec-taken}
+use Rattle.text.proofs.Decimal.{Taken, dec-from, dec-taken}
 use Rattle.text.proofs.Hex.{hex-from, hex-taken}
 
 -- after the text the rest is left

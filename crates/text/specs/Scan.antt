@@ -2,6 +2,7 @@
 -- The laws that these are right stand in proofs/Laws.antt.
 -- Assumes nothing.
 use Prim.Native.Nat.{ℕ, zero, suc, _+_, _-_, _*_}
+use mathlib.Core.Path.{_≡_}
 use mathlib.Core.Bool.{Bool, true, false, cond}
 use mathlib.Core.List.{List, [], _∷_}
 use lib.Dec.{ltb, eqb}
@@ -11,6 +12,11 @@ use Rattle.text.specs.declared.Read.the-variants.{Got, Refused}
 
 abbrev pub isDigit : ℕ → Bool
 isDigit c = cond (ltb c 48) false (ltb c 58)
+
+-- What can follow a number: no digit.
+abbrev pub Stops : List ℕ → Type 0
+Stops [] = Unit {0}
+Stops (c ∷ s) = isDigit c ≡ false
 
 -- The value of a hexadecimal digit; 16 for any other byte.
 abbrev pub hexVal : ℕ → ℕ
