@@ -1,0 +1,216 @@
+// The fields of a line: a decimal number and a set of hexadecimal digits. A reader goes from a position and answers the value and the
+// next position, or refuses; a writer goes from a position with room and answers the next one.
+ghost use mathlib.Core.Path.{_≡_};
+ghost use Prim.Native.Nat.{_+_, _<_, _≤_};
+ghost use lib.ListN.{length, drop};
+ghost use lib.Seq.{sets};
+ghost use Rattle.text.specs.Text.{glyph, decText, hexText};
+ghost use Rattle.text.specs.Scan.{isDigit, hexVal, scanDec, zeroThen, decAt, hexAt, isComma};
+
+pub enum Read {
+    Got { value: u64, next: usize },
+    Refused,
+}
+
+fn wide(b: u8) -> u64
+    ensures { λ r. ⌜ r ≡ b ⌝ }
+{
+    b as u64
+}
+
+fn digit(b: u8) -> bool
+    ensures { λ r. ⌜ r ≡ isDigit b ⌝ }
+{
+    if b < 48 { false } else { b < 58 }
+}
+
+// The value of a hexadecimal digit, and 16 for any other byte.
+fn hex_value(b: u8) -> u64
+    ensures { λ r. ⌜ r ≡ hexVal b ⌝ }
+{
+    if b < 48 {
+        return 16;
+    }
+    if b < 58 {
+        return wide(b) - 48;
+    }
+    if b < 97 {
+        return 16;
+    }
+    if b < 103 {
+        return wide(b) - 87;
+    }
+    16
+}
+
+// The number goes on with the digits from a position: `start` is what stands before it.
+fn scan_dec(s: &[u8], from: usize, start: u64) -> Read
+    ensures { λ r. ⌜ r ≡ scanDec start from (drop from (now (s .entry))) ⌝ }
+{
+    let mut i = from;
+    let mut acc = start;
+    while i < s.len() {
+        let c = s[i];
+        let ok = digit(c);
+        if !ok {
+            return Read::Got {
+                value: acc,
+                next: i,
+            };
+        }
+        let d = wide(c) - 48;
+        if acc > 1844674407370955161 {
+            return Read::Refused;
+        }
+        let t = acc * 10;
+        if d > 18446744073709551615 - t {
+            return Read::Refused;
+        }
+        acc = t + d;
+        i += 1;
+    }
+    Read::Got {
+        value: acc,
+        next: i,
+    }
+}
+
+// After a leading zero no digit may follow.
+fn after_zero(s: &[u8], next: usize) -> Read
+    ensures { λ r. ⌜ r ≡ zeroThen next (drop next (now (s .entry))) ⌝ }
+{
+    if next < s.len() {
+        if digit(s[next]) {
+            return Read::Refused;
+        }
+    }
+    Read::Got {
+        value: 0,
+        next: next,
+    }
+}
+
+// The decimal number at a position. Only `0` itself begins with a zero, so that a number has one text.
+pub fn read_dec(s: &[u8], at: usize) -> Read
+    ensures { λ r. ⌜ r ≡ decAt (now (s .entry)) at ⌝ }
+{
+    if s.len() <= at {
+        return Read::Refused;
+    }
+    let c = s[at];
+    let next = at + 1;
+    if c == 48 {
+        return after_zero(s, next);
+    }
+    let ok = digit(c);
+    if !ok {
+        return Read::Refused;
+    }
+    scan_dec(s, next, wide(c) - 48)
+}
+
+// The set of exactly `digits` digits at a position.
+pub fn read_hex(s: &[u8], at: usize, digits: usize) -> Read
+    requires { ⌜ digits ≤ 16 ⌝ }
+    ensures { λ r. ⌜ r ≡ hexAt (now (s .entry)) at digits ⌝ }
+{
+    let mut left = digits;
+    let mut i = at;
+    let mut acc: u64 = 0;
+    while 0 < left {
+        if s.len() <= i {
+            return Read::Refused;
+        }
+        let d = hex_value(s[i]);
+        if d > 15 {
+            return Read::Refused;
+        }
+        acc = acc * 16 + d;
+        left -= 1;
+        i += 1;
+    }
+    Read::Got {
+        value: acc,
+        next: i,
+    }
+}
+
+pub fn comma_at(s: &[u8], at: usize) -> bool
+    ensures { λ r. ⌜ r ≡ isComma (now (s .entry)) at ⌝ }
+{
+    if at < s.len() { s[at] == 44 } else { false }
+}
+
+// How many digits a number below ten thousand has.
+fn short_len(v: u64) -> usize
+    requires { ⌜ v < 10000 ⌝ }
+    ensures { λ r. ⌜ r ≡ length (decText v) ⌝ }
+{
+    if v < 10 {
+        return 1;
+    }
+    if v < 100 {
+        return 2;
+    }
+    if v < 1000 { 3 } else { 4 }
+}
+
+// How many digits a number has. Four go at a time, since a division is slow.
+pub fn dec_len(v: u64) -> usize
+    ensures { λ r. ⌜ (r ≡ length (decText v)) × (0 < r) × (r ≤ 20) ⌝ }
+{
+    let mut n: usize = 0;
+    let mut x = v;
+    while x > 9999 {
+        x /= 10000;
+        n += 4;
+    }
+    n + short_len(x)
+}
+
+fn glyph_of(d: u64) -> u8
+    requires { ⌜ d < 16 ⌝ }
+    ensures { λ r. ⌜ r ≡ glyph d ⌝ }
+{
+    if d < 10 { 48 + d as u8 } else { 87 + d as u8 }
+}
+
+// Writes v from a position with room for it, and answers the next position. The digits go in from the last one on, two at a time.
+pub fn write_dec(out: &mut [u8], at: usize, v: u64) -> usize
+    requires { ⌜ at + length (decText v) ≤ length (now out) ⌝ }
+    ensures { λ r. ⌜ (r ≡ at + length (decText v)) × (now (out .exit) ≡ sets (now (out .entry)) at (decText v)) ⌝ }
+{
+    let end = at + dec_len(v);
+    let mut i = end;
+    let mut x = v;
+    while x > 99 {
+        let two = x % 100;
+        out[i - 1] = glyph_of(two % 10);
+        out[i - 2] = glyph_of(two / 10);
+        i -= 2;
+        x /= 100;
+    }
+    if x > 9 {
+        out[i - 1] = glyph_of(x % 10);
+        out[i - 2] = glyph_of(x / 10);
+    } else {
+        out[i - 1] = glyph_of(x);
+    }
+    end
+}
+
+// Writes the last `digits` hexadecimal digits of v from a position with room for them, and answers the next position.
+pub fn write_hex(out: &mut [u8], at: usize, v: u64, digits: usize) -> usize
+    requires { ⌜ at + digits ≤ length (now out) ⌝ }
+    ensures { λ r. ⌜ (r ≡ at + digits) × (now (out .exit) ≡ sets (now (out .entry)) at (hexText digits v)) ⌝ }
+{
+    let end = at + digits;
+    let mut i = end;
+    let mut x = v;
+    while i > at {
+        i -= 1;
+        out[i] = glyph_of(x % 16);
+        x /= 16;
+    }
+    end
+}
