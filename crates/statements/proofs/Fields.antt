@@ -1,22 +1,21 @@
 -- One field of a text: what reading it shows, and that it is shown where the text has it.
 -- Assumes nothing.
-use Prim.Native.Nat.{ℕ, zero, suc, _+_, _-_, _*_, _/_, _%_, _^_, _<_, _≤_}
+use Prim.Native.Nat.{ℕ, _+_, _*_, _/_, _%_, _<_, _≤_}
 use native.Mathlib.Omega.{arith}
 use mathlib.Core.Path.{_≡_, refl, sym, ap, _∙_}
-use mathlib.Core.Bool.{Bool, true, false, true≢false, false≢true}
-use mathlib.Core.List.{List, [], _∷_, _++_, append-assoc}
-use lib.ListN.{length, drop, length-append, length-drop}
+use mathlib.Core.Bool.{true, false, true≢false, false≢true}
+use mathlib.Core.List.{List, _∷_, _++_, append-assoc}
+use lib.ListN.{length, drop, length-append}
 use Rattle.text.specs.declared.Read.{Read}
 use Rattle.text.specs.declared.Read.the-variants.{Got, Refused}
-use Rattle.text.specs.Text.{glyph, decText, hexText}
+use Rattle.text.specs.Text.{decText, hexText}
 use Rattle.text.specs.Scan.{Stops, decAt, hexAt, isComma}
-use Rattle.text.proofs.Hex.{hex-length, hex-step}
+use Rattle.text.proofs.Hex.{hex-length}
 use Rattle.text.proofs.Laws.{after, dec-at, hex-at, dec-only, hex-only, comma-is, comma-next, comma-only}
 use Rattle.protocol.specs.View.{View}
 use Rattle.statements.specs.declared.Part.{Part}
-use Rattle.statements.specs.declared.ViewPart.{ViewPart}
 use Rattle.statements.specs.Text.{viewText}
-use Rattle.statements.specs.Meaning.{viewOf, FitsView}
+use Rattle.statements.specs.Meaning.{FitsView}
 use Rattle.statements.specs.Parts.{Bounded, NumberAt, ViewAt}
 
 -- ---- what was read, with a bound
@@ -72,9 +71,6 @@ module _ (S : List ℕ) (at most : ℕ) where
 -- ---- a view
 -- eight digits are twice four
 module _ (j l : ℕ) (small : l < 65536) where
-  nibble : (m a b : ℕ) → hexText (suc m) (a * 16 + b % 16) ≡ hexText m a ++ (glyph (b % 16) ∷ [])
-  nibble m a b = hex-step m a (b % 16) (omega arith)
-
   eight : hexText 8 (j * 65536 + l) ≡ hexText 4 j ++ hexText 4 l
   unfolding hexText
   eight =

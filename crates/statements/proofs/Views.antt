@@ -1,10 +1,10 @@
 -- A run of views, each with a comma before it: the loops that read and write it.
 -- Assumes nothing.
-use Prim.Native.Nat.{ℕ, zero, suc, _+_, _-_, _*_, _<_, _≤_}
+use Prim.Native.Nat.{ℕ, zero, suc, _+_, _*_, _<_, _≤_}
 use native.Mathlib.Numerals.{add-one}
 use native.Mathlib.Omega.{arith}
 use mathlib.Core.Path.{_≡_, refl, sym, ap, _∙_}
-use mathlib.Core.Bool.{Bool, true, false, true≢false, false≢true}
+use mathlib.Core.Bool.{Bool, true, false, false≢true}
 use mathlib.Core.List.{List, [], _∷_, _++_, append-assoc, append-nil}
 use lib.ListN.{length, take, drop, getD, set, length-append, length-drop, length-set, drop-of-length-le}
 use lib.Seq.{sets, take-suc, drop-cons, take-all}
@@ -42,10 +42,6 @@ unfolding tailText
 tail-long [] = refl
 tail-long (v ∷ l) = omega (arith, length-append (viewText v) (tailText l), view-long v, tail-long l)
 
-pub first-none : (l : List held.View) → firstViews 0 l ≡ []
-unfolding firstViews
-first-none l = refl
-
 pub first-long : (n : ℕ) (l : List held.View) → length (firstViews n l) ≡ n
 unfolding firstViews
 first-long zero l = refl
@@ -57,12 +53,6 @@ unfolding firstViews
 first-set [] i v h = absurd (omega arith)
 first-set (u ∷ l) zero v h = refl
 first-set (u ∷ l) (suc i) v h = ap (λ (t : List View). viewOf u ∷ t) (first-set l i v (omega arith))
-
-pub first-next : (l : List held.View) (i : ℕ) (d : held.View) → i < length l → firstViews (suc i) l ≡ firstViews i l ++ (viewOf (getD l i d) ∷ [])
-unfolding firstViews
-first-next [] i d h = absurd (omega arith)
-first-next (u ∷ l) zero d h = refl
-first-next (u ∷ l) (suc i) d h = ap (λ (t : List View). viewOf u ∷ t) (first-next l i d (omega arith))
 
 each-at : (l : List View) (i : ℕ) → EachFits l → i < length l → FitsView (getD l i noView)
 each-at [] i f h = absurd (omega arith)

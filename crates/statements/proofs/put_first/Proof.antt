@@ -1,6 +1,6 @@
+-- `statements::put_first` meets its contract. Assumes nothing.
 use native.Mathlib.Omega.{arith}
-use Prim.Native.Nat.{_+_}
-use mathlib.Core.Path.{_≡_, refl, sym, ap, _∙_}
+use mathlib.Core.Path.{sym, ap, _∙_}
 use mathlib.Core.List.{_∷_}
 use lib.Seq.{sets}
 use Rattle.text.specs.Text.{decText}
@@ -11,33 +11,22 @@ use Rattle.statements.proofs.Written.{four-runs, first-run, first-size}
 use borrow.Author.Needs.{needs}
 use Rattle.statements.proofs.put_first.Statement.{statement}
 use Rattle.statements.proofs.put_first.Tie as tie
-use Rattle.statements.proofs.put_first.Reads as reads
-use Rattle.statements.proofs.put_first.Lts as lts
-use Rattle.statements.proofs.put_number.Reads as put-number-reads
-use Rattle.statements.proofs.put_view.Reads as put-view-reads
-use Rattle.text.proofs.write_dec.Reads as write-dec-reads
 
--- src/lib.rt:242:9
 write-dec-requires : tie.Need-write-dec-requires
 write-dec-requires c κs = omega (arith, c .before .before .pre, first-size (c .before .before .args .kind) (c .before .before .args .origin) (viewOf (c .before .before .args .at)) (viewOf (c .before .before .args .view)))
 
--- src/lib.rt:243:9
 put-number-requires : tie.Need-put-number-requires
 put-number-requires c κs = omega (arith, c .before .before .before .before .before .before .pre, first-size (c .before .before .before .before .before .before .args .kind) (c .before .before .before .before .before .before .args .origin) (viewOf (c .before .before .before .before .before .before .args .at)) (viewOf (c .before .before .before .before .before .before .args .view)), c .before .before .before .write-dec .ensures .0, c .before .before .before .write-dec .kept)
 
--- src/lib.rt:244:9
 put-view-requires : tie.Need-put-view-requires
 put-view-requires c κs = omega (arith, c .before .before .before .before .before .before .before .before .before .before .pre, first-size (c .before .before .before .before .before .before .before .before .before .before .args .kind) (c .before .before .before .before .before .before .before .before .before .before .args .origin) (viewOf (c .before .before .before .before .before .before .before .before .before .before .args .at)) (viewOf (c .before .before .before .before .before .before .before .before .before .before .args .view)), c .before .before .before .before .before .before .before .write-dec .ensures .0, c .before .before .before .before .before .before .before .write-dec .kept, c .before .before .before .put-number .ensures .0, c .before .before .before .put-number .kept)
 
--- src/lib.rt:245:5
 put-view-requires-2 : tie.Need-put-view-requires-2
 put-view-requires-2 c κs = omega (arith, c .before .before .before .before .before .before .before .before .before .before .before .before .before .before .pre, first-size (c .before .before .before .before .before .before .before .before .before .before .before .before .before .before .args .kind) (c .before .before .before .before .before .before .before .before .before .before .before .before .before .before .args .origin) (viewOf (c .before .before .before .before .before .before .before .before .before .before .before .before .before .before .args .at)) (viewOf (c .before .before .before .before .before .before .before .before .before .before .before .before .before .before .args .view)), c .before .before .before .before .before .before .before .before .before .before .before .write-dec .ensures .0, c .before .before .before .before .before .before .before .before .before .before .before .write-dec .kept, c .before .before .before .before .before .before .before .put-number .ensures .0, c .before .before .before .before .before .before .before .put-number .kept, c .before .before .before .put-view .ensures .0, c .before .before .before .put-view .kept)
 
--- src/lib.rt:238:1
 same-length : tie.Need-same-length
 same-length c = search needs
 
--- src/lib.rt:238:1
 returns : tie.Need-returns
 returns c = (
   omega (arith, first-size (c .before .before .before .before .before .before .before .before .before .before .before .before .before .before .before .before .before .args .kind) (c .before .before .before .before .before .before .before .before .before .before .before .before .before .before .before .before .before .args .origin) (viewOf (c .before .before .before .before .before .before .before .before .before .before .before .before .before .before .before .before .before .args .at)) (viewOf (c .before .before .before .before .before .before .before .before .before .before .before .before .before .before .before .before .before .args .view)), c .before .before .before .before .before .before .before .before .before .before .before .before .before .before .write-dec .ensures .0, c .before .before .before .before .before .before .before .before .before .before .put-number .ensures .0, c .before .before .before .before .before .before .put-view .ensures .0, c .before .before .put-view2 .ensures .0),
