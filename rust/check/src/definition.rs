@@ -2,7 +2,7 @@
 //!
 //! The checker judges by these definitions and not by the engine's tables, so that a fault in the tables shows.
 
-use std::cell::RefCell;
+use std::cell::{OnceCell, RefCell};
 use std::collections::HashMap;
 
 use reference::{Binding, Body, History, Report, Set, Statement, View};
@@ -13,11 +13,23 @@ pub struct Definition<'a> {
     statements: &'a [Statement],
     candidates: RefCell<HashMap<View, bool>>,
     sealed: RefCell<HashMap<History, bool>>,
+    wished: OnceCell<View>,
+    named: OnceCell<Vec<History>>,
+    tops: OnceCell<Vec<View>>,
 }
 
 impl<'a> Definition<'a> {
     pub fn new(initial: View, sender: u8, statements: &'a [Statement]) -> Definition<'a> {
-        Definition { initial, sender, statements, candidates: RefCell::default(), sealed: RefCell::default() }
+        Definition {
+            initial,
+            sender,
+            statements,
+            candidates: RefCell::default(),
+            sealed: RefCell::default(),
+            wished: OnceCell::new(),
+            named: OnceCell::new(),
+            tops: OnceCell::new(),
+        }
     }
 
     fn origins(&self, says: impl Fn(&Body) -> bool) -> Set {
@@ -26,8 +38,10 @@ impl<'a> Definition<'a> {
     }
 
     pub fn wished(&self) -> View {
-        let joined = self.initial.joined() | self.origins(|body| *body == Body::Join);
-        View::new(joined, self.origins(|body| *body == Body::Leave) & joined)
+        *self.wished.get_or_init(|| {
+            let joined = self.initial.joined() | self.origins(|body| *body == Body::Join);
+            View::new(joined, self.origins(|body| *body == Body::Leave) & joined)
+        })
     }
 
     /// Whether a quorum of `at` signed a statement of which `says` holds; each member counts once.
@@ -79,22 +93,23 @@ impl<'a> Definition<'a> {
     }
 
     /// The histories that are named by an agreement.
-    fn named(&self) -> Vec<History> {
-        let named = self.statements.iter().filter_map(|statement| match statement.body {
-            Body::AgreeHistory { history, .. } => Some(history),
-            _ => None,
-        });
-        distinct(named)
+    fn named(&self) -> &[History] {
+        self.named.get_or_init(|| {
+            distinct(self.statements.iter().filter_map(|statement| match statement.body {
+                Body::AgreeHistory { history, .. } => Some(history),
+                _ => None,
+            }))
+        })
     }
 
     /// All sealed histories, the initial one first.
     pub fn sealed_histories(&self) -> Vec<History> {
         let initial = History::new(&[self.initial]);
-        distinct(initial.into_iter().chain(self.named().into_iter().filter(|history| self.is_sealed(history))))
+        distinct(initial.into_iter().chain(self.named().iter().copied().filter(|history| self.is_sealed(history))))
     }
 
-    pub fn tops(&self) -> Vec<View> {
-        distinct(self.sealed_histories().iter().map(|history| history.top()))
+    pub fn tops(&self) -> &[View] {
+        self.tops.get_or_init(|| distinct(self.sealed_histories().iter().map(|history| history.top())))
     }
 
     /// All candidates, the initial view first.

@@ -21,6 +21,18 @@ pub enum Breach {
     NotKept(u8, View, u64),
 }
 
+impl Breach {
+    pub fn kind(&self) -> &'static str {
+        match self {
+            Breach::TwoPayloads(..) => "two payloads",
+            Breach::DeliveredTwice(_) => "delivered twice",
+            Breach::NotPrepared(..) => "not prepared",
+            Breach::Incomparable(..) => "incomparable",
+            Breach::NotKept(..) => "not kept",
+        }
+    }
+}
+
 /// How deep a run went.
 #[derive(Clone, Copy, PartialEq, Eq, Debug, Default)]
 pub struct Depth {
@@ -117,9 +129,9 @@ fn not_kept(run: &Run, ring: Ring, shown: &Definition) -> Vec<Breach> {
         let record = &run.records[usize::from(k)];
         let first = event.map_or(0, |event| event.length);
         for &(_, payload) in stores.iter().filter(|(top, _)| top.strictly_within(view)) {
-            // Every length the record had from then on is looked at, as the demand is about each later call.
+            // A longer list shows every certificate that its prefix shows, so both ends stand for all later calls.
             let held = |length| Definition::new(ring.initial, ring.sender, &record[..length]).has_certificate(payload);
-            if !(first..=record.len()).all(held) {
+            if !held(first) || !held(record.len()) {
                 breaches.push(Breach::NotKept(k, view, payload));
             }
         }

@@ -8,4 +8,4 @@ pub mod soak;
 pub use definition::Definition;
 pub use judge::{judge, Breach, Depth, Verdict};
 pub use run::{Deed, Event, Run};
-pub use soak::{soak, Totals};
+pub use soak::{soak, soak_with, Totals};

@@ -1,8 +1,8 @@
 //! Many generated runs under the checker, with totals of how deep they went.
 
-use reference::Document;
+use reference::{Document, Rules};
 
-use crate::judge::{judge, Depth, Verdict};
+use crate::judge::{judge, Breach, Depth, Verdict};
 use crate::run::Run;
 
 /// What a number of runs of one style came to.
@@ -12,6 +12,10 @@ pub struct Totals {
     pub within_premises: usize,
     /// The seeds of the runs within the premises on which demand 3 fails.
     pub failed: Vec<u64>,
+    /// The kinds of breaches in the runs within the premises, each once.
+    pub kinds: Vec<&'static str>,
+    /// Runs outside the premises that break demand 3, which shows that the liars do harm where they can.
+    pub broken_outside: usize,
     /// Runs within the premises with at least 4 sealed tops.
     pub four_tops: usize,
     /// Runs within the premises in which a rule-follower entered at least 4 views.
@@ -33,6 +37,7 @@ impl Totals {
             *total += usize::from(count > 0);
         }
         if !verdict.within_premises {
+            self.broken_outside += usize::from(!verdict.breaches.is_empty());
             return;
         }
         let depth = verdict.depth;
@@ -50,6 +55,9 @@ impl Totals {
         };
         if !verdict.holds() {
             self.failed.push(seed);
+            self.kinds.extend(verdict.breaches.iter().map(Breach::kind));
+            self.kinds.sort_unstable();
+            self.kinds.dedup();
         }
     }
 }
@@ -57,7 +65,8 @@ impl Totals {
 impl std::fmt::Display for Totals {
     fn fmt(&self, f: &mut std::fmt::Formatter<'_>) -> std::fmt::Result {
         let Depth { statements, tops, entered, late_deliveries, .. } = self.most;
-        write!(f, "{} runs, {} within the premises, {} failed; ", self.runs, self.within_premises, self.failed.len())?;
+        write!(f, "{} runs, {} within the premises, {} failed {:?}; ", self.runs, self.within_premises, self.failed.len(), self.kinds)?;
+        write!(f, "{} broken outside; ", self.broken_outside)?;
         write!(f, "4 tops or more {}, 4 entered or more {}, ", self.four_tops, self.four_entered)?;
         write!(f, "delivering {}, after a change {}; ", self.delivering, self.late)?;
         write!(f, "most: statements {statements}, tops {tops}, entered {entered}, late deliveries {late_deliveries}; ")?;
@@ -67,9 +76,14 @@ impl std::fmt::Display for Totals {
 
 /// Runs `count` schedules of the style, from the seed on.
 pub fn soak(style: &str, seed: u64, count: u64, lines: usize) -> Option<Totals> {
+    soak_with::<Document>(style, seed, count, lines)
+}
+
+/// The same with an engine that follows `R`.
+pub fn soak_with<R: Rules>(style: &str, seed: u64, count: u64, lines: usize) -> Option<Totals> {
     let mut totals = Totals::default();
     for seed in seed..seed.saturating_add(count) {
-        let run = Run::of::<Document>(&generate::schedule(style, seed, lines)?);
+        let run = Run::of::<R>(&generate::schedule_for::<R>(style, seed, lines)?);
         totals.take(seed, &run, &judge(&run));
     }
     Some(totals)

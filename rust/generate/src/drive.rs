@@ -1,6 +1,6 @@
 //! Drives a ring forward: requests, statements given late or in part, turns, and lies.
 
-use reference::{Outcome, Set, View};
+use reference::{Outcome, Rules, Set, View};
 
 use crate::lies::lie;
 use crate::maker::Maker;
@@ -33,8 +33,8 @@ impl Plan {
 }
 
 /// The state of a drive.
-struct Drive<'a> {
-    maker: &'a mut Maker,
+struct Drive<'a, R> {
+    maker: &'a mut Maker<R>,
     plan: Plan,
     /// The controllers that are in the ring or asked to be.
     active: Set,
@@ -43,7 +43,7 @@ struct Drive<'a> {
 }
 
 /// Sets the ring up and drives it until the lines are used up.
-pub fn drive(maker: &mut Maker, plan: Plan) {
+pub fn drive<R: Rules>(maker: &mut Maker<R>, plan: Plan) {
     maker.setup(plan.members, plan.sender, plan.faulty);
     let active = plan.members;
     let mut drive = Drive { maker, plan, active, leaving: 0, sent: false };
@@ -52,7 +52,7 @@ pub fn drive(maker: &mut Maker, plan: Plan) {
     }
 }
 
-impl Drive<'_> {
+impl<R: Rules> Drive<'_, R> {
     fn step(&mut self) {
         let Plan { lies, rounds, .. } = self.plan;
         if self.maker.rng.chance(1) {

@@ -1,13 +1,13 @@
 //! What a rule-breaker may sign: false votes, false reports, two of what should be one.
 
-use reference::{Binding, Body, Evidence, History, Report, Statement, View};
+use reference::{Binding, Body, Evidence, History, Report, Rules, Statement, View};
 
 use crate::drive::Plan;
 use crate::maker::Maker;
 use crate::rng::Rng;
 
 /// Has the liar sign something that fits, or nearly fits, what the pool shows.
-pub fn lie(maker: &mut Maker, liar: u8, plan: &Plan) {
+pub fn lie<R: Rules>(maker: &mut Maker<R>, liar: u8, plan: &Plan) {
     let evidence = maker.evidence();
     let rng = &mut maker.rng;
     let body = match rng.below(20) {

@@ -17,7 +17,7 @@ pub const LIMITS: &[&str] = &[
 const ENOUGH: usize = SCHEDULE_LIMIT;
 
 pub fn limit(name: &str, seed: u64) -> Option<Vec<u8>> {
-    let mut maker = Maker::new(seed, ENOUGH);
+    let mut maker: Maker = Maker::new(seed, ENOUGH);
     match name {
         "pool-512" => filled(&mut maker, Record::LIMIT),
         "pool-513" => filled(&mut maker, Record::LIMIT + 1),

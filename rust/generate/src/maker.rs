@@ -1,20 +1,22 @@
 //! Writes a schedule line by line and runs it meanwhile, so that later lines can build on earlier ones.
 
 use reference::bench::SCHEDULE_LIMIT;
-use reference::{Bench, Evidence, Outcome, Refusal, Set, Statement, View};
+use reference::{Bench, Document, Evidence, Outcome, Refusal, Rules, Set, Statement, View};
 
 use crate::rng::Rng;
 
-pub struct Maker {
+pub struct Maker<R = Document> {
     pub rng: Rng,
-    pub bench: Bench,
+    pub bench: Bench<R>,
     schedule: Vec<u8>,
     left: usize,
+    /// The length of each controller's record at its last turn, if that did nothing and no request came since.
+    rested: [Option<usize>; 16],
 }
 
-impl Maker {
-    pub fn new(seed: u64, lines: usize) -> Maker {
-        Maker { rng: Rng::new(seed), bench: Bench::new(), schedule: Vec::new(), left: lines }
+impl<R: Rules> Maker<R> {
+    pub fn new(seed: u64, lines: usize) -> Maker<R> {
+        Maker { rng: Rng::new(seed), bench: Bench::new(), schedule: Vec::new(), left: lines, rested: [None; 16] }
     }
 
     pub fn finish(self) -> Vec<u8> {
@@ -45,14 +47,17 @@ impl Maker {
     }
 
     pub fn join(&mut self, k: u8) -> Outcome {
+        self.rested[usize::from(k)] = None;
         self.line(format!("join,{k}").as_bytes())
     }
 
     pub fn leave(&mut self, k: u8) -> Outcome {
+        self.rested[usize::from(k)] = None;
         self.line(format!("leave,{k}").as_bytes())
     }
 
     pub fn send(&mut self, k: u8, payload: u64) -> Outcome {
+        self.rested[usize::from(k)] = None;
         self.line(format!("send,{k},{payload}").as_bytes())
     }
 
@@ -74,11 +79,15 @@ impl Maker {
         self.line(&line)
     }
 
-    /// Turns of `k` until one neither signs nor enters, at most `most` of them.
+    /// Turns of `k` until one does nothing, at most `most` of them, and none if nothing came since such a turn.
     pub fn turns(&mut self, k: u8, most: usize) {
         for _ in 0..most {
-            if !matches!(self.turn(k), Outcome::Signed(_) | Outcome::Entered(_)) {
+            let length = self.bench.controller(k).map(|controller| controller.record().len());
+            if length.is_some() && self.rested[usize::from(k)] == length {
                 return;
+            }
+            if !matches!(self.turn(k), Outcome::Signed(_) | Outcome::Entered(_) | Outcome::Delivered(_)) {
+                self.rested[usize::from(k)] = length;
             }
         }
     }

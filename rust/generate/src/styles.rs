@@ -1,11 +1,12 @@
 //! The styles in which schedules are made at random.
 
-use reference::{Body, Outcome, Set, Statement, View};
+use reference::{Body, Outcome, Rules, Set, Statement, View};
 
 use crate::drive::{drive, Plan};
 use crate::maker::Maker;
+use crate::rng::Rng;
 
-fn plan(maker: &mut Maker, members: usize, faulty: usize) -> Plan {
+fn plan<R: Rules>(maker: &mut Maker<R>, members: usize, faulty: usize) -> Plan {
     let rng = &mut maker.rng;
     let members = rng.subset(!0, members);
     let faulty = rng.subset(members, faulty);
@@ -20,8 +21,8 @@ fn plan(maker: &mut Maker, members: usize, faulty: usize) -> Plan {
 }
 
 /// Nobody lies; joins, leaves and a notice come in between.
-pub fn honest(seed: u64, lines: usize) -> Vec<u8> {
-    let mut maker = Maker::new(seed, lines);
+pub fn honest<R: Rules>(seed: u64, lines: usize) -> Vec<u8> {
+    let mut maker = Maker::<R>::new(seed, lines);
     let members = maker.rng.between(1, 6);
     let mut plan = plan(&mut maker, members, 0);
     plan.rounds = maker.rng.between(5, 60);
@@ -30,8 +31,8 @@ pub fn honest(seed: u64, lines: usize) -> Vec<u8> {
 }
 
 /// As many liars as the initial view bears.
-pub fn liars(seed: u64, lines: usize) -> Vec<u8> {
-    let mut maker = Maker::new(seed, lines);
+pub fn liars<R: Rules>(seed: u64, lines: usize) -> Vec<u8> {
+    let mut maker = Maker::<R>::new(seed, lines);
     let borne = if maker.rng.chance(85) { 1 } else { 2 };
     let members = 3 * borne + maker.rng.between(1, 2);
     let mut plan = plan(&mut maker, members, borne);
@@ -42,8 +43,8 @@ pub fn liars(seed: u64, lines: usize) -> Vec<u8> {
 }
 
 /// More liars than a view bears; the last lines bring up refusal 7.
-pub fn overrun(seed: u64, lines: usize) -> Vec<u8> {
-    let mut maker = Maker::new(seed, lines);
+pub fn overrun<R: Rules>(seed: u64, lines: usize) -> Vec<u8> {
+    let mut maker = Maker::<R>::new(seed, lines);
     if maker.rng.chance(50) {
         let members = maker.rng.between(2, 6);
         let faulty = maker.rng.between((members - 1) / 3 + 1, members);
@@ -58,7 +59,7 @@ pub fn overrun(seed: u64, lines: usize) -> Vec<u8> {
 }
 
 /// Members 0 to 3 with 2 and 3 faulty: 0 and 1 are shown different prepares and both get a certificate.
-fn split_ring(maker: &mut Maker) {
+fn split_ring<R: Rules>(maker: &mut Maker<R>) {
     let payload = maker.rng.next() >> maker.rng.below(64);
     let at = View::new(0xf, 0);
     maker.setup(0xf, 3, 0xc);
@@ -85,13 +86,12 @@ fn split_ring(maker: &mut Maker) {
 }
 
 /// A schedule of another style with damage done to its text.
-pub fn damaged(seed: u64, lines: usize) -> Vec<u8> {
-    let mut maker = Maker::new(seed ^ 0xdead, 0);
-    let rng = &mut maker.rng;
+pub fn damaged<R: Rules>(seed: u64, lines: usize) -> Vec<u8> {
+    let rng = &mut Rng::new(!seed);
     let mut schedule = match rng.below(3) {
-        0 => honest(seed, lines),
-        1 => liars(seed, lines),
-        _ => overrun(seed, lines),
+        0 => honest::<R>(seed, lines),
+        1 => liars::<R>(seed, lines),
+        _ => overrun::<R>(seed, lines),
     };
     // The setup line is mostly left alone, so that the damage is met by a ring that runs.
     let spared = if rng.chance(80) { 18.min(schedule.len()) } else { 0 };
@@ -108,7 +108,7 @@ pub fn damaged(seed: u64, lines: usize) -> Vec<u8> {
 const NUMBERS: [&str; 12] =
     ["16", "255", "256", "00", "-1", "+1", "512", "18446744073709551615", "18446744073709551616", "", "1e3", "0x1"];
 
-fn damage(rng: &mut crate::rng::Rng, schedule: &mut Vec<u8>, place: usize) {
+fn damage(rng: &mut Rng, schedule: &mut Vec<u8>, place: usize) {
     let place = place.min(schedule.len());
     let end = (place + rng.between(1, 12)).min(schedule.len());
     match rng.below(9) {

@@ -307,7 +307,7 @@ impl<R: Rules> Situation<'_, R> {
         for Statement { origin, body } in self.controller.record.statements() {
             let Some(report) = report_of(body) else { continue };
             let Some(place) = older.iter().position(|view| *view == report.at) else { continue };
-            if self.evidence.counts(*origin, report) {
+            if self.evidence.counts_by::<R>(*origin, report) {
                 reporters[place] |= alone(*origin);
                 binding = if R::BINDING_CARRIED { binding.join(report.binding) } else { binding };
             }
@@ -330,9 +330,7 @@ impl<R: Rules> Situation<'_, R> {
         if !self.stands || self.candidates.top() == self.top {
             return None;
         }
-        let ends = History::new(&[self.candidates.first(), self.candidates.top()]);
-        let history = if R::ALL_CANDIDATES { self.candidates } else { ends.unwrap_or(self.candidates) };
-        self.sign_once(Body::AgreeHistory { at: self.top, history })
+        self.sign_once(Body::AgreeHistory { at: self.top, history: self.candidates })
     }
 
     /// Rule 5.

@@ -67,15 +67,21 @@ impl Evidence {
 
     /// Whether a report by `origin` counts.
     pub fn counts(&self, origin: u8, report: &Report) -> bool {
+        self.counts_by::<Document>(origin, report)
+    }
+
+    pub(crate) fn counts_by<R: Rules>(&self, origin: u8, report: &Report) -> bool {
         let grounded = match report.binding {
             Binding::Unbound => true,
             Binding::Bound(payload) => self.prepares.contains(&payload),
             Binding::Barred => self.prepares.iter().any(|payload| *payload != self.prepares[0]),
         };
-        grounded
+        let known = || {
+            report.view.within(self.wished) && report.history.views().iter().all(|view| self.candidates.contains(view))
+        };
+        (grounded || !R::PREPARED_ONLY)
             && report.at.has_member(origin)
-            && report.view.within(self.wished)
-            && report.history.views().iter().all(|view| self.candidates.contains(view))
+            && (!R::REPORTS_CHECKED || known())
             && report.kept.is_none_or(|payload| self.certificates.contains(&payload))
     }
 }

@@ -8,7 +8,7 @@ pub trait Rules {
     const MEMBERS_ONLY: bool = true;
     /// A quorum is n - floor((n - 1) / 3) members, not one member.
     const FULL_QUORUM: bool = true;
-    /// A certificate needs the sender's prepare.
+    /// A certificate and a report's binding need the sender's prepare.
     const PREPARED_ONLY: bool = true;
     /// Entering needs reports on each older view, not on the newest alone.
     const EVERY_OLDER_VIEW: bool = true;
@@ -20,8 +20,8 @@ pub trait Rules {
     const BINDING_KEPT: bool = true;
     /// A delivery happens once.
     const DELIVERED_ONCE: bool = true;
-    /// An agreement names all candidates, not the least and the greatest alone.
-    const ALL_CANDIDATES: bool = true;
+    /// A report counts only if its view is within wished and its history's views are candidates.
+    const REPORTS_CHECKED: bool = true;
 }
 
 /// The rules as the scope document states them.
