@@ -1,7 +1,7 @@
 //! Whether a run is within the premises, whether demand 3 holds on it, and how deep it went.
 
 use reference::controller::Ring;
-use reference::View;
+use reference::{History, View};
 
 use crate::definition::Definition;
 use crate::run::{Deed, Event, Run};
@@ -50,19 +50,23 @@ pub struct Verdict {
     /// Whether each sealed top bears its faulty members.
     pub within_premises: bool,
     pub breaches: Vec<Breach>,
+    /// Whether the run's statements have two incomparable candidates, two sealed histories neither of which holds
+    /// the other, or two certificates. Demand 3 does not speak of this, but the argument for it rules it out.
+    pub contradiction: bool,
     pub depth: Depth,
 }
 
 impl Verdict {
+    /// Whether demand 3 and what its argument rests on hold, if the run is within the premises.
     pub fn holds(&self) -> bool {
-        !self.within_premises || self.breaches.is_empty()
+        !self.within_premises || (self.breaches.is_empty() && !self.contradiction)
     }
 }
 
 /// Judges a run; one without setup has nothing in it and keeps every promise.
 pub fn judge(run: &Run) -> Verdict {
     let Some(ring) = run.ring else {
-        return Verdict { within_premises: true, breaches: Vec::new(), depth: Depth::default() };
+        return Verdict { within_premises: true, breaches: Vec::new(), contradiction: false, depth: Depth::default() };
     };
     let shown = Definition::new(ring.initial, ring.sender, &run.statements);
     let tops = shown.tops();
@@ -73,7 +77,20 @@ pub fn judge(run: &Run) -> Verdict {
     breaches.extend(not_prepared(run, ring));
     breaches.extend(incomparable(run, ring));
     breaches.extend(not_kept(run, ring, &shown));
-    Verdict { within_premises: tops.iter().all(bears), breaches, depth: depth(run, ring, tops.len()) }
+    Verdict {
+        within_premises: tops.iter().all(bears),
+        breaches,
+        contradiction: contradiction(&shown),
+        depth: depth(run, ring, tops.len()),
+    }
+}
+
+fn contradiction(shown: &Definition) -> bool {
+    let candidates = shown.all_candidates();
+    let sealed = shown.sealed_histories();
+    let apart = |one: &View| candidates.iter().any(|other| !one.comparable(*other));
+    let forked = |one: &History| sealed.iter().any(|other| !one.holds(other) && !other.holds(one));
+    candidates.iter().any(apart) || sealed.iter().any(forked) || shown.certificates().len() > 1
 }
 
 fn deliveries(run: &Run) -> impl Iterator<Item = (usize, u8, u64)> + '_ {

@@ -17,6 +17,7 @@ fn judge_one(path: Option<&String>) -> io::Result<bool> {
     println!("within the premises: {}", verdict.within_premises);
     println!("demand 3 holds: {}", verdict.breaches.is_empty());
     println!("breaches: {:?}", verdict.breaches);
+    println!("the statements contradict each other: {}", verdict.contradiction);
     println!("{:?}", verdict.depth);
     Ok(verdict.holds())
 }

@@ -10,7 +10,7 @@ use crate::run::Run;
 pub struct Totals {
     pub runs: usize,
     pub within_premises: usize,
-    /// The seeds of the runs within the premises on which demand 3 fails.
+    /// The seeds of the runs within the premises on which demand 3, or what its argument rests on, fails.
     pub failed: Vec<u64>,
     /// The kinds of breaches in the runs within the premises, each once.
     pub kinds: Vec<&'static str>,
@@ -56,6 +56,7 @@ impl Totals {
         if !verdict.holds() {
             self.failed.push(seed);
             self.kinds.extend(verdict.breaches.iter().map(Breach::kind));
+            self.kinds.extend(verdict.contradiction.then_some("contradiction"));
             self.kinds.sort_unstable();
             self.kinds.dedup();
         }

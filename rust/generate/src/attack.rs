@@ -32,10 +32,12 @@ pub fn attack<R: Rules>(seed: u64, lines: usize) -> Vec<u8> {
     let faulty = inside | rng.subset(!members, outsiders);
     let lying_sender = rng.chance(75);
     let sender = rng.member(if lying_sender { inside } else { members & !inside }).unwrap_or(0);
-    let led = rng.between(1, size - 1);
+    // With the liars inside, this many followers are just a quorum.
+    let enough = size - 2 * ((size - 1) / 3);
+    let led = if rng.chance(70) { enough } else { rng.between(1, size - 1) };
     let first_group = rng.subset(members & !faulty, led);
     let payload = rng.next() >> rng.below(64);
-    let leak = rng.between(1, 12);
+    let leak = [0, 1, 3, 10][rng.below(4)];
     maker.setup(members, sender, faulty);
     let payloads = [payload, payload ^ 1];
     let mut attack =
@@ -59,12 +61,20 @@ impl<R: Rules> Attack<'_, R> {
     }
 
     fn step(&mut self) {
+        let calm = self.maker.rng.chance(20) && self.is_calm();
         match self.maker.rng.below(100) {
-            0..=5 => self.change(),
-            6..=20 => self.echo(),
+            _ if calm => self.change(),
+            0 => self.change(),
+            1..=20 => self.echo(),
             21..=25 => self.report_falsely(),
             _ => self.hear(),
         }
+    }
+
+    /// Whether no change of the greatest top is due.
+    fn is_calm(&self) -> bool {
+        let evidence = self.maker.evidence();
+        evidence.greatest().is_some_and(|greatest| greatest.top() == evidence.wished)
     }
 
     /// The payload that the controller is led towards.
@@ -76,11 +86,11 @@ impl<R: Rules> Attack<'_, R> {
         self.active & !self.faulty
     }
 
-    /// One to three followers ask to join or to leave at once.
+    /// One to four followers ask to join or to leave at once.
     fn change(&mut self) {
-        for _ in 0..self.maker.rng.between(1, 3) {
+        for _ in 0..self.maker.rng.between(1, 4) {
             let staying = self.followers() & !self.leaving;
-            let joins = self.maker.rng.chance(if staying.count_ones() > 6 { 20 } else { 70 });
+            let joins = self.maker.rng.chance(if staying.count_ones() > 5 { 20 } else { 90 });
             if joins {
                 let Some(k) = self.maker.rng.member(!self.active & !self.faulty) else { continue };
                 if self.maker.join(k) == Outcome::Taken(0) {
@@ -106,17 +116,18 @@ impl<R: Rules> Attack<'_, R> {
         (rest.borne() >= (self.members & self.faulty).count_ones()).then_some(k)
     }
 
-    /// A liar signs what a follower signed.
+    /// The liars sign what a follower signed lately.
     fn echo(&mut self) {
-        let is_vote = |statement: &&Statement| (3..=8).contains(&statement.kind()) && !matches!(statement.kind(), 5 | 6);
-        let pool = self.maker.bench.pool().statements();
-        let votes: Vec<Statement> = pool.iter().rev().take(60).filter(is_vote).copied().collect();
+        let Some(first) = self.maker.rng.member(self.members & self.faulty) else { return };
+        let pool = self.maker.bench.pool();
+        let is_vote = |statement: &&Statement| matches!(statement.kind(), 3 | 4 | 7 | 8);
+        let is_new = |statement: &&Statement| !pool.holds(&Statement::new(first, statement.body));
+        let votes = pool.statements().iter().rev().take(80).filter(is_vote).filter(is_new);
+        let votes: Vec<Statement> = votes.copied().collect();
         let Some(vote) = self.maker.rng.pick(&votes) else { return };
         for liar in (0..16).filter(|k| self.faulty >> k & 1 == 1) {
-            let copy = Statement::new(liar, vote.body);
-            let helps = self.members >> liar & 1 == 1 || self.maker.rng.chance(30);
-            if helps && !self.maker.bench.pool().holds(&copy) {
-                self.maker.lie(&copy);
+            if liar == first || self.maker.rng.chance(30) {
+                self.maker.lie(&Statement::new(liar, vote.body));
             }
         }
     }
@@ -138,20 +149,26 @@ impl<R: Rules> Attack<'_, R> {
         self.maker.lie(&Statement::new(liar, Body::Report(report)));
     }
 
-    /// One follower hears the few statements that serve the attack most, and takes turns.
+    /// One follower hears what serves the attack, the most useful first, and takes turns.
     fn hear(&mut self) {
-        let Some(k) = self.maker.rng.member(self.followers()) else { return };
-        for _ in 0..self.maker.rng.between(1, 5) {
-            let missing = self.maker.missing(k, !0);
-            let scored: Vec<(usize, usize)> = missing.into_iter().map(|number| (self.score(k, number), number)).collect();
-            let Some(&(score, number)) = scored.iter().max() else { break };
+        // Once somebody delivered, the attack is about the second group.
+        let delivered = self.maker.bench.controllers().any(|controller| controller.delivered());
+        let group = if delivered && self.maker.rng.chance(60) { !self.first_group } else { !0 };
+        let Some(k) = self.maker.rng.member(self.followers() & group) else { return };
+        let missing = self.maker.missing(k, !0);
+        let mut scored: Vec<(usize, usize)> = missing.into_iter().map(|number| (self.score(k, number), number)).collect();
+        scored.sort_unstable_by(|one, other| other.cmp(one));
+        for (score, number) in scored.into_iter().take(12) {
             if score < 20 && !self.maker.rng.chance(self.leak) {
                 break;
             }
             self.maker.give(k, number);
-            self.maker.turns(k, 1);
+            // After each report the follower may enter, before it hears of one that says more.
+            if self.maker.bench.pool().statements()[number].kind() == 5 {
+                self.maker.turns(k, 3);
+            }
         }
-        self.maker.turns(k, 3);
+        self.maker.turns(k, 4);
     }
 
     /// How much it serves the attack that the follower hears the statement; 20 and more is heard soon.

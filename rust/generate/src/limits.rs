@@ -103,18 +103,17 @@ fn rising(count: u32) -> View {
     View::new(((1u32 << count) - 1) as Set, 0)
 }
 
-/// The lone faulty member 0 agrees on a chain of views up to the given number of candidates.
+/// The lone faulty member 0 agrees on a chain of views up to the given number of candidates, the last one wished.
 fn chain(maker: &mut Maker, candidates: usize) -> Vec<View> {
     maker.setup(0x0001, 0, 0xffff);
-    for k in 1..16 {
-        maker.lie(&Statement::new(k, Body::Join));
-    }
-    for k in 1..8 {
-        maker.lie(&Statement::new(k, Body::Leave));
-    }
     let leaving = (1..8).map(|count| View::new(0xffff, rising(count).joined() << 1));
     let views: Vec<View> = (1..=16).map(rising).chain(leaving).take(candidates).collect();
     for &view in &views[1..] {
+        let last = maker.evidence().wished;
+        let joins = view.joined() & !last.joined();
+        let body = if joins != 0 { Body::Join } else { Body::Leave };
+        let origin = (joins | view.left() & !last.left()).trailing_zeros() as u8;
+        maker.lie(&Statement::new(origin, body));
         maker.lie(&Statement::new(0, Body::AgreeView { at: rising(1), view }));
     }
     views

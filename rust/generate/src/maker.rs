@@ -28,6 +28,16 @@ impl<R: Rules> Maker<R> {
         self.left == 0
     }
 
+    /// Keeps lines back for later.
+    pub fn reserve(&mut self, lines: usize) {
+        self.left = self.left.saturating_sub(lines);
+    }
+
+    /// Allows lines that were kept back.
+    pub fn release(&mut self, lines: usize) {
+        self.left += lines;
+    }
+
     /// Writes and runs a line if there is room for it.
     pub fn line(&mut self, line: &[u8]) -> Outcome {
         if self.schedule.len() + line.len() + 1 > SCHEDULE_LIMIT {

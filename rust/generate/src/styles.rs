@@ -45,43 +45,66 @@ pub fn liars<R: Rules>(seed: u64, lines: usize) -> Vec<u8> {
 /// More liars than a view bears; the last lines bring up refusal 7.
 pub fn overrun<R: Rules>(seed: u64, lines: usize) -> Vec<u8> {
     let mut maker = Maker::<R>::new(seed, lines);
-    if maker.rng.chance(50) {
-        let members = maker.rng.between(2, 6);
-        let faulty = maker.rng.between((members - 1) / 3 + 1, members);
-        let mut plan = plan(&mut maker, members, faulty);
-        plan.lies = maker.rng.between(5, 30);
-        plan.careful = false;
-        drive(&mut maker, plan);
-    } else {
+    let draw = maker.rng.below(3);
+    if draw == 0 {
         split_ring(&mut maker);
+        return maker.finish();
     }
+    let members = maker.rng.between(2, 6);
+    let most = if draw == 1 { members - (members - 1) / 3 } else { (members - 1) / 3 + 1 };
+    let faulty = maker.rng.between(most, members);
+    let mut plan = plan(&mut maker, members, faulty);
+    plan.faulty |= maker.rng.next() as Set & !plan.members;
+    plan.lies = maker.rng.between(5, 30);
+    plan.careful = false;
+    maker.reserve(60);
+    drive(&mut maker, plan.clone());
+    maker.release(60);
+    contradict(&mut maker, &plan);
     maker.finish()
 }
 
-/// Members 0 to 3 with 2 and 3 faulty: 0 and 1 are shown different prepares and both get a certificate.
+/// Members 0 to 3 with 2 and 3 faulty: 0 and 1 are led to deliver different payloads, and then hear of each other.
 fn split_ring<R: Rules>(maker: &mut Maker<R>) {
     let payload = maker.rng.next() >> maker.rng.below(64);
     let at = View::new(0xf, 0);
     maker.setup(0xf, 3, 0xc);
     for (follower, payload) in [(0, payload), (1, !payload)] {
-        let prepare = Statement::new(3, Body::Prepare { payload });
-        if let Outcome::Taken(number) = maker.lie(&prepare) {
-            maker.give(follower, number as usize);
+        let ack = Body::Ack { at, payload };
+        let store = Body::Store { at, payload };
+        for (liar, body) in [(3, Body::Prepare { payload }), (2, ack), (3, ack), (2, store), (3, store)] {
+            if let Outcome::Taken(number) = maker.lie(&Statement::new(liar, body)) {
+                maker.give(follower, number as usize);
+            }
         }
-        maker.turn(follower);
-        for liar in [2, 3] {
-            maker.lie(&Statement::new(liar, Body::Ack { at, payload }));
-            maker.lie(&Statement::new(liar, Body::Store { at, payload }));
-        }
-        let heard: Vec<usize> = maker.missing(follower, 0xc).into_iter().collect();
-        for number in heard.into_iter().filter(|_| follower == 0) {
-            maker.give(follower, number);
-        }
-        maker.turns(follower, 2);
+        maker.turns(follower, 4);
     }
     for follower in [0, 1] {
         maker.all(follower);
         maker.turns(follower, 3);
+    }
+}
+
+/// Liars that are a quorum by themselves choose two views, or acknowledge two payloads, and everybody hears it.
+fn contradict<R: Rules>(maker: &mut Maker<R>, plan: &Plan) {
+    let at = View::new(plan.members, 0);
+    let liars: Vec<u8> = (0..16).filter(|k| (plan.members & plan.faulty) >> k & 1 == 1).collect();
+    let joiners: Vec<u8> = (0..16).filter(|k| (plan.members | !plan.faulty) >> k & 1 == 0).collect();
+    let forks = joiners.len() >= 2 && maker.rng.chance(50);
+    for turn in 0..2 {
+        let view = View::new(plan.members | joiners.get(turn).map_or(0, |k| 1 << k), 0);
+        let payload = plan.payload.wrapping_add(turn as u64);
+        let first = if forks { Body::Join } else { Body::Prepare { payload } };
+        let origin = if forks { joiners[turn] } else { plan.sender };
+        maker.lie(&Statement::new(origin, first));
+        let vote = if forks { Body::AgreeView { at, view } } else { Body::Ack { at, payload } };
+        liars.iter().for_each(|&liar| {
+            maker.lie(&Statement::new(liar, vote));
+        });
+    }
+    for k in (0..16).filter(|k| plan.members >> k & 1 == 1) {
+        maker.all(k);
+        maker.turn(k);
     }
 }
 

@@ -2,7 +2,7 @@
 
 use std::marker::PhantomData;
 
-use crate::evidence::Evidence;
+use crate::evidence::{is_quorum, Evidence};
 use crate::record::Record;
 use crate::rules::{Document, Rules};
 use crate::statement::{Binding, Body, Fields, Report, Statement};
@@ -312,7 +312,7 @@ impl<R: Rules> Situation<'_, R> {
                 binding = if R::BINDING_CARRIED { binding.join(report.binding) } else { binding };
             }
         }
-        let quorum = |(view, reporters): (&View, &Set)| view.quorum().is_some_and(|q| reporters.count_ones() >= q);
+        let quorum = |(view, reporters): (&View, &Set)| is_quorum::<R>(*view, *reporters);
         older.iter().zip(&reporters).all(quorum).then_some(Step::Enter(self.top, binding))
     }
 
@@ -342,7 +342,7 @@ impl<R: Rules> Situation<'_, R> {
         let prepared = || self.evidence.prepares.first().copied().filter(|_| self.top.has_member(self.ring.sender));
         let payload = match self.controller.binding {
             Binding::Bound(payload) if R::BINDING_KEPT => payload,
-            Binding::Barred => return None,
+            Binding::Barred if R::BINDING_KEPT => return None,
             _ => prepared()?,
         };
         Some(Step::Sign(Body::Ack { at: self.top, payload }))

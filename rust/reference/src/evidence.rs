@@ -76,18 +76,16 @@ impl Evidence {
             Binding::Bound(payload) => self.prepares.contains(&payload),
             Binding::Barred => self.prepares.iter().any(|payload| *payload != self.prepares[0]),
         };
-        let known = || {
-            report.view.within(self.wished) && report.history.views().iter().all(|view| self.candidates.contains(view))
-        };
         (grounded || !R::PREPARED_ONLY)
             && report.at.has_member(origin)
-            && (!R::REPORTS_CHECKED || known())
+            && report.view.within(self.wished)
+            && report.history.views().iter().all(|view| self.candidates.contains(view))
             && report.kept.is_none_or(|payload| self.certificates.contains(&payload))
     }
 }
 
 /// Whether the signers make up a quorum of `at`.
-fn is_quorum<R: Rules>(at: View, signers: Set) -> bool {
+pub(crate) fn is_quorum<R: Rules>(at: View, signers: Set) -> bool {
     let needed = if R::FULL_QUORUM { at.quorum() } else { at.quorum().map(|_| 1) };
     needed.is_some_and(|needed| signers.count_ones() >= needed)
 }

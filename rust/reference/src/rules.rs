@@ -16,12 +16,10 @@ pub trait Rules {
     const BINDING_CARRIED: bool = true;
     /// A report names the payload of the certificate.
     const CERTIFICATE_REPORTED: bool = true;
-    /// A controller that is bound acknowledges nothing else.
+    /// A controller that is bound acknowledges nothing else, and one that is barred nothing.
     const BINDING_KEPT: bool = true;
     /// A delivery happens once.
     const DELIVERED_ONCE: bool = true;
-    /// A report counts only if its view is within wished and its history's views are candidates.
-    const REPORTS_CHECKED: bool = true;
 }
 
 /// The rules as the scope document states them.
