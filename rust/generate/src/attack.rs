@@ -36,7 +36,7 @@ pub fn attack<R: Rules>(seed: u64, lines: usize) -> Vec<u8> {
     let enough = size - 2 * ((size - 1) / 3);
     let led = if rng.chance(70) { enough } else { rng.between(1, size - 1) };
     let first_group = rng.subset(members & !faulty, led);
-    let payload = rng.next() >> rng.below(64);
+    let payload = rng.draw() >> rng.below(64);
     let leak = [0, 1, 3, 10][rng.below(4)];
     maker.setup(members, sender, faulty);
     let payloads = [payload, payload ^ 1];

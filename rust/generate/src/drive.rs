@@ -56,7 +56,7 @@ impl<R: Rules> Drive<'_, R> {
     fn step(&mut self) {
         let Plan { lies, rounds, .. } = self.plan;
         if self.maker.rng.chance(1) {
-            self.plan.split = if self.plan.split == 0 { self.maker.rng.next() as Set } else { 0 };
+            self.plan.split = if self.plan.split == 0 { self.maker.rng.draw() as Set } else { 0 };
         }
         match self.maker.rng.below(100) {
             0..=3 => self.ask(),

@@ -38,7 +38,7 @@ fn payload(rng: &mut Rng, evidence: &Evidence, plan: &Plan) -> u64 {
         0..=4 => rng.pick(&evidence.prepares).unwrap_or(plan.payload),
         5..=6 => plan.payload,
         7..=8 => plan.payload ^ 1,
-        _ => rng.next(),
+        _ => rng.draw(),
     }
 }
 
@@ -50,8 +50,8 @@ fn beside(rng: &mut Rng, evidence: &Evidence) -> View {
         0 => wished,
         1 => View::new(wished.joined(), base.left()),
         2..=3 => {
-            let joined = base.joined() | (wished.joined() & rng.next() as u16);
-            View::new(joined, (base.left() | (wished.left() & rng.next() as u16)) & joined)
+            let joined = base.joined() | (wished.joined() & rng.draw() as u16);
+            View::new(joined, (base.left() | (wished.left() & rng.draw() as u16)) & joined)
         }
         _ => View::new(base.joined() | 1 << rng.below(16), base.left()),
     };

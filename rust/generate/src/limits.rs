@@ -44,7 +44,7 @@ pub fn limit(name: &str, seed: u64) -> Option<Vec<u8>> {
 
 /// Distinct statements that decide nothing: prepares of a controller that is not the sender.
 fn noise(maker: &mut Maker, origin: u8, upto: usize) {
-    let mut payload = maker.rng.next() >> 40;
+    let mut payload = maker.rng.draw() >> 40;
     while maker.bench.pool().len() < upto && !maker.is_done() {
         payload += 1;
         maker.lie(&Statement::new(origin, Body::Prepare { payload }));

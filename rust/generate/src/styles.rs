@@ -15,8 +15,8 @@ fn plan<R: Rules>(maker: &mut Maker<R>, members: usize, faulty: usize) -> Plan {
         1..=4 if faulty != 0 => rng.member(faulty).unwrap_or(0),
         _ => rng.member(members).unwrap_or(0),
     };
-    let split = if rng.chance(40) { rng.next() as Set } else { 0 };
-    let payload = if rng.chance(10) { 0 } else { rng.next() >> rng.below(64) };
+    let split = if rng.chance(40) { rng.draw() as Set } else { 0 };
+    let payload = if rng.chance(10) { 0 } else { rng.draw() >> rng.below(64) };
     Plan { members, sender, faulty, lies: 0, rounds: 25, careful: true, split, payload }
 }
 
@@ -54,7 +54,7 @@ pub fn overrun<R: Rules>(seed: u64, lines: usize) -> Vec<u8> {
     let most = if draw == 1 { members - (members - 1) / 3 } else { (members - 1) / 3 + 1 };
     let faulty = maker.rng.between(most, members);
     let mut plan = plan(&mut maker, members, faulty);
-    plan.faulty |= maker.rng.next() as Set & !plan.members;
+    plan.faulty |= maker.rng.draw() as Set & !plan.members;
     plan.lies = maker.rng.between(5, 30);
     plan.careful = false;
     maker.reserve(60);
@@ -66,7 +66,7 @@ pub fn overrun<R: Rules>(seed: u64, lines: usize) -> Vec<u8> {
 
 /// Members 0 to 3 with 2 and 3 faulty: 0 and 1 are led to deliver different payloads, and then hear of each other.
 fn split_ring<R: Rules>(maker: &mut Maker<R>) {
-    let payload = maker.rng.next() >> maker.rng.below(64);
+    let payload = maker.rng.draw() >> maker.rng.below(64);
     let at = View::new(0xf, 0);
     maker.setup(0xf, 3, 0xc);
     for (follower, payload) in [(0, payload), (1, !payload)] {
@@ -152,7 +152,7 @@ fn damage(rng: &mut Rng, schedule: &mut Vec<u8>, place: usize) {
         }
         _ => {
             if let Some(byte) = schedule.get_mut(place) {
-                *byte = if rng.chance(50) { rng.next() as u8 } else { *byte ^ 1 << rng.below(8) };
+                *byte = if rng.chance(50) { rng.draw() as u8 } else { *byte ^ 1 << rng.below(8) };
             }
         }
     }
