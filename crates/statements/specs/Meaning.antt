@@ -1,0 +1,67 @@
+-- What a Statement means: the protocol's record.
+-- Assumes nothing.
+use Prim.Native.Nat.{ℕ, zero, suc, _^_, _≤_, _<_}
+use mathlib.Core.Bool.{cond}
+use mathlib.Core.List.{List, [], _∷_}
+use lib.ListN.{length}
+use Rattle.protocol.specs.View.{View}
+use Rattle.protocol.specs.Statement.{Stmt, noView}
+use Rattle.views.specs.declared.View as held
+use Rattle.statements.specs.declared.Binding.{Binding}
+use Rattle.statements.specs.declared.Binding.the-variants.{Unbound, Bound, Barred}
+use Rattle.statements.specs.declared.Statement.{Statement}
+
+abbrev pub viewOf : held.View → View
+viewOf v = record { joined = v .joined; left = v .left }
+
+-- The first n views. There are n of them, also where the list is shorter, so that a count above 16 stays what it is.
+unfoldable pub firstViews : ℕ → List held.View → List View
+firstViews zero l = []
+firstViews (suc n) [] = noView ∷ firstViews n []
+firstViews (suc n) (v ∷ l) = viewOf v ∷ firstViews n l
+
+-- "binding (0 unbound, 1 bound to payload, 2 barred)".
+abbrev pub bindingNumber : Binding → ℕ
+bindingNumber Unbound = 0
+bindingNumber (Bound m) = 1
+bindingNumber Barred = 2
+
+-- A bound payload is the statement's; otherwise it is the field's.
+abbrev pub payloadOf : Binding → ℕ → ℕ
+payloadOf Unbound p = p
+payloadOf (Bound m) p = m
+payloadOf Barred p = p
+
+unfoldable pub stmtOf : Statement → Stmt
+stmtOf s = record {
+  kind = s .kind;
+  origin = s .origin;
+  at = viewOf (s .at);
+  view = viewOf (s .view);
+  binding = bindingNumber (s .binding);
+  payload = payloadOf (s .binding) (s .payload);
+  stored = cond (s .stored) 1 0;
+  kept = s .kept;
+  views = firstViews (s .history .len) (s .history .views);
+}
+
+-- ---- the statements that a Statement with at most 16 views can mean. Every other statement breaks a field rule.
+pub record FitsView (v : View) : Type 0 where
+  pub joined : v .joined < 2 ^ 16
+  pub left : v .left < 2 ^ 16
+
+abbrev pub EachFits : List View → Type 0
+EachFits [] = Unit {0}
+EachFits (v ∷ l) = FitsView v × EachFits l
+
+pub record Fits (s : Stmt) : Type 0 where
+  pub kind : s .kind < 256
+  pub origin : s .origin < 256
+  pub at : FitsView (s .at)
+  pub view : FitsView (s .view)
+  pub binding : s .binding ≤ 2
+  pub payload : s .payload < 2 ^ 64
+  pub stored : s .stored ≤ 1
+  pub kept : s .kept < 2 ^ 64
+  pub count : length (s .views) ≤ 16
+  pub views : EachFits (s .views)
