@@ -19,12 +19,13 @@ use Rattle.text.proofs.Decimal.{some-long}
 use Rattle.protocol.specs.View.{View}
 use Rattle.protocol.specs.Statement.{Stmt}
 use Rattle.views.specs.declared.View as held
+use Rattle.views.specs.Held.{viewIs}
 use Rattle.statements.specs.declared.Binding.{Binding}
 use Rattle.statements.specs.declared.Binding.the-variants.{Unbound, Bound, Barred}
 use Rattle.statements.specs.declared.Statement.{Statement}
 use Rattle.statements.specs.declared.ReadStatement.{ReadStatement}
 use Rattle.statements.specs.Text.{text}
-use Rattle.statements.specs.Meaning.{viewOf, firstViews, bindingNumber, payloadOf, stmtOf, FitsView, EachFits, Fits}
+use Rattle.statements.specs.Meaning.{firstViews, bindingNumber, payloadOf, stmtOf, FitsView, EachFits, Fits}
 use Rattle.statements.specs.Promise.{ReadOf, hasRoom, writtenCount, written}
 use Rattle.statements.proofs.Views.{first-long}
 use Rattle.statements.proofs.Whole.{fromOrigin, text-is}
@@ -36,7 +37,7 @@ refused p no′ t f e = true≢false (sym (p .back t f e .0) ∙ no′)
 -- ---- a Statement fits
 abbrev pub EachHeld : List held.View → Type 0
 EachHeld [] = Unit {0}
-EachHeld (v ∷ l) = FitsView (viewOf v) × EachHeld l
+EachHeld (v ∷ l) = FitsView (viewIs v) × EachHeld l
 
 each-fits : (n : ℕ) (l : List held.View) → EachHeld l → EachFits (firstViews n l)
 unfolding firstViews
@@ -63,7 +64,7 @@ bit-most : (b : Bool) → cond b 1 0 ≤ 1
 bit-most true = omega arith
 bit-most false = omega arith
 
-pub fits-of : (s : Statement) → s .kind < 256 → s .origin < 256 → FitsView (viewOf (s .at)) → FitsView (viewOf (s .view)) → BoundFits (s .binding) → s .payload < 2 ^ 64 → s .kept < 2 ^ 64 → EachHeld (s .history .views) → s .history .len ≤ 16 → Fits (stmtOf s)
+pub fits-of : (s : Statement) → s .kind < 256 → s .origin < 256 → FitsView (viewIs (s .at)) → FitsView (viewIs (s .view)) → BoundFits (s .binding) → s .payload < 2 ^ 64 → s .kept < 2 ^ 64 → EachHeld (s .history .views) → s .history .len ≤ 16 → Fits (stmtOf s)
 unfolding stmtOf
 fits-of s k o a v b p e h n = record {
   kind = k;

@@ -1,6 +1,6 @@
 -- A whole statement: its parts, read one after the other, are its text, and its text gives them back.
 -- Assumes nothing.
-use Prim.Native.Nat.{ℕ, zero, suc, _+_, _≤_}
+use Prim.Native.Nat.{ℕ, zero, suc, _+_, _*_, _<_, _≤_}
 use native.Mathlib.Omega.{arith}
 use mathlib.Core.Path.{_≡_, refl, sym, ap, _∙_}
 use mathlib.Core.Bool.{Bool, true, false, cond}
@@ -8,6 +8,7 @@ use mathlib.Core.List.{List, [], _∷_, _++_, map, append-nil}
 use lib.Dec.{eqb}
 use lib.ListN.{length, drop}
 use Rattle.text.specs.declared.Read.{Read}
+use Rattle.text.specs.declared.Read.the-variants.{Got, Refused}
 use Rattle.text.specs.Text.{decText}
 use Rattle.text.specs.Scan.{Stops, decAt}
 use Rattle.text.proofs.Laws.{after, dec-at, dec-only}
@@ -18,8 +19,10 @@ use Rattle.statements.specs.declared.ViewPart.{ViewPart}
 use Rattle.statements.specs.declared.ViewsPart.{ViewsPart}
 use Rattle.statements.specs.declared.Binding.{Binding}
 use Rattle.statements.specs.declared.Statement.{Statement}
+use Rattle.statements.specs.declared.ReadStatement.{ReadStatement}
 use Rattle.statements.specs.Text.{parted, viewText, text}
-use Rattle.statements.specs.Meaning.{viewOf, firstViews, bindingNumber, payloadOf, stmtOf, Fits}
+use Rattle.views.specs.Held.{viewIs}
+use Rattle.statements.specs.Meaning.{firstViews, bindingNumber, payloadOf, stmtOf, Fits}
 use Rattle.statements.specs.Promise.{ReadOf}
 use Rattle.statements.specs.Parts.{Bounded, NumberAt, ViewAt, ViewsAt, tailText, bindingFrom}
 use Rattle.statements.proofs.Views.{ok-before, first-long}
@@ -81,8 +84,8 @@ pub record Chain (S : List ℕ) (first : Read) (kind origin : Part) (at view : V
 pub record Same (t : Stmt) (kind origin : Part) (at view : ViewPart) (binding payload stored kept : Part) (views : ViewsPart) : Type 0 where
   pub kind-is : kind .value ≡ t .kind
   pub origin-is : origin .value ≡ t .origin
-  pub at-is : viewOf (at .view) ≡ t .at
-  pub view-is : viewOf (view .view) ≡ t .view
+  pub at-is : viewIs (at .view) ≡ t .at
+  pub view-is : viewIs (view .view) ≡ t .view
   pub binding-is : binding .value ≡ t .binding
   pub payload-is : payload .value ≡ t .payload
   pub stored-is : stored .value ≡ t .stored
@@ -94,7 +97,7 @@ module _ (S : List ℕ) (first : Read) (kind origin : Part) (at view : ViewPart)
   number-on : (at′ most : ℕ) (p : Part) → NumberAt S at′ most p → p .ok ≡ true → (v : ℕ) (rest : List ℕ) → p .value ≡ v → drop (p .next) S ≡ rest → drop at′ S ≡ 44 ∷ (decText v ++ rest)
   number-on at′ most p n o v rest e d = n .only o ∙ ap (λ (k : ℕ). 44 ∷ (decText k ++ drop (p .next) S)) e ∙ ap (λ (l : List ℕ). 44 ∷ (decText v ++ l)) d
 
-  view-on : (at′ : ℕ) (p : ViewPart) → ViewAt S at′ p → p .ok ≡ true → (v : View) (rest : List ℕ) → viewOf (p .view) ≡ v → drop (p .next) S ≡ rest → drop at′ S ≡ 44 ∷ (viewText v ++ rest)
+  view-on : (at′ : ℕ) (p : ViewPart) → ViewAt S at′ p → p .ok ≡ true → (v : View) (rest : List ℕ) → viewIs (p .view) ≡ v → drop (p .next) S ≡ rest → drop at′ S ≡ 44 ∷ (viewText v ++ rest)
   view-on at′ p n o v rest e d = n .only o ∙ ap (λ (k : View). 44 ∷ (viewText k ++ drop (p .next) S)) e ∙ ap (λ (l : List ℕ). 44 ∷ (viewText v ++ l)) d
 
   -- the part before it was accepted, if a part begins where that ends
