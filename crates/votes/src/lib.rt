@@ -1,7 +1,7 @@
 // The votes of a record, each quorum counted once.
-mod gather;
+mod groups;
 mod keys;
 mod wish;
 
-pub use gather::gather;
+pub use groups::gather;
 pub use wish::wished_view;

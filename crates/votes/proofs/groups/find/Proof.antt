@@ -8,10 +8,10 @@ use lib.ListN.{getD}
 use Rattle.pool.specs.Pool.{stmtAt}
 use Rattle.votes.specs.Votes.{alike, entry}
 use Rattle.votes.proofs.Alike.{narrow, other-tail, other-head, other-names, same-words}
-use Rattle.votes.proofs.gather.find.Statement.{statement}
-use Rattle.votes.proofs.gather.find.Tie as tie
-use Rattle.votes.proofs.gather.find.Reads as reads
-use Rattle.votes.proofs.gather.find.Lts as lts
+use Rattle.votes.proofs.groups.find.Statement.{statement}
+use Rattle.votes.proofs.groups.find.Tie as tie
+use Rattle.votes.proofs.groups.find.Reads as reads
+use Rattle.votes.proofs.groups.find.Lts as lts
 use Rattle.votes.proofs.keys.head_of.Reads as head-of-reads
 use Rattle.votes.proofs.keys.same_names.Reads as same-names-reads
 use Rattle.votes.proofs.keys.tail_of.Reads as tail-of-reads

@@ -3,13 +3,13 @@ use mathlib.Core.Path.{sym, _∙_}
 use borrow.Author.Tests.{not-true, not-false}
 use Rattle.votes.proofs.Gathered.{sofar-skip, sofar-old, sofar-new}
 use borrow.Author.Needs.{needs}
-use Rattle.votes.proofs.gather.add.Statement.{statement}
-use Rattle.votes.proofs.gather.add.Tie as tie
-use Rattle.votes.proofs.gather.add.Reads as reads
-use Rattle.votes.proofs.gather.add.Lts as lts
+use Rattle.votes.proofs.groups.add.Statement.{statement}
+use Rattle.votes.proofs.groups.add.Tie as tie
+use Rattle.votes.proofs.groups.add.Reads as reads
+use Rattle.votes.proofs.groups.add.Lts as lts
 use Rattle.pool.proofs.origin.Reads as origin-reads
 use Rattle.views.proofs.note.Reads as note-reads
-use Rattle.votes.proofs.gather.find.Reads as find-reads
+use Rattle.votes.proofs.groups.find.Reads as find-reads
 use Rattle.votes.proofs.keys.head_of.Reads as head-of-reads
 use Rattle.votes.proofs.keys.is_vote.Reads as is-vote-reads
 use Rattle.votes.proofs.keys.tail_of.Reads as tail-of-reads

@@ -4,12 +4,12 @@ use mathlib.Core.Path.{_≡_, _∙_}
 use Prim.Native.Nat.{_-_, _≤_}
 use Rattle.votes.specs.Keys.{Sofar}
 use Rattle.votes.proofs.Gathered.{sofar-first, sofar-whole}
-use Rattle.votes.proofs.gather.gather_in.Statement.{statement}
-use Rattle.votes.proofs.gather.gather_in.Tie as tie
-use Rattle.votes.proofs.gather.gather_in.Reads as reads
-use Rattle.votes.proofs.gather.gather_in.Lts as lts
+use Rattle.votes.proofs.groups.gather_in.Statement.{statement}
+use Rattle.votes.proofs.groups.gather_in.Tie as tie
+use Rattle.votes.proofs.groups.gather_in.Reads as reads
+use Rattle.votes.proofs.groups.gather_in.Lts as lts
 use Rattle.pool.proofs.limit.Reads as limit-reads
-use Rattle.votes.proofs.gather.add.Reads as add-reads
+use Rattle.votes.proofs.groups.add.Reads as add-reads
 
 abbrev Inv-loop : tie.InvT-loop
 Inv-loop words ids len heads₀ tails₀ first₀ seen₀ end n₀ i₀ heads tails first seen n i = (i ≤ end) × Sofar words ids i heads tails first seen n
