@@ -1,3 +1,4 @@
 pub mod Alike
 pub mod Gathered
+pub mod Picked
 pub mod Wished

@@ -34,6 +34,11 @@ tailOf s = if eqb (s .kind) 3 then wordOf (s .view) else if eqb (s .kind) 4 then
 unfoldable pub sameNames : Stmt → Stmt → Bool
 sameNames a s = not (eqb (s .kind) 4) || sameViews (a .views) (s .views)
 
+-- The words of statement s.
+pub record Key (W : List ℕ) (s x y : ℕ) : Type 0 where
+  pub head : x ≡ headOf (stmtAt W s)
+  pub tail : y ≡ tailOf (stmtAt W s)
+
 -- K and L are the words of the first votes F of n groups.
 pub record Keyed (W ids K L F : List ℕ) (n : ℕ) : Type 0 where
   pub place : (g : ℕ) → g < n → getD F g 0 < 512

@@ -12,9 +12,7 @@ use Rattle.votes.proofs.groups.find.Statement.{statement}
 use Rattle.votes.proofs.groups.find.Tie as tie
 use Rattle.votes.proofs.groups.find.Reads as reads
 use Rattle.votes.proofs.groups.find.Lts as lts
-use Rattle.votes.proofs.keys.head_of.Reads as head-of-reads
 use Rattle.votes.proofs.keys.same_names.Reads as same-names-reads
-use Rattle.votes.proofs.keys.tail_of.Reads as tail-of-reads
 
 abbrev Inv-loop : tie.InvT-loop
 Inv-loop words ids heads tails first n s head tail g₀ g = (g ≤ n) × ((h : ℕ) → h < g → alike (entry words ids (getD first h 0)) (stmtAt words s) ≡ false)
@@ -28,26 +26,24 @@ find-spec =
     (tie.spec
     Inv-loop
     μ-loop
-    (λ c κs. search needs)
-    (λ c κs. search needs)
     (λ c. (omega arith, λ h l. absurd (omega arith)))
     (λ c. search needs)
     (λ c. search needs)
     (λ c. search needs)
     (λ c. search needs)
-    (λ c. (omega arith, below-more _ _ (c .before .before .before .loop .inv .1) (other-tail _ _ _ _ (c .before .before .before .before .before .before .pre .1 .tails _ (c .before .before .loop-test .taken)) (c .before .before .before .before .tail-of .ensures) (c .if1 .taken))))
+    (λ c. (omega arith, below-more _ _ (c .before .before .before .loop .inv .1) (other-tail _ _ _ _ (c .before .before .before .before .pre .1 .tails _ (c .before .before .loop-test .taken)) (c .before .before .before .before .pre .2 .tail) (c .if1 .taken))))
     (λ c. search needs)
     (λ c. search needs)
     (λ c. search needs)
     (λ c. search needs)
-    (λ c. (omega arith, below-more _ _ (c .before .before .before .before .before .loop .inv .1) (other-head _ _ _ _ (c .before .before .before .before .before .before .before .before .pre .1 .heads _ (c .before .before .before .before .loop-test .taken)) (c .before .before .before .before .before .before .before .head-of .ensures) (c .if2 .taken))))
+    (λ c. (omega arith, below-more _ _ (c .before .before .before .before .before .loop .inv .1) (other-head _ _ _ _ (c .before .before .before .before .before .before .pre .1 .heads _ (c .before .before .before .before .loop-test .taken)) (c .before .before .before .before .before .before .pre .2 .head) (c .if2 .taken))))
     (λ c. search needs)
     (λ c. search needs)
-    (λ c. omega (arith, c .before .before .before .before .before .before .before .before .before .pre .1 .place (c .before .before .before .before .before .before .loop .g) (c .before .before .before .before .before .loop-test .taken)))
-    (λ c. omega (arith, c .before .before .before .before .before .before .before .before .before .pre .1 .place (c .before .before .before .before .before .before .loop .g) (c .before .before .before .before .before .loop-test .taken)))
-    (λ c. omega (arith, c .before .before .before .before .before .before .before .before .before .pre .1 .place (c .before .before .before .before .before .before .loop .g) (c .before .before .before .before .before .loop-test .taken)))
+    (λ c. omega (arith, c .before .before .before .before .before .before .before .pre .1 .place (c .before .before .before .before .before .before .loop .g) (c .before .before .before .before .before .loop-test .taken)))
+    (λ c. omega (arith, c .before .before .before .before .before .before .before .pre .1 .place (c .before .before .before .before .before .before .loop .g) (c .before .before .before .before .before .loop-test .taken)))
+    (λ c. omega (arith, c .before .before .before .before .before .before .before .pre .1 .place (c .before .before .before .before .before .before .loop .g) (c .before .before .before .before .before .loop-test .taken)))
     (λ c κs. search needs)
-    (λ c. record { most = omega arith; none = c .before .before .before .before .before .before .before .before .before .loop .inv .1; here = λ l. same-words _ _ _ _ _ _ _ (narrow _ _) (narrow _ _) (c .before .before .before .before .before .before .before .before .before .before .before .before .pre .1 .vote _ l) (c .before .before .before .before .before .before .before .before .before .before .before .before .pre .1 .heads _ l) (c .before .before .before .before .before .before .before .before .before .before .before .head-of .ensures) (c .before .before .before .before .if2 .left) (c .before .before .before .before .before .before .before .before .before .before .before .before .pre .1 .tails _ l) (c .before .before .before .before .before .before .before .before .before .before .tail-of .ensures) (c .before .before .before .before .before .before .if1 .left) (c .before .same-names .ensures) (c .if3 .taken) })
+    (λ c. record { most = omega arith; none = c .before .before .before .before .before .before .before .before .before .loop .inv .1; here = λ l. same-words _ _ _ _ _ _ _ (narrow _ _) (narrow _ _) (c .before .before .before .before .before .before .before .before .before .before .pre .1 .vote _ l) (c .before .before .before .before .before .before .before .before .before .before .pre .1 .heads _ l) (c .before .before .before .before .before .before .before .before .before .before .pre .2 .head) (c .before .before .before .before .if2 .left) (c .before .before .before .before .before .before .before .before .before .before .pre .1 .tails _ l) (c .before .before .before .before .before .before .before .before .before .before .pre .2 .tail) (c .before .before .before .before .before .before .if1 .left) (c .before .same-names .ensures) (c .if3 .taken) })
     (λ c. search needs)
     (λ c. search needs)
     (λ c. (omega arith, below-more _ _ (c .before .before .before .before .before .before .before .before .before .loop .inv .1) (other-names _ _ _ (c .before .same-names .ensures) (c .if3 .left))))
