@@ -58,7 +58,17 @@ fn is_agreement(words: &[u64; POOL_WORDS], s: u16, seen: u32, init: u32) -> bool
 }
 
 // The choices of views by quorums, the view above the one that chose it. Returns how many there are.
-pub fn choices(words: &[u64; POOL_WORDS], ids: &[u16; 512], len: usize, init: u32, wish: u32, first: &[u16; 512], seen: &[u32; 512], n: usize, chosen: &mut [u64; 512]) -> usize
+pub fn choices(
+    words: &[u64; POOL_WORDS],
+    ids: &[u16; 512],
+    len: usize,
+    init: u32,
+    wish: u32,
+    first: &[u16; 512],
+    seen: &[u32; 512],
+    n: usize,
+    chosen: &mut [u64; 512],
+) -> usize
     requires { ⌜ Groups (now words) (now ids) len (now first) (now seen) n × (viewOf wish ≡ wished (ring init) (recordOf (now words) (now ids) len)) ⌝ }
     ensures { λ r. ⌜ Choices (now (words .entry)) (now (ids .entry)) len init (now (first .entry)) n (now (chosen .exit)) r ⌝ }
 {
@@ -80,7 +90,17 @@ pub fn choices(words: &[u64; POOL_WORDS], ids: &[u16; 512], len: usize, init: u3
 }
 
 // The agreements to histories by quorums: the top above the view that agreed, and a statement that names the history. Returns how many there are.
-pub fn agreements(words: &[u64; POOL_WORDS], ids: &[u16; 512], len: usize, init: u32, first: &[u16; 512], seen: &[u32; 512], n: usize, agreed: &mut [u64; 512], entry: &mut [u16; 512]) -> usize
+pub fn agreements(
+    words: &[u64; POOL_WORDS],
+    ids: &[u16; 512],
+    len: usize,
+    init: u32,
+    first: &[u16; 512],
+    seen: &[u32; 512],
+    n: usize,
+    agreed: &mut [u64; 512],
+    entry: &mut [u16; 512],
+) -> usize
     requires { ⌜ Groups (now words) (now ids) len (now first) (now seen) n ⌝ }
     ensures { λ r. ⌜ Agreements (now (words .entry)) (now (ids .entry)) len init (now (first .entry)) n (now (agreed .exit)) (now (entry .exit)) r ⌝ }
 {

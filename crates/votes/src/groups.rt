@@ -6,7 +6,17 @@ use crate::keys;
 use pool::POOL_WORDS;
 
 // The group of statement s among the first n, or n. The words of s come with it.
-fn find(words: &[u64; POOL_WORDS], ids: &[u16; 512], heads: &[u64; 512], tails: &[u64; 512], first: &[u16; 512], n: usize, s: u16, head: u64, tail: u64) -> usize
+fn find(
+    words: &[u64; POOL_WORDS],
+    ids: &[u16; 512],
+    heads: &[u64; 512],
+    tails: &[u64; 512],
+    first: &[u16; 512],
+    n: usize,
+    s: u16,
+    head: u64,
+    tail: u64,
+) -> usize
     requires { ⌜ (n ≤ 512) × Keyed (now words) (now ids) (now heads) (now tails) (now first) n × Key (now words) s head tail ⌝ }
     ensures { λ r. ⌜ Place (now (words .entry)) (now (ids .entry)) (now (first .entry)) n s r ⌝ }
 {

@@ -1,3 +1,14 @@
+use native.Mathlib.Omega.{arith}
+use mathlib.Core.Path.{_≡_, refl, sym, ap, _∙_}
+use mathlib.Core.Bool.{true, false}
+use borrow.Author.Tests.{not-true, not-false}
+use Rattle.protocol.specs.Sets.{bit}
+use Rattle.protocol.specs.Lists.{any}
+use Rattle.protocol.specs.View.{sameView}
+use Rattle.pool.specs.Pool.{stmtAt}
+use Rattle.views.specs.View.{viewOf, quorumHas}
+use Rattle.votes.specs.Chosen.{agreementBy}
+use Rattle.votes.proofs.Picked.{stop1, stop2, stop3, stop4, pass4, kind-is, kind-not, test-of, top-is, top-not}
 use borrow.Author.Needs.{needs}
 use Rattle.votes.proofs.chosen.is_agreement.Statement.{statement}
 use Rattle.votes.proofs.chosen.is_agreement.Tie as tie
@@ -10,62 +21,43 @@ use Rattle.pool.proofs.at.Reads as at-reads
 use Rattle.pool.proofs.kind.Reads as kind-reads
 use Rattle.views.proofs.quorum_in.Reads as quorum-in-reads
 
--- src/chosen.rt:44:8
-kind-requires : tie.Need-kind-requires
-kind-requires c κs = search needs
-
 -- src/chosen.rt:45:9
 returns : tie.Need-returns
-returns c = ?
-
--- src/chosen.rt:47:9
-at-requires : tie.Need-at-requires
-at-requires c κs = search needs
-
--- src/chosen.rt:48:9
-quorum-in-requires : tie.Need-quorum-in-requires
-quorum-in-requires c κs = search needs
+unfolding agreementBy
+returns c = stop1 _ _ _ _ _ (kind-not _ _ 4 (c .before .kind .ensures .0) (c .if1 .taken))
 
 -- src/chosen.rt:49:9
 returns-2 : tie.Need-returns-2
-returns-2 c = ?
-
--- src/chosen.rt:51:9
-has-view-requires : tie.Need-has-view-requires
-has-view-requires c κs = search needs
+unfolding agreementBy
+returns-2 c = stop2 _ _ _ _ _ (kind-is _ _ 4 (c .before .before .before .before .kind .ensures .0) (c .before .before .before .if1 .left)) (test-of (λ t. quorumHas t (bit (c .before .before .before .before .before .args .seen))) _ false (c .before .quorum-in .ensures) (not-true _ (c .if2 .taken)) (c .before .before .at .ensures))
 
 -- src/chosen.rt:52:9
 returns-3 : tie.Need-returns-3
-returns-3 c = ?
-
--- src/chosen.rt:54:8
-top-view-requires : tie.Need-top-view-requires
-top-view-requires c κs = search needs
+unfolding agreementBy
+returns-3 c = stop3 _ _ _ _ _ (kind-is _ _ 4 (c .before .before .before .before .before .before .kind .ensures .0) (c .before .before .before .before .before .if1 .left)) (test-of (λ t. quorumHas t (bit (c .before .before .before .before .before .before .before .args .seen))) _ true (c .before .before .before .quorum-in .ensures) (not-false _ (c .before .before .if2 .left)) (c .before .before .before .before .at .ensures)) (test-of (λ t. any (sameView t) (stmtAt (c .before .before .before .before .before .before .before .args .words .now) (c .before .before .before .before .before .before .before .args .s) .views)) _ false (c .before .has-view .ensures) (not-true _ (c .if3 .taken)) (c .before .before .before .before .at .ensures))
 
 -- src/chosen.rt:55:9
 returns-4 : tie.Need-returns-4
-returns-4 c = ?
-
--- src/chosen.rt:57:5
-is-history-requires : tie.Need-is-history-requires
-is-history-requires c κs = search needs
+unfolding agreementBy
+returns-4 c = stop4 _ _ _ _ _ (kind-is _ _ 4 (c .before .before .before .before .before .before .before .before .kind .ensures .0) (c .before .before .before .before .before .before .before .if1 .left)) (test-of (λ t. quorumHas t (bit (c .before .before .before .before .before .before .before .before .before .args .seen))) _ true (c .before .before .before .before .before .quorum-in .ensures) (not-false _ (c .before .before .before .before .if2 .left)) (c .before .before .before .before .before .before .at .ensures)) (test-of (λ t. any (sameView t) (stmtAt (c .before .before .before .before .before .before .before .before .before .args .words .now) (c .before .before .before .before .before .before .before .before .before .args .s) .views)) _ true (c .before .before .before .has-view .ensures) (not-false _ (c .before .before .if3 .left)) (c .before .before .before .before .before .before .at .ensures)) (top-is _ _ _ _ (c .before .before .before .before .before .before .at .ensures) (c .before .top-view .ensures) (c .if4 .taken))
 
 -- src/chosen.rt:41:1
 returns-5 : tie.Need-returns-5
-returns-5 c = ?
+unfolding agreementBy
+returns-5 c = pass4 _ _ _ _ _ _ (kind-is _ _ 4 (c .before .before .before .before .before .before .before .before .before .kind .ensures .0) (c .before .before .before .before .before .before .before .before .if1 .left)) (test-of (λ t. quorumHas t (bit (c .before .before .before .before .before .before .before .before .before .before .args .seen))) _ true (c .before .before .before .before .before .before .quorum-in .ensures) (not-false _ (c .before .before .before .before .before .if2 .left)) (c .before .before .before .before .before .before .before .at .ensures)) (test-of (λ t. any (sameView t) (stmtAt (c .before .before .before .before .before .before .before .before .before .before .args .words .now) (c .before .before .before .before .before .before .before .before .before .before .args .s) .views)) _ true (c .before .before .before .before .has-view .ensures) (not-false _ (c .before .before .before .if3 .left)) (c .before .before .before .before .before .before .before .at .ensures)) (top-not _ _ _ _ (c .before .before .before .before .before .before .before .at .ensures) (c .before .before .top-view .ensures) (omega arith) (omega arith) (c .before .if4 .left)) (c .is-history .ensures)
 
 pub is-agreement-spec : {M : Type 1} → statement M
 is-agreement-spec =
     tie.close
     (tie.spec
-    kind-requires
+    (λ c κs. search needs)
     returns
-    at-requires
-    quorum-in-requires
+    (λ c κs. search needs)
+    (λ c κs. search needs)
     returns-2
-    has-view-requires
+    (λ c κs. search needs)
     returns-3
-    top-view-requires
+    (λ c κs. search needs)
     returns-4
-    is-history-requires
+    (λ c κs. search needs)
     returns-5)
