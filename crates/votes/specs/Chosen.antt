@@ -4,7 +4,7 @@ use mathlib.Core.Path.{_≡_}
 use mathlib.Core.Bool.{Bool, not, _&&_}
 use mathlib.Core.List.{List}
 use Prim.Native.Nat.{ℕ, _≤_, _<_}
-use lib.Dec.{T}
+use lib.Dec.{T, eqb}
 use lib.ListN.{getD}
 use Rattle.protocol.specs.Sets.{bit}
 use Rattle.protocol.specs.Lists.{any}
@@ -12,6 +12,7 @@ use Rattle.protocol.specs.View.{View, Ring, sameView, hasMembers, within, below
 use Rattle.protocol.specs.History.{top, isHistory}
 use Rattle.protocol.specs.Statement.{Stmt, isKind, agreesView, agreesHistory}
 use Rattle.protocol.specs.Evidence.{wished, signedByQuorum}
+use Rattle.protocol.specs.Grounds.{isTop}
 use Rattle.views.specs.View.{viewOf, quorumHas, ring}
 use Rattle.pool.specs.Pool.{recordOf}
 use Rattle.votes.specs.Votes.{entry}
@@ -65,3 +66,7 @@ module _ (W ids : List ℕ) (len init : ℕ) (F : List ℕ) where
 
   unfoldable pub Agreements : ℕ → List ℕ → List ℕ → ℕ → Type 0
   Agreements n A E na = Picked (λ g. isAgreement (ring init) (recordOf W ids len) (vote g)) (AgreementRow A E) n na
+
+  -- Group g is of votes of kind k for m, signed by a quorum of its at, which is a sealed top.
+  unfoldable pub topSigned : List ℕ → ℕ → ℕ → ℕ → Bool
+  topSigned S k m g = isKind k (vote g) && eqb (vote g .payload) m && quorumHas (vote g .at) (bit (getD S g 0)) && isTop (ring init) (recordOf W ids len) (vote g .at)
