@@ -157,17 +157,18 @@ module _ {W ids : List ℕ} {len init : ℕ} {C : List ℕ} {nc : ℕ} {A E : Li
   pub all-next : (v : ℕ) {n p : ℕ} {r : Bool} → AllTo W ids len init n p → viewOf v ≡ viewAt W n p → r ≡ cand W ids len init (viewOf v) → r ≡ true → AllTo W ids len init n (p + 1)
   all-next v {n} {p} {r} a y z w = record { are = all-more (cand W ids len init) (viewAt W n) p (a .are) (ap (cand W ids len init) (sym y) ∙ sym z ∙ w) }
 
-  seal-by : (a : ℕ) {n e p t : ℕ} → n ≡ getD E a 0 → e ≡ countOf W n → p ≡ e → AllTo W ids len init n p → t ≡ low (getD A a 0) → tops W ids len init t ≡ true → sealsAt W ids len init A E a ≡ true
+  seal-by : (a : ℕ) {n e p t : ℕ} → n ≡ getD E a 0 → e ≡ countOf W n → p ≤ e → e ≤ p → AllTo W ids len init n p → t ≡ low (getD A a 0) → tops W ids len init t ≡ true → sealsAt W ids len init A E a ≡ true
   unfolding sealsAt stmtAt
-  seal-by a {n} {e} {p} {t} q f l al g h =
-      ap₂ _&&_ (ap (tops W ids len init) (sym g) ∙ h) (rw (sym q) (ap (λ m. all (cand W ids len init) (table m (viewAt W n))) (sym f ∙ sym l) ∙ al .are))
+  seal-by a {n} {e} {p} {t} q f l m al g h =
+      let d : countOf W n ≡ p = omega arith in
+      ap₂ _&&_ (ap (tops W ids len init) (sym g) ∙ h) (rw (sym q) (ap (λ m. all (cand W ids len init) (table m (viewAt W n))) d ∙ al .are))
 
-  pub seal-init : (a : ℕ) {n e p t : ℕ} → n ≡ getD E a 0 → e ≡ countOf W n → p ≡ e → AllTo W ids len init n p → t ≡ low (getD A a 0) → t ≡ init → sealsAt W ids len init A E a ≡ true
-  seal-init a q f l al g h = seal-by a q f l al g (top-init (omega arith) h)
+  pub seal-init : (a : ℕ) {n e p t : ℕ} → n ≡ getD E a 0 → e ≡ countOf W n → p ≤ e → e ≤ p → AllTo W ids len init n p → t ≡ low (getD A a 0) → t ≡ init → sealsAt W ids len init A E a ≡ true
+  seal-init a q f l m al g h = seal-by a q f l m al g (top-init (omega arith) h)
 
-  pub seal-found : (a : ℕ) {n e p t b : ℕ} {r : Bool} → n ≡ getD E a 0 → e ≡ countOf W n → p ≡ e → AllTo W ids len init n p → t ≡ low (getD A a 0)
+  pub seal-found : (a : ℕ) {n e p t b : ℕ} {r : Bool} → n ≡ getD E a 0 → e ≡ countOf W n → p ≤ e → e ≤ p → AllTo W ids len init n p → t ≡ low (getD A a 0)
       → Sought W ids len init A E na t b → b < na → r ≡ sealsAt W ids len init A E b → r ≡ true → sealsAt W ids len init A E a ≡ true
-  seal-found a q f l al g s k h j = seal-by a q f l al g (top-found (omega arith) s k (sym h ∙ j))
+  seal-found a q f l m al g s k h j = seal-by a q f l m al g (top-found (omega arith) s k (sym h ∙ j))
 
   pub seal-none : (a : ℕ) {t b : ℕ} → t ≡ low (getD A a 0) → (t ≡ init → ⊥) → Sought W ids len init A E na t b → na ≤ b → sealsAt W ids len init A E a ≡ false
   unfolding sealsAt
