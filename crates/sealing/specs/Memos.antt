@@ -5,7 +5,7 @@ use mathlib.Core.Bool.{true, false}
 use mathlib.Core.List.{List}
 use Prim.Native.Nat.{ℕ, _<_}
 use lib.Dec.{eqb}
-use lib.ListN.{getD}
+use lib.ListN.{length, getD}
 use Rattle.protocol.specs.Evidence.{isCandidate}
 use Rattle.views.specs.View.{viewOf, ring}
 use Rattle.pool.specs.Pool.{recordOf}
@@ -21,7 +21,9 @@ module _ (W ids : List ℕ) (len init : ℕ) where
 
   -- The verdicts on the first n choices and on the first n agreements stand in m.
   pub record Choices (C : List ℕ) (n : ℕ) (m : List ℕ) : Type 0 where
+    pub long : length m ≡ 512
     pub right : (c : ℕ) → c < n → eqb (getD m c 0) 1 ≡ isCandidate (ring init) (recordOf W ids len) (viewOf (high (getD C c 0)))
 
   pub record Agreements (A E : List ℕ) (n : ℕ) (m : List ℕ) : Type 0 where
+    pub long : length m ≡ 512
     pub right : (a : ℕ) → a < n → eqb (getD m a 0) 1 ≡ sealsAt W ids len init A E a

@@ -2,6 +2,7 @@
 ghost use mathlib.Core.Path.{_≡_};
 ghost use Prim.Native.Nat.{_≤_, _<_};
 ghost use lib.Dec.{eqb};
+ghost use lib.ListN.{length};
 ghost use Rattle.protocol.specs.Grounds.{isTop};
 ghost use Rattle.views.specs.View.{viewOf, ring};
 ghost use Rattle.pool.specs.Pool.{recordOf};
@@ -22,7 +23,7 @@ fn mark(yes: bool) -> u8
 
 // The verdict on each choice, into `out`.
 fn choices(words: &[u64; 16385], ids: &[u16; 512], len: usize, init: u32, chosen: &[u64; 512], nc: usize, agreed: &[u64; 512], entry: &[u16; 512], na: usize, mc: &mut [u8; 512], ma: &mut [u8; 512], hint: &mut [u16; 1024], out: &mut [u8; 512])
-    requires { ⌜ Tables (now words) (now ids) len init (now chosen) nc (now agreed) (now entry) na × Memos (now words) (now ids) len init (now chosen) (now agreed) (now entry) (now mc) (now ma) ⌝ }
+    requires { ⌜ Tables (now words) (now ids) len init (now chosen) nc (now agreed) (now entry) na × Memos (now words) (now ids) len init (now chosen) (now agreed) (now entry) (now mc) (now ma) × (length (now out) ≡ 512) ⌝ }
     ensures { λ r. ⌜ Choices (now (words .entry)) (now (ids .entry)) len init (now (chosen .entry)) nc (now (out .exit)) × Memos (now (words .entry)) (now (ids .entry)) len init (now (chosen .entry)) (now (agreed .entry)) (now (entry .entry)) (now (mc .exit)) (now (ma .exit)) ⌝ }
 {
     let mut c = 0usize;
@@ -37,7 +38,7 @@ fn choices(words: &[u64; 16385], ids: &[u16; 512], len: usize, init: u32, chosen
 
 // The verdict on each agreement, into `out`.
 fn agreements(words: &[u64; 16385], ids: &[u16; 512], len: usize, init: u32, chosen: &[u64; 512], nc: usize, agreed: &[u64; 512], entry: &[u16; 512], na: usize, mc: &mut [u8; 512], ma: &mut [u8; 512], hint: &mut [u16; 1024], out: &mut [u8; 512])
-    requires { ⌜ Tables (now words) (now ids) len init (now chosen) nc (now agreed) (now entry) na × Memos (now words) (now ids) len init (now chosen) (now agreed) (now entry) (now mc) (now ma) ⌝ }
+    requires { ⌜ Tables (now words) (now ids) len init (now chosen) nc (now agreed) (now entry) na × Memos (now words) (now ids) len init (now chosen) (now agreed) (now entry) (now mc) (now ma) × (length (now out) ≡ 512) ⌝ }
     ensures { λ r. ⌜ Agreements (now (words .entry)) (now (ids .entry)) len init (now (agreed .entry)) (now (entry .entry)) na (now (out .exit)) ⌝ }
 {
     let mut a = 0usize;
@@ -53,6 +54,8 @@ pub fn verdicts(words: &[u64; 16385], ids: &[u16; 512], len: usize, init: u32, c
     requires { ⌜ Tables (now words) (now ids) len init (now chosen) nc (now agreed) (now entry) na ⌝ }
     ensures { λ r. ⌜ Verdicts (now (words .entry)) (now (ids .entry)) len init (now (chosen .entry)) nc (now (agreed .entry)) (now (entry .entry)) na (now (mc .exit)) (now (ma .exit)) ⌝ }
 {
+    *mc = [0u8; 512];
+    *ma = [0u8; 512];
     let mut kc = [0u8; 512];
     let mut ka = [0u8; 512];
     let mut hint = [0u16; 1024];

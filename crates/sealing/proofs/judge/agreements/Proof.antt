@@ -1,3 +1,8 @@
+use borrow.Author.Needs.{needs}
+use native.Mathlib.Omega.{arith}
+use Prim.Native.Nat.{ℕ, _+_, _-_, _≤_, _<_}
+use Rattle.sealing.specs.Memos.{Memos, Agreements}
+use Rattle.sealing.proofs.Judged.{agreements-first, agreements-next, agreements-all}
 use Rattle.sealing.proofs.judge.agreements.Statement.{statement}
 use Rattle.sealing.proofs.judge.agreements.Tie as tie
 use Rattle.sealing.proofs.judge.agreements.Reads as reads
@@ -6,42 +11,42 @@ use Rattle.sealing.proofs.cycle.sealed.Reads as sealed-reads
 use Rattle.sealing.proofs.judge.mark.Reads as mark-reads
 
 abbrev Inv-loop : tie.InvT-loop
-Inv-loop words ids len init chosen nc agreed entry na mc₀ ma₀ hint₀ out₀ a₀ mc ma hint out a = ?
+Inv-loop words ids len init chosen nc agreed entry na mc₀ ma₀ hint₀ out₀ a₀ mc ma hint out a = (a ≤ na) × Memos words ids len init chosen agreed entry mc ma × Agreements words ids len init agreed entry a out
 
 abbrev μ-loop : tie.MeasureT-loop
-μ-loop words ids len init chosen nc agreed entry na mc₀ ma₀ hint₀ out₀ a₀ mc ma hint out a = ?
+μ-loop words ids len init chosen nc agreed entry na mc₀ ma₀ hint₀ out₀ a₀ mc ma hint out a = na - a
 
--- src/judge.rt:44:5
+-- src/judge.rt:45:5
 loop-holds : tie.Need-loop-holds Inv-loop μ-loop
-loop-holds c = ?
+loop-holds c = (omega arith, c .pre .1, agreements-first (c .pre .2))
 
--- src/judge.rt:45:13
+-- src/judge.rt:46:13
 sealed-requires : tie.Need-sealed-requires Inv-loop μ-loop
-sealed-requires c κs = ?
+sealed-requires c κs = (c .before .before .before .loop-test .taken, c .before .before .before .before .before .pre .0, c .before .before .before .before .loop .inv .1)
 
--- src/judge.rt:46:18
+-- src/judge.rt:47:18
 mark-requires : tie.Need-mark-requires Inv-loop μ-loop
-mark-requires c κs = ?
-
--- src/judge.rt:46:9
-element-write-out : tie.Need-element-write-out Inv-loop μ-loop
-element-write-out c = ?
+mark-requires c κs = search needs
 
 -- src/judge.rt:47:9
+element-write-out : tie.Need-element-write-out Inv-loop μ-loop
+element-write-out c = omega (arith, c .before .before .before .before .before .loop-test .taken, c .before .before .before .before .before .before .before .pre .0 .agreements)
+
+-- src/judge.rt:48:9
 add-a : tie.Need-add-a Inv-loop μ-loop
-add-a c = ?
+add-a c = search needs
 
--- src/judge.rt:44:5
+-- src/judge.rt:45:5
 loop-less : tie.Need-loop-less Inv-loop μ-loop
-loop-less c = ?
+loop-less c = search needs
 
--- src/judge.rt:44:5
+-- src/judge.rt:45:5
 loop-again : tie.Need-loop-again Inv-loop μ-loop
-loop-again c = ?
+loop-again c = (omega arith, c .before .sealed .ensures .1, agreements-next _ (c .before .before .before .before .before .before .loop .inv .2) (omega (arith, c .before .before .before .before .before .loop-test .taken, c .before .before .before .before .before .before .before .pre .0 .agreements)) (c .before .sealed .ensures .0) (c .mark .ensures))
 
--- src/judge.rt:39:1
+-- src/judge.rt:40:1
 returns : tie.Need-returns Inv-loop μ-loop
-returns c = ?
+returns c = agreements-all (c .before .loop .inv .2) (c .loop-test .left)
 
 pub agreements-spec : {M : Type 1} → statement M
 agreements-spec =
