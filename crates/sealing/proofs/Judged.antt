@@ -3,7 +3,7 @@
 use mathlib.Core.Path.{_≡_, refl, sym, ap, _∙_, subst}
 use mathlib.Core.Bool.{Bool, true, false}
 use mathlib.Core.List.{List}
-use Prim.Native.Nat.{ℕ, zero, _+_, _≤_, _<_}
+use Prim.Native.Nat.{ℕ, _+_, _≤_, _<_}
 use native.Mathlib.Decide.{decLt}
 use native.Mathlib.Omega.{arith}
 use lib.Dec.{eqb}
@@ -58,11 +58,12 @@ module _ {W ids : List ℕ} {len init : ℕ} where
   verdicts-of c a = record { candidate = c .right; sealed = a .right }
 
 -- nothing is remembered yet
-fresh : (n i : ℕ) → getD (replicate n (zero)) i zero ≡ zero
-fresh n i = elim (decLt i n) [
-  | yes l ↦ getD-replicate n i zero zero l
-  | no l ↦ List·getD-eq-default (replicate n zero) zero i (omega (arith, length-replicate n zero))
-]
+fresh : (n i : ℕ) → _≡_ {A = ℕ} (getD (replicate n 0) i 0) 0
+fresh n i = go (decLt i n)
+  where
+    go : Dec (i < n) → _≡_ {A = ℕ} (getD (replicate n 0) i 0) 0
+    go (yes l) = getD-replicate n i 0 0 l
+    go (no l) = List·getD-eq-default (replicate n 0) 0 (omega (arith, length-replicate {A = ℕ} n 0))
 
 pub memos-first : (n : ℕ) {W ids : List ℕ} {len init : ℕ} {C A E : List ℕ} → Memos W ids len init C A E (replicate n 0) (replicate n 0)
 memos-first n = record {

@@ -198,34 +198,46 @@ module _ {W ids : List ℕ} {len init : ℕ} {C A E mc ma : List ℕ} (ok : Memo
 
   pub put-yes : {nc v f : ℕ} → Row C nc v f → (f ≡ nc → ⊥) → cand W ids len init (viewOf v) ≡ true
       → (true ≡ cand W ids len init (viewOf v)) × Memos W ids len init C A E (set mc f 1) ma
-  put-yes {nc} {v} {f} w d e = (sym e, record {
-    yesC = put (λ c y. y ≡ 1 → cand W ids len init (viewOf (high (getD C c 0))) ≡ true) mc f 1 (ok .yesC) (λ q. ap (λ x. cand W ids len init (viewOf x)) (place w d) ∙ e);
-    noC = put (λ c y. y ≡ 2 → cand W ids len init (viewOf (high (getD C c 0))) ≡ false) mc f 1 (ok .noC) (λ q. absurd (omega arith));
-    yesA = ok .yesA;
-    noA = ok .noA;
-  })
+  put-yes {nc} {v} {f} w d e = (
+    sym e,
+    record {
+      yesC = put (λ c y. y ≡ 1 → cand W ids len init (viewOf (high (getD C c 0))) ≡ true) mc f 1 (ok .yesC) (λ q. ap (λ x. cand W ids len init (viewOf x)) (place w d) ∙ e);
+      noC = put (λ c y. y ≡ 2 → cand W ids len init (viewOf (high (getD C c 0))) ≡ false) mc f 1 (ok .noC) (λ q. absurd (omega arith));
+      yesA = ok .yesA;
+      noA = ok .noA;
+    },
+  )
 
   pub put-no : {nc v f : ℕ} → Row C nc v f → (f ≡ nc → ⊥) → cand W ids len init (viewOf v) ≡ false
       → (false ≡ cand W ids len init (viewOf v)) × Memos W ids len init C A E (set mc f 2) ma
-  put-no {nc} {v} {f} w d e = (sym e, record {
-    yesC = put (λ c y. y ≡ 1 → cand W ids len init (viewOf (high (getD C c 0))) ≡ true) mc f 2 (ok .yesC) (λ q. absurd (omega arith));
-    noC = put (λ c y. y ≡ 2 → cand W ids len init (viewOf (high (getD C c 0))) ≡ false) mc f 2 (ok .noC) (λ q. ap (λ x. cand W ids len init (viewOf x)) (place w d) ∙ e);
-    yesA = ok .yesA;
-    noA = ok .noA;
-  })
+  put-no {nc} {v} {f} w d e = (
+    sym e,
+    record {
+      yesC = put (λ c y. y ≡ 1 → cand W ids len init (viewOf (high (getD C c 0))) ≡ true) mc f 2 (ok .yesC) (λ q. absurd (omega arith));
+      noC = put (λ c y. y ≡ 2 → cand W ids len init (viewOf (high (getD C c 0))) ≡ false) mc f 2 (ok .noC) (λ q. ap (λ x. cand W ids len init (viewOf x)) (place w d) ∙ e);
+      yesA = ok .yesA;
+      noA = ok .noA;
+    },
+  )
 
   pub put-sealed : (a : ℕ) → sealsAt W ids len init A E a ≡ true → (true ≡ sealsAt W ids len init A E a) × Memos W ids len init C A E mc (set ma a 1)
-  put-sealed a e = (sym e, record {
-    yesC = ok .yesC;
-    noC = ok .noC;
-    yesA = put (λ i y. y ≡ 1 → sealsAt W ids len init A E i ≡ true) ma a 1 (ok .yesA) (λ q. e);
-    noA = put (λ i y. y ≡ 2 → sealsAt W ids len init A E i ≡ false) ma a 1 (ok .noA) (λ q. absurd (omega arith));
-  })
+  put-sealed a e = (
+    sym e,
+    record {
+      yesC = ok .yesC;
+      noC = ok .noC;
+      yesA = put (λ i y. y ≡ 1 → sealsAt W ids len init A E i ≡ true) ma a 1 (ok .yesA) (λ q. e);
+      noA = put (λ i y. y ≡ 2 → sealsAt W ids len init A E i ≡ false) ma a 1 (ok .noA) (λ q. absurd (omega arith));
+    },
+  )
 
   pub put-unsealed : (a : ℕ) → sealsAt W ids len init A E a ≡ false → (false ≡ sealsAt W ids len init A E a) × Memos W ids len init C A E mc (set ma a 2)
-  put-unsealed a e = (sym e, record {
-    yesC = ok .yesC;
-    noC = ok .noC;
-    yesA = put (λ i y. y ≡ 1 → sealsAt W ids len init A E i ≡ true) ma a 2 (ok .yesA) (λ q. absurd (omega arith));
-    noA = put (λ i y. y ≡ 2 → sealsAt W ids len init A E i ≡ false) ma a 2 (ok .noA) (λ q. e);
-  })
+  put-unsealed a e = (
+    sym e,
+    record {
+      yesC = ok .yesC;
+      noC = ok .noC;
+      yesA = put (λ i y. y ≡ 1 → sealsAt W ids len init A E i ≡ true) ma a 2 (ok .yesA) (λ q. absurd (omega arith));
+      noA = put (λ i y. y ≡ 2 → sealsAt W ids len init A E i ≡ false) ma a 2 (ok .noA) (λ q. e);
+    },
+  )

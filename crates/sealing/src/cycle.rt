@@ -10,9 +10,24 @@ ghost use Rattle.pool.specs.Pool.{recordOf};
 ghost use Rattle.votes.specs.Tables.{Tables, sealsAt};
 ghost use Rattle.sealing.specs.Memos.{Memos};
 use crate::rows;
+use pool::POOL_WORDS;
 
 // Whether v is a candidate: it is the initial view, or was chosen at a sealed top.
-pub fn candidate(words: &[u64; 16385], ids: &[u16; 512], len: usize, init: u32, chosen: &[u64; 512], nc: usize, agreed: &[u64; 512], entry: &[u16; 512], na: usize, mc: &mut [u8; 512], ma: &mut [u8; 512], hint: &mut [u16; 1024], v: u32) -> bool
+pub fn candidate(
+    words: &[u64; POOL_WORDS],
+    ids: &[u16; 512],
+    len: usize,
+    init: u32,
+    chosen: &[u64; 512],
+    nc: usize,
+    agreed: &[u64; 512],
+    entry: &[u16; 512],
+    na: usize,
+    mc: &mut [u8; 512],
+    ma: &mut [u8; 512],
+    hint: &mut [u16; 1024],
+    v: u32,
+) -> bool
     requires { ⌜ Tables (now words) (now ids) len init (now chosen) nc (now agreed) (now entry) na × Memos (now words) (now ids) len init (now chosen) (now agreed) (now entry) (now mc) (now ma) ⌝ }
     ensures { λ r. ⌜ (r ≡ isCandidate (ring init) (recordOf (now (words .entry)) (now (ids .entry)) len) (viewOf v)) × Memos (now (words .entry)) (now (ids .entry)) len init (now (chosen .entry)) (now (agreed .entry)) (now (entry .entry)) (now (mc .exit)) (now (ma .exit)) ⌝ }
 {
@@ -40,7 +55,21 @@ pub fn candidate(words: &[u64; 16385], ids: &[u16; 512], len: usize, init: u32, 
         }
         let mut a = rows::next(agreed, na, t, 0);
         while a < na {
-            if sealed(words, ids, len, init, chosen, nc, agreed, entry, na, mc, ma, hint, a) {
+            if sealed(
+                words,
+                ids,
+                len,
+                init,
+                chosen,
+                nc,
+                agreed,
+                entry,
+                na,
+                mc,
+                ma,
+                hint,
+                a,
+            ) {
                 mc[f] = 1;
                 return true;
             }
@@ -53,7 +82,21 @@ pub fn candidate(words: &[u64; 16385], ids: &[u16; 512], len: usize, init: u32, 
 }
 
 // Whether agreement a seals its history: all its views are candidates, and the view at which it was agreed to is a sealed top.
-pub fn sealed(words: &[u64; 16385], ids: &[u16; 512], len: usize, init: u32, chosen: &[u64; 512], nc: usize, agreed: &[u64; 512], entry: &[u16; 512], na: usize, mc: &mut [u8; 512], ma: &mut [u8; 512], hint: &mut [u16; 1024], a: usize) -> bool
+pub fn sealed(
+    words: &[u64; POOL_WORDS],
+    ids: &[u16; 512],
+    len: usize,
+    init: u32,
+    chosen: &[u64; 512],
+    nc: usize,
+    agreed: &[u64; 512],
+    entry: &[u16; 512],
+    na: usize,
+    mc: &mut [u8; 512],
+    ma: &mut [u8; 512],
+    hint: &mut [u16; 1024],
+    a: usize,
+) -> bool
     requires { ⌜ (a < na) × Tables (now words) (now ids) len init (now chosen) nc (now agreed) (now entry) na × Memos (now words) (now ids) len init (now chosen) (now agreed) (now entry) (now mc) (now ma) ⌝ }
     ensures { λ r. ⌜ (r ≡ sealsAt (now (words .entry)) (now (ids .entry)) len init (now (agreed .entry)) (now (entry .entry)) a) × Memos (now (words .entry)) (now (ids .entry)) len init (now (chosen .entry)) (now (agreed .entry)) (now (entry .entry)) (now (mc .exit)) (now (ma .exit)) ⌝ }
 {
@@ -69,7 +112,21 @@ pub fn sealed(words: &[u64; 16385], ids: &[u16; 512], len: usize, init: u32, cho
     let mut p = 0usize;
     while p < e {
         let v = pool::nth(words, n, p);
-        if !candidate(words, ids, len, init, chosen, nc, agreed, entry, na, mc, ma, hint, v) {
+        if !candidate(
+            words,
+            ids,
+            len,
+            init,
+            chosen,
+            nc,
+            agreed,
+            entry,
+            na,
+            mc,
+            ma,
+            hint,
+            v,
+        ) {
             ma[a] = 2;
             return false;
         }
@@ -83,7 +140,21 @@ pub fn sealed(words: &[u64; 16385], ids: &[u16; 512], len: usize, init: u32, cho
     }
     let mut b = rows::next(agreed, na, t, 0);
     while b < na {
-        if sealed(words, ids, len, init, chosen, nc, agreed, entry, na, mc, ma, hint, b) {
+        if sealed(
+            words,
+            ids,
+            len,
+            init,
+            chosen,
+            nc,
+            agreed,
+            entry,
+            na,
+            mc,
+            ma,
+            hint,
+            b,
+        ) {
             ma[a] = 1;
             return true;
         }

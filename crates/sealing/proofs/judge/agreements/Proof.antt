@@ -16,49 +16,17 @@ Inv-loop words ids len init chosen nc agreed entry na mc₀ ma₀ hint₀ out₀
 abbrev μ-loop : tie.MeasureT-loop
 μ-loop words ids len init chosen nc agreed entry na mc₀ ma₀ hint₀ out₀ a₀ mc ma hint out a = na - a
 
--- src/judge.rt:45:5
-loop-holds : tie.Need-loop-holds Inv-loop μ-loop
-loop-holds c = (omega arith, c .pre .1, agreements-first (c .pre .2))
-
--- src/judge.rt:46:13
-sealed-requires : tie.Need-sealed-requires Inv-loop μ-loop
-sealed-requires c κs = (c .before .before .before .loop-test .taken, c .before .before .before .before .before .pre .0, c .before .before .before .before .loop .inv .1)
-
--- src/judge.rt:47:18
-mark-requires : tie.Need-mark-requires Inv-loop μ-loop
-mark-requires c κs = search needs
-
--- src/judge.rt:47:9
-element-write-out : tie.Need-element-write-out Inv-loop μ-loop
-element-write-out c = omega (arith, c .before .before .before .before .before .loop-test .taken, c .before .before .before .before .before .before .before .pre .0 .agreements)
-
--- src/judge.rt:48:9
-add-a : tie.Need-add-a Inv-loop μ-loop
-add-a c = search needs
-
--- src/judge.rt:45:5
-loop-less : tie.Need-loop-less Inv-loop μ-loop
-loop-less c = search needs
-
--- src/judge.rt:45:5
-loop-again : tie.Need-loop-again Inv-loop μ-loop
-loop-again c = (omega arith, c .before .sealed .ensures .1, agreements-next _ (c .before .before .before .before .before .before .loop .inv .2) (omega (arith, c .before .before .before .before .before .loop-test .taken, c .before .before .before .before .before .before .before .pre .0 .agreements)) (c .before .sealed .ensures .0) (c .mark .ensures))
-
--- src/judge.rt:40:1
-returns : tie.Need-returns Inv-loop μ-loop
-returns c = agreements-all (c .before .loop .inv .2) (c .loop-test .left)
-
 pub agreements-spec : {M : Type 1} → statement M
 agreements-spec =
     tie.close
     (tie.spec
     Inv-loop
     μ-loop
-    loop-holds
-    sealed-requires
-    mark-requires
-    element-write-out
-    add-a
-    loop-less
-    loop-again
-    returns)
+    (λ c. (omega arith, c .pre .1, agreements-first (c .pre .2)))
+    (λ c κs. (c .before .before .before .loop-test .taken, c .before .before .before .before .before .pre .0, c .before .before .before .before .loop .inv .1))
+    (λ c κs. search needs)
+    (λ c. omega (arith, c .before .before .before .before .before .loop-test .taken, c .before .before .before .before .before .before .before .pre .0 .agreements))
+    (λ c. search needs)
+    (λ c. search needs)
+    (λ c. (omega arith, c .before .sealed .ensures .1, agreements-next _ (c .before .before .before .before .before .before .loop .inv .2) (omega (arith, c .before .before .before .before .before .loop-test .taken, c .before .before .before .before .before .before .before .pre .0 .agreements)) (c .before .sealed .ensures .0) (c .mark .ensures)))
+    (λ c. agreements-all (c .before .loop .inv .2) (c .loop-test .left)))

@@ -1,3 +1,7 @@
+use native.Mathlib.Omega.{arith}
+use lib.ListN.{length-replicate}
+use Prim.Native.Nat.{ℕ}
+use Rattle.sealing.proofs.Judged.{memos-first, verdicts-of}
 use borrow.Author.Needs.{needs}
 use Rattle.sealing.proofs.judge.verdicts.Statement.{statement}
 use Rattle.sealing.proofs.judge.verdicts.Tie as tie
@@ -6,17 +10,5 @@ use Rattle.sealing.proofs.judge.verdicts.Lts as lts
 use Rattle.sealing.proofs.judge.agreements.Reads as agreements-reads
 use Rattle.sealing.proofs.judge.choices.Reads as choices-reads
 
--- src/judge.rt:62:5
-choices-requires : tie.Need-choices-requires
-choices-requires c κs = ?
-
--- src/judge.rt:63:5
-agreements-requires : tie.Need-agreements-requires
-agreements-requires c κs = search needs
-
--- src/judge.rt:53:1
-returns : tie.Need-returns
-returns c = search needs
-
 pub verdicts-spec : {M : Type 1} → statement M
-verdicts-spec = tie.close (tie.spec choices-requires agreements-requires returns)
+verdicts-spec = tie.close (tie.spec (λ c κs. (c .before .before .before .before .before .before .pre, memos-first 512, length-replicate {A = ℕ} 512 0)) (λ c κs. (c .before .before .before .before .before .before .before .before .before .before .before .pre, c .before .before .before .before .choices .ensures .1, length-replicate {A = ℕ} 512 0)) (λ c. verdicts-of (c .before .before .before .before .before .choices .ensures .0) (c .agreements .ensures)))
