@@ -23,3 +23,9 @@ pub use read::word_at;
 
 // 512 statements of 32 words, and how many there are.
 pub const POOL_WORDS: usize = 16385;
+
+// A record: the pool numbers of its statements in order of arrival. The first `len` count; a len above 512 counts as 512.
+pub struct Record {
+    pub ids: [u16; 512],
+    pub len: usize,
+}
