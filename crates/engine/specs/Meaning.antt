@@ -1,19 +1,22 @@
 -- What the engine's values mean: the protocol's controller, answer and actions.
 -- Assumes nothing.
-use mathlib.Core.List.{List}
+use mathlib.Core.List.{List, [], _∷_}
 use mathlib.Core.Option.{Option, some, none}
 use Prim.Native.Nat.{ℕ, _<_, min}
 use lib.ListN.{getD}
-use Rattle.protocol.specs.View.{controllers}
+use Rattle.protocol.specs.Lists.{if_then_else_}
+use Rattle.protocol.specs.View.{View, controllers, member}
 use Rattle.protocol.specs.Statement.{Stmt, unbound, bound, barred}
 use Rattle.protocol.specs.Statement as statement
 use Rattle.protocol.specs.Controller as controller
 use Rattle.protocol.specs.Turn as turn
 use Rattle.views.specs.Table.{table}
 use Rattle.views.specs.Held.{viewIs, viewsIs}
+use Rattle.views.specs.declared.View as held
 use Rattle.statements.specs.declared.Binding.{Binding}
 use Rattle.statements.specs.declared.Binding.the-variants.{Unbound, Bound, Barred}
 use Rattle.statements.specs.Meaning.{stmtOf}
+use Rattle.pool.specs.declared.Record.{Record}
 use Rattle.pool.specs.Pool.{stmtAt, poolLen, recordOf}
 use Rattle.engine.specs.declared.Controller.{Controller}
 use Rattle.engine.specs.declared.Send.{Send}
@@ -34,6 +37,10 @@ bindingIs Barred = barred
 abbrev pub sendIs : Send → Option ℕ
 sendIs Nothing = none
 sendIs (Payload m) = some m
+
+-- The views that controller k has entered at first: "Initial members start entered".
+unfoldable pub initialIs : held.View → ℕ → List View
+initialIs v k = if member (viewIs v) k then viewIs v ∷ [] else []
 
 -- The controller. Its record is `recordIs`.
 unfoldable pub controllerIs : Controller → controller.Controller
@@ -59,8 +66,11 @@ unfoldable pub poolIs : List ℕ → List Stmt
 poolIs W = table (poolLen W) (stmtAt W)
 
 -- Every statement of the record is one of the pool. A controller that calls returned has this; one that a caller made up need not.
+abbrev pub AllIn : List ℕ → Record → Type 0
+AllIn W r = (i : ℕ) → i < min (r .len) 512 → getD (r .ids) i 0 < poolLen W
+
 unfoldable pub Whole : List ℕ → Controller → Type 0
-Whole W c = (i : ℕ) → i < min (c .statements .len) 512 → getD (c .statements .ids) i 0 < poolLen W
+Whole W c = AllIn W (c .statements)
 
 abbrev pub refusalIs : Refusal → controller.Refusal
 refusalIs BadSetup = controller.badSetup

@@ -47,3 +47,7 @@ pub record Meets (W : List ℕ) (c : Controller) (o : controller.Outcome) (p : O
   pub pool : PoolAfter W p W′
   -- "as before", to the last byte.
   pub refused : IsRefused (o .answer) → (r .controller ≡ c) × (W′ ≡ W)
+
+-- A call that does not touch the pool, whatever the pool is.
+unfoldable pub Calls : (List Stmt → controller.Outcome) → Controller → Outcome → Type 0
+Calls f c r = (W : List ℕ) → Meets W c (f (recordIs W c)) none r W

@@ -1,4 +1,7 @@
 // The engine of one controller: setup, requests, additions and turns, each a value in and a value out, over a pool that is lent.
+mod calls;
+
+pub use calls::refuse;
 use pool::Record;
 use statements::Binding;
 use statements::Statement;
