@@ -1,1 +1,3 @@
 pub mod Requests
+pub mod Pools
+pub mod Keeps

@@ -57,6 +57,22 @@ controllerIs c = record {
   sendRequested = sendIs (c .sending);
 }
 
+-- The controller with another record.
+abbrev pub withStatements : Controller → Record → Controller
+withStatements c r = record {
+  ready = c .ready;
+  number = c .number;
+  init = c .init;
+  sender = c .sender;
+  entered = c .entered;
+  binding = c .binding;
+  delivered = c .delivered;
+  joining = c .joining;
+  leaving = c .leaving;
+  sending = c .sending;
+  statements = r;
+}
+
 -- The record of a controller, over the pool's memory W.
 unfoldable pub recordIs : List ℕ → Controller → List Stmt
 recordIs W c = recordOf W (c .statements .ids) (c .statements .len)

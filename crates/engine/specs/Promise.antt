@@ -1,16 +1,21 @@
 -- What every call promises: its answer, the whole controller and record after it, and the pool.
 -- Assumes nothing.
 use mathlib.Core.Path.{_≡_}
-use mathlib.Core.List.{List}
+use mathlib.Core.Bool.{true, false, not}
+use mathlib.Core.List.{List, [], _∷_, _++_}
 use mathlib.Core.Option.{Option, some, none}
 use Prim.Native.Nat.{ℕ}
 use Rattle.protocol.specs.Statement.{Stmt}
 use Rattle.protocol.specs.Controller as controller
-use Rattle.protocol.specs.Pool.{numberOf, pooled}
+use Rattle.protocol.specs.Call.{isFull}
+use Rattle.protocol.specs.Pool.{numberOf, pooled, hasRoom}
 use Rattle.engine.specs.declared.Controller.{Controller}
+use Rattle.pool.specs.Pool.{stmtAt}
+use Rattle.pool.specs.Changes.{Pushed}
 use Rattle.engine.specs.declared.Outcome.{Outcome}
+use Rattle.engine.specs.declared.keep.Kept.{Kept}
 use Rattle.engine.specs.declared.Answer.the-variants.{Signed}
-use Rattle.engine.specs.Meaning.{controllerIs, recordIs, poolIs, Whole, answerIs}
+use Rattle.engine.specs.Meaning.{controllerIs, withStatements, recordIs, poolIs, Whole, answerIs}
 
 -- The pool after a statement went into it, or none did.
 abbrev pub PoolAfter : List ℕ → Option Stmt → List ℕ → Type 0
@@ -51,3 +56,19 @@ pub record Meets (W : List ℕ) (c : Controller) (o : controller.Outcome) (p : O
 -- A call that does not touch the pool, whatever the pool is.
 unfoldable pub Calls : (List Stmt → controller.Outcome) → Controller → Outcome → Type 0
 Calls f c r = (W : List ℕ) → Meets W c (f (recordIs W c)) none r W
+
+-- st went into the pool W and to the end of the record of c, or there was no room and nothing changed. Only the record of the controller differs.
+pub record Placed (W : List ℕ) (c : Controller) (s : Stmt) (r : Kept) (W′ : List ℕ) : Type 0 where
+  pub room : r .ok ≡ not (isFull (hasRoom (poolIs W)) (recordIs W c) s)
+  pub unplaced : r .ok ≡ false → W′ ≡ W
+  pub controller : r .ok ≡ true → r .controller ≡ withStatements c (r .controller .statements)
+  pub pool : r .ok ≡ true → poolIs W′ ≡ pooled s (poolIs W)
+  pub number : r .ok ≡ true → (r .number ≡ numberOf s (poolIs W)) × (stmtAt W′ (r .number) ≡ s)
+  pub statements : r .ok ≡ true → Whole W c → (recordIs W′ (r .controller) ≡ recordIs W c ++ (s ∷ [])) × Whole W′ (r .controller)
+
+-- The number n went to the end of the record of c.
+pub record Numbered (c : Controller) (n : ℕ) (r : Kept) : Type 0 where
+  pub ok : r .ok ≡ true
+  pub number : r .number ≡ n
+  pub controller : r .controller ≡ withStatements c (r .controller .statements)
+  pub pushed : Pushed (c .statements) n (r .controller .statements)

@@ -1,5 +1,6 @@
 // The engine of one controller: setup, requests, additions and turns, each a value in and a value out, over a pool that is lent.
 mod calls;
+mod keep;
 
 pub use calls::refuse;
 use pool::Record;
