@@ -6,16 +6,13 @@ use Prim.Native.Nat.{ℕ, _<_, min}
 use lib.ListN.{getD}
 use Rattle.protocol.specs.Lists.{if_then_else_}
 use Rattle.protocol.specs.View.{View, controllers, member}
-use Rattle.protocol.specs.Statement.{Stmt, unbound, bound, barred}
-use Rattle.protocol.specs.Statement as statement
+use Rattle.protocol.specs.Statement.{Stmt}
 use Rattle.protocol.specs.Controller as controller
 use Rattle.protocol.specs.Turn as turn
 use Rattle.views.specs.Table.{table}
 use Rattle.views.specs.Held.{viewIs, viewsIs}
 use Rattle.views.specs.declared.View as held
-use Rattle.statements.specs.declared.Binding.{Binding}
-use Rattle.statements.specs.declared.Binding.the-variants.{Unbound, Bound, Barred}
-use Rattle.statements.specs.Meaning.{stmtOf}
+use Rattle.statements.specs.Meaning.{stmtOf, bindingIs}
 use Rattle.pool.specs.declared.Record.{Record}
 use Rattle.pool.specs.Pool.{stmtAt, poolLen, recordOf}
 use Rattle.engine.specs.declared.Controller.{Controller}
@@ -28,11 +25,6 @@ use Rattle.engine.specs.declared.Answer.the-variants.{Taken, Signed, Ent
 use Rattle.engine.specs.declared.Step.{Step}
 use Rattle.engine.specs.declared.Deed.{Deed}
 use Rattle.engine.specs.declared.Deed.the-variants.{Rest, Sign, Bind, Enter, Deliver}
-
-abbrev pub bindingIs : Binding → statement.Binding
-bindingIs Unbound = unbound
-bindingIs (Bound m) = bound m
-bindingIs Barred = barred
 
 abbrev pub sendIs : Send → Option ℕ
 sendIs Nothing = none

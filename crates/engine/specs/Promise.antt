@@ -1,7 +1,7 @@
 -- What every call promises: its answer, the whole controller and record after it, and the pool.
 -- Assumes nothing.
 use mathlib.Core.Path.{_≡_}
-use mathlib.Core.Bool.{true, false, not}
+use mathlib.Core.Bool.{Bool, true, false, not}
 use mathlib.Core.List.{List, [], _∷_, _++_}
 use mathlib.Core.Option.{Option, some, none}
 use Prim.Native.Nat.{ℕ}
@@ -14,7 +14,8 @@ use Rattle.pool.specs.Pool.{stmtAt}
 use Rattle.pool.specs.Changes.{Pushed}
 use Rattle.engine.specs.declared.Outcome.{Outcome}
 use Rattle.engine.specs.declared.keep.Kept.{Kept}
-use Rattle.engine.specs.declared.Answer.the-variants.{Signed}
+use Rattle.engine.specs.declared.Answer.{Answer}
+use Rattle.engine.specs.declared.Answer.the-variants.{Signed, Left, Quiet}
 use Rattle.engine.specs.Meaning.{controllerIs, withStatements, recordIs, poolIs, Whole, answerIs}
 
 -- The pool after a statement went into it, or none did.
@@ -72,3 +73,26 @@ pub record Numbered (c : Controller) (n : ℕ) (r : Kept) : Type 0 where
   pub number : r .number ≡ n
   pub controller : r .controller ≡ withStatements c (r .controller .statements)
   pub pushed : Pushed (c .statements) n (r .controller .statements)
+
+-- A turn: what it signs goes into the pool.
+abbrev pub Turns : List ℕ → Controller → controller.Outcome → Outcome → List ℕ → Type 0
+Turns W c o r W′ = Meets W c o (signedOf (o .answer)) r W′
+
+-- The statement s, where an addition of it was taken.
+abbrev pub addedOf : controller.Answer → Stmt → Option Stmt
+addedOf controller.taken s = some s
+addedOf (controller.signed x) s = none
+addedOf (controller.entered v) s = none
+addedOf (controller.delivered m) s = none
+addedOf controller.left s = none
+addedOf controller.quiet s = none
+addedOf (controller.refused r) s = none
+
+-- An addition of s.
+abbrev pub Adds : List ℕ → Controller → Stmt → controller.Outcome → Outcome → List ℕ → Type 0
+Adds W c s o r W′ = Meets W c o (addedOf (o .answer) s) r W′
+
+-- What a controller answers that has nothing to do.
+abbrev pub restIs : Bool → Answer
+restIs true = Left
+restIs false = Quiet

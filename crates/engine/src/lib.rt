@@ -1,6 +1,7 @@
 // The engine of one controller: setup, requests, additions and turns, each a value in and a value out, over a pool that is lent.
 mod calls;
 mod keep;
+mod perform;
 
 pub use calls::refuse;
 use pool::Record;
