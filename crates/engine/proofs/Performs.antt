@@ -4,13 +4,13 @@ use mathlib.Core.Path.{_≡_, refl, sym, ap, ap₂, subst, _∙_}
 use mathlib.Core.Bool.{Bool, true, false, not}
 use mathlib.Core.List.{List, [], _∷_, _++_}
 use mathlib.Core.Option.{Option, some, none}
-use Prim.Native.Nat.{ℕ}
+use Prim.Native.Nat.{ℕ, _≤_}
 use native.Mathlib.Omega.{arith}
 use lib.Dec.{T}
 use Rattle.protocol.specs.Sets.{bit}
-use Rattle.protocol.specs.Lists.{if_then_else_}
+use Rattle.protocol.specs.Lists.{if_then_else_, any}
 use Rattle.protocol.specs.View.{View}
-use Rattle.protocol.specs.Statement.{Stmt}
+use Rattle.protocol.specs.Statement.{Stmt, sameStmt, fieldRules}
 use Rattle.protocol.specs.Controller as controller
 use Rattle.protocol.specs.Call as call
 use Rattle.protocol.specs.Pool.{numberOf, hasRoom}
@@ -20,7 +20,10 @@ use Rattle.views.specs.declared.View as held
 use Rattle.views.specs.declared.History.{History}
 use Rattle.statements.specs.declared.Binding.{Binding}
 use Rattle.statements.specs.declared.Binding.the-variants.{Bound}
-use Rattle.statements.specs.Meaning.{bindingIs}
+use Rattle.statements.specs.declared.Statement.{Statement}
+use Rattle.statements.specs.Meaning.{stmtOf, bindingIs}
+use Rattle.statements.proofs.FieldLaws.{views-length}
+use Rattle.statements.proofs.Fits.{keeps-fits}
 use Rattle.pool.specs.declared.Record.{Record}
 use Rattle.pool.specs.Pool.{stmtAt, recordOf}
 use Rattle.engine.specs.declared.Controller.{Controller}
@@ -30,9 +33,15 @@ use Rattle.engine.specs.declared.Deed.{Deed}
 use Rattle.engine.specs.declared.Deed.the-variants.{Rest, Sign, Bind, Enter, Deliver}
 use Rattle.engine.specs.declared.Answer.the-variants.{Taken, Signed, Entered, Delivered, Refused}
 use Rattle.engine.specs.declared.Refusal.{Refusal}
-use Rattle.engine.specs.declared.Refusal.the-variants.{Full}
+use Rattle.engine.specs.declared.Refusal.the-variants.{BadStatement, Repeated, Full, OutOfPlace}
 use Rattle.engine.specs.Meaning.{controllerIs, withStatements, recordIs, poolIs, AllIn, Whole, answerIs, refusalIs, stepIs}
 use Rattle.engine.specs.Promise.{Meets, IsRefused, Turns, Adds, Placed, restIs, signedOf, addedOf}
+
+-- ---- the controller's fields
+
+number-is : (c : Controller) → controllerIs c .number ≡ c .number
+unfolding controllerIs
+number-is c = refl
 
 -- ---- the pool stays as it was
 
@@ -81,10 +90,10 @@ not-full true ok e f = absurd (subst T (sym f ∙ e) tt)
 not-full false ok e f = refl
 
 module _ (W W′ : List ℕ) (c : Controller) (s : Stmt) (k : Kept) (p : Placed W c s k W′) where
-  full-is : k .ok ≡ false → call.isFull (hasRoom (poolIs W)) (recordIs W c) s ≡ true
+  pub full-is : k .ok ≡ false → call.isFull (hasRoom (poolIs W)) (recordIs W c) s ≡ true
   full-is e = is-full (call.isFull (hasRoom (poolIs W)) (recordIs W c) s) (k .ok) (p .room) e
 
-  room-is : k .ok ≡ true → call.isFull (hasRoom (poolIs W)) (recordIs W c) s ≡ false
+  pub room-is : k .ok ≡ true → call.isFull (hasRoom (poolIs W)) (recordIs W c) s ≡ false
   room-is e = not-full (call.isFull (hasRoom (poolIs W)) (recordIs W c) s) (k .ok) (p .room) e
 
   pub sign-full : (after : controller.Controller) (r : Outcome) → k .ok ≡ false → r .answer ≡ Refused Full → r .controller ≡ c
@@ -133,10 +142,6 @@ entering c v b h d e = rw e
 
 -- ---- each deed
 
-number-is : (c : Controller) → controllerIs c .number ≡ c .number
-unfolding controllerIs
-number-is c = refl
-
 module _ (W : List ℕ) (c : Controller) (a : Deed) (st : Stmt) (r : Outcome) where
   pub rest-is : (gone : Bool) → a ≡ Rest → gone ≡ bit (turn.T (controllerIs c) (recordIs W c) .left) (c .number) → r .answer ≡ restIs gone → r .controller ≡ c
       → Turns W c (turn.perform (controllerIs c) (recordIs W c) (hasRoom (poolIs W)) (stepIs a st)) r W
@@ -171,3 +176,59 @@ module _ (W W′ : List ℕ) (c : Controller) (a : Deed) (st : Stmt) (r : Outcom
       → Turns W c (turn.perform (controllerIs c) (recordIs W c) (hasRoom (poolIs W)) (stepIs a st)) r W′
   unfolding turn.perform stepIs
   bind-is m d t = rw d t
+
+-- ---- additions
+
+module _ (c : Controller) (X : List Stmt) (room : Stmt → Bool) (s : Stmt) where
+  pub unready-is : c .ready ≡ false → call.add (controllerIs c) X room s ≡ call.refuse (controllerIs c) X controller.outOfPlace
+  unfolding call.add controllerIs
+  unready-is e = rw e
+
+  pub bad-is : c .ready ≡ true → fieldRules 16 s ≡ false → call.add (controllerIs c) X room s ≡ call.refuse (controllerIs c) X controller.badStatement
+  unfolding call.add controllerIs
+  bad-is e f = rw (e, f)
+
+  pub again-is : c .ready ≡ true → fieldRules 16 s ≡ true → any (sameStmt s) X ≡ true → call.add (controllerIs c) X room s ≡ call.refuse (controllerIs c) X controller.repeated
+  unfolding call.add controllerIs
+  again-is e f g = rw (e, f, g)
+
+  pub no-room-is : c .ready ≡ true → fieldRules 16 s ≡ true → any (sameStmt s) X ≡ false → call.isFull room X s ≡ true → call.add (controllerIs c) X room s ≡ call.refuse (controllerIs c) X controller.full
+  unfolding call.add controllerIs
+  no-room-is e f g h = rw (e, f, g, h)
+
+  pub taken-is : c .ready ≡ true → fieldRules 16 s ≡ true → any (sameStmt s) X ≡ false → call.isFull room X s ≡ false
+      → call.add (controllerIs c) X room s ≡ record { answer = controller.taken; controller = controllerIs c; statements = X ++ (s ∷ []) }
+  unfolding call.add controllerIs
+  taken-is e f g h = rw (e, f, g, h)
+
+module _ (W : List ℕ) (c : Controller) (s : Stmt) where
+  abbrev pub added : controller.Outcome
+  added = call.add (controllerIs c) (recordIs W c) (hasRoom (poolIs W)) s
+
+  -- an addition that is refused for q
+  pub add-refused : (r : Outcome) (q : Refusal) → added ≡ call.refuse (controllerIs c) (recordIs W c) (refusalIs q) → r .answer ≡ Refused q → r .controller ≡ c → Adds W c s added r W
+  add-refused r q e a h = subst (λ o. Adds W c s o r W) (sym e) (refused-turn W c r q a h)
+
+module _ (W W′ : List ℕ) (c : Controller) (s : Stmt) (x : Kept) (pl : Placed W c s x W′) where
+  pub add-full : (r : Outcome) → added W c s ≡ call.refuse (controllerIs c) (recordIs W c) controller.full → x .ok ≡ false → r .answer ≡ Refused Full → r .controller ≡ c → Adds W c s (added W c s) r W′
+  add-full r e n a h = subst (λ (U : List ℕ). Adds W c s (added W c s) r U) (sym (pl .unplaced n)) (add-refused W c s r Full e a h)
+
+  taken-meets : (r : Outcome) → x .ok ≡ true → r .answer ≡ Taken → r .controller ≡ x .controller
+      → Meets W c (record { answer = controller.taken; controller = controllerIs c; statements = recordIs W c ++ (s ∷ []) }) (some s) r W′
+  unfolding answerIs Whole recordIs
+  taken-meets r n a h = record {
+    answer = ap (answerIs W′) a;
+    number = λ y z. let t : _≡_ {A = ℕ} 0 1 = cc in absurd (omega arith);
+    controller = ap controllerIs h ∙ kept-meaning W W′ c s x pl n;
+    statements = λ w. let (t, i) = pl .statements n w in (ap (recordIs W′) h ∙ t, subst (λ (y : Controller). AllIn W′ (y .statements)) (sym h) i);
+    pool = pl .pool n;
+    refused = λ t. absurd t;
+  }
+
+  pub add-kept : (r : Outcome) → added W c s ≡ record { answer = controller.taken; controller = controllerIs c; statements = recordIs W c ++ (s ∷ []) }
+      → x .ok ≡ true → r .answer ≡ Taken → r .controller ≡ x .controller → Adds W c s (added W c s) r W′
+  add-kept r e n a h = subst (λ o. Adds W c s o r W′) (sym e) (taken-meets r n a h)
+
+pub short-by-rules : (st : Statement) (b : Bool) → b ≡ fieldRules 16 (stmtOf st) → b ≡ true → st .history .len ≤ 16
+unfolding stmtOf
+short-by-rules st b e f = omega (arith, keeps-fits (stmtOf st) (subst T (sym (sym e ∙ f)) tt) .count, views-length (st .history .len) (st .history .views))

@@ -1,4 +1,5 @@
 // The engine of one controller: setup, requests, additions and turns, each a value in and a value out, over a pool that is lent.
+mod add;
 mod calls;
 mod keep;
 mod perform;
