@@ -186,7 +186,7 @@ record-grown W W′ ids len st g l all = table-cong (min len 512) (entry W′ id
 -- ---- one number more in a record
 
 pub push-full : (from to : Record) (id n : ℕ) → n ≡ min (from .len) 512 → 512 ≤ n → to .ids ≡ from .ids → to .len ≡ n → Pushed from id to
-push-full from to id n e l p q = record { len = omega arith; means = λ W. same W ∙ sym (pass W) }
+push-full from to id n e l p q = record { len = omega arith; first = λ i h. ap (λ k. getD k i 0) p; last = λ h. absurd (omega arith); means = λ W. same W ∙ sym (pass W) }
   where
     same : (W : List ℕ) → recordOf W (to .ids) (to .len) ≡ recordOf W (from .ids) (from .len)
     same W = ap₂ (λ k m. recordOf W k m) p q ∙ whole W (from .ids) (from .len) n e
@@ -204,7 +204,12 @@ record-set W ids id n l h =
     ∙ ap (λ m. table m (entry W ids) ++ (stmtAt W id ∷ [])) (sym y)
 
 pub push-room : (from to : Record) (id n : ℕ) → n ≡ min (from .len) 512 → n < 512 → length (from .ids) ≡ 512 → to .ids ≡ set (from .ids) n id → to .len ≡ n + 1 → Pushed from id to
-push-room from to id n e l h p q = record { len = omega arith; means = λ W. one W ∙ sym (pass W) }
+push-room from to id n e l h p q = record {
+  len = omega arith;
+  first = λ i m. ap (λ k. getD k i 0) p ∙ getD-set-other (from .ids) n i id 0 (λ d. omega arith);
+  last = λ m. ap₂ (λ k i. getD k i 0) p (sym e) ∙ getD-set-same (from .ids) n id 0 (omega arith);
+  means = λ W. one W ∙ sym (pass W);
+}
   where
     one : (W : List ℕ) → recordOf W (to .ids) (to .len) ≡ recordOf W (from .ids) (from .len) ++ (stmtAt W id ∷ [])
     one W = ap₂ (λ k m. recordOf W k m) p q ∙ record-set W (from .ids) id n l h ∙ ap (λ k. k ++ (stmtAt W id ∷ [])) (whole W (from .ids) (from .len) n e)

@@ -63,6 +63,8 @@ pub record Appended (W W′ : List ℕ) (st : Statement) (r : Placed) : Type 0 w
 
 -- The number id at the end of a record, if that has room.
 pub record Pushed (from : Record) (id : ℕ) (to : Record) : Type 0 where
-  pub len : to .len ≤ 512
+  pub len : to .len ≡ min (min (from .len) 512 + 1) 512
+  pub first : (i : ℕ) → i < min (from .len) 512 → getD (to .ids) i 0 ≡ getD (from .ids) i 0
+  pub last : min (from .len) 512 < 512 → getD (to .ids) (min (from .len) 512) 0 ≡ id
   pub means : (W : List ℕ)
       → recordOf W (to .ids) (to .len) ≡ (if ltb (min (from .len) 512) 512 then recordOf W (from .ids) (from .len) ++ (stmtAt W id ∷ []) else recordOf W (from .ids) (from .len))
