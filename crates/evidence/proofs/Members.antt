@@ -2,15 +2,11 @@
 -- Assumes nothing.
 use mathlib.Core.Path.{_≡_, refl, sym, ap, ap₂, _∙_}
 use mathlib.Core.Logic.{_≢_, _⊎_, inl, inr}
-use mathlib.Core.Bool.{Bool, true, false, not}
 use mathlib.Core.List.{List, [], _∷_, _++_, List·Memᴰ·head, List·Memᴰ·tail, List·Memᴰ·cases-cons, List·Memᴰ·not-nil, List·Memᴰ·append-cases, List·Memᴰ·eq-of-singleton, Memᴰ·cast}
 use Prim.Native.Nat.{ℕ, zero, suc, _+_, _≤_, _<_}
 use native.Mathlib.Decide.{decLt}
 use native.Mathlib.Omega.{arith}
-use lib.Dec.{T}
-use Rattle.protocol.specs.Lists.{_∈_, _⊆_, any, pairwise}
-use Rattle.protocol.proofs.Says.{Says, says-map, says-unique}
-use Rattle.protocol.proofs.Asked.{says-pairwise}
+use Rattle.protocol.specs.Lists.{_∈_, _⊆_}
 use Rattle.protocol.proofs.Different.{Ordered}
 use Rattle.views.specs.Table.{table}
 
@@ -66,8 +62,3 @@ module _ {A : Type 0} where
     same-members (a ∷ k) (b ∷ l) p q s t =
         let e = heads a b k l p q (s a (List·Memᴰ·head refl)) (t b (List·Memᴰ·head refl)) in
         ap₂ _∷_ e (same-members k l (p .1) (q .1) (tails a b k l e p s) (tails b a l k (sym e) q t))
-
-  -- a test of all pairs asks for the members alone
-  pub pairs-same : (p : A → A → Bool) (P : A → A → Type 0) → ((a b : A) → Says (p a b) (P a b)) → (k l : List A) → k ⊆ l → l ⊆ k → pairwise p k ≡ pairwise p l
-  pairs-same p P says k l s t =
-      says-unique (says-pairwise says k) (says-map (λ f a i b j. f a (s a i) b (s b j)) (λ f a i b j. f a (t a i) b (t b j)) (says-pairwise says l))

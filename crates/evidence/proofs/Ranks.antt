@@ -21,13 +21,13 @@ use Rattle.protocol.proofs.Asked.{says-pairwise, candidates-exact}
 use Rattle.protocol.proofs.Order as order
 use Rattle.views.specs.View.{viewOf, ring}
 use Rattle.views.proofs.Sets.{count-le}
-use Rattle.views.proofs.Views.{fails, fits}
+use Rattle.views.proofs.Views.{passes, fails, fits}
 use Rattle.votes.specs.Tables.{high}
 use Rattle.evidence.specs.declared.candidates.Ranked.{Ranked}
-use Rattle.evidence.specs.Slots.{viewsOf, Stands, Slots, Clash, occupied, Listed}
+use Rattle.evidence.specs.Slots.{viewScale, viewIn, viewsOf, Stands, Slots, Clash, occupied, Broken, Compared, Listed}
 use Rattle.evidence.specs.Shown.{Choices, CandidatesOf}
-use Rattle.evidence.proofs.Members.{Climbs, same-members, pairs-same}
-use Rattle.evidence.proofs.Slots.{occupied-in, occupied-out, occupied-climbs}
+use Rattle.evidence.proofs.Members.{Climbs, same-members}
+use Rattle.evidence.proofs.Slots.{within-size, occupied-in, occupied-out, occupied-climbs}
 
 abbrev Compare : View → View → Type 0
 Compare u v = Within 16 u v ⊎ Within 16 v u
@@ -36,7 +36,7 @@ pub says-comparable : (u v : View) → Says (comparable 16 u v) (Compare u v)
 unfolding comparable
 says-comparable u v = says-or (says-within {u = u} {v = v}) (says-within {u = v} {v = u})
 
-size-least : (v : View) → size 16 v < 33
+pub size-least : (v : View) → size 16 v < 33
 unfolding size
 size-least v = omega (arith, count-le 16 (bit (v .joined)), count-le 16 (bit (v .left)))
 
@@ -59,12 +59,12 @@ module _ (init : ℕ) (X : List Stmt) (C M : List ℕ) (n : ℕ) (choices : Choi
   abbrev all : List View
   all = candidates (ring init) X
 
-  stands-in : (w : ℕ) → Stands init C M n w → viewOf w ∈ all
+  stands-in : (w : ℕ) → Stands viewScale init (viewIn C) M n w → viewOf w ∈ all
   stands-in w (inl e) = candidates-exact (ring init) X (viewOf w) .1 (initial (ap viewOf e))
   stands-in w (inr (c, l, m, e)) = candidates-exact (ring init) X (viewOf w) .1 (subst (λ x. Candidate (ring init) X (viewOf x)) e (choices .sound c l m))
 
   -- two of one size
-  pub clash-conflict : Clash init C M n → (count : ℕ) (views : List ℕ) → CandidatesOf init X (record { conflict = true; many = false; count = count; views = views })
+  pub clash-conflict : Clash viewScale init (viewIn C) M n → (count : ℕ) (views : List ℕ) → CandidatesOf init X (record { conflict = true; many = false; count = count; views = views })
   clash-conflict k count views = record {
     conflict = ap not (sym (fails (says-pairwise says-comparable all)
         (λ h. level-apart (fits (k .one)) (fits (k .other)) (k .differ) (k .level) (h _ (stands-in (k .one) (k .stands)) _ (stands-in (k .other) (k .besides))))));
@@ -72,45 +72,50 @@ module _ (init : ℕ) (X : List Stmt) (C M : List ℕ) (n : ℕ) (choices : Choi
     views = λ e. absurd (subst T e tt);
   }
 
-  module _ (S : List ℕ) (slots : Slots init C M n S) where
-    slots-in : occupied S 33 ⊆ all
-    slots-in v m = let (j, l, e, f) = occupied-out S 33 m in subst (λ v. v ∈ all) f (stands-in (getD S j 0) (slots .sound j l))
+  module _ (S : List ℕ) (slots : Slots viewScale init (viewIn C) M n S) where
+    abbrev shown : List View
+    shown = occupied viewScale S 33
 
-    word : (w : ℕ) → Stands init C M n w → viewOf w ∈ occupied S 33
+    slots-in : shown ⊆ all
+    slots-in v m = let (j, l, e, f) = occupied-out viewScale S 33 m in subst (λ v. v ∈ all) f (stands-in (getD S j 0) (slots .sound j l))
+
+    word : (w : ℕ) → Stands viewScale init (viewIn C) M n w → viewOf w ∈ shown
     word w s =
-        let e : getD S (size 16 (viewOf w)) 0 ≡ w = slots .complete w s in
-        subst (λ x. viewOf x ∈ occupied S 33) e (occupied-in S 33 (size 16 (viewOf w)) (size-least (viewOf w)) (ap (λ x. size 16 (viewOf x)) e))
+        let e : viewOf (getD S (size 16 (viewOf w)) 0) ≡ viewOf w = slots .complete w s in
+        subst (λ v. v ∈ shown) e (occupied-in viewScale S 33 (size 16 (viewOf w)) (size-least (viewOf w)) (ap (size 16) e))
 
-    in-slots : all ⊆ occupied S 33
+    in-slots : all ⊆ shown
     in-slots v m = go (choices .complete v (candidates-exact (ring init) X v .0 m))
       where
-        go : (v ≡ viewOf init) ⊎ ((c : ℕ) × (c < n) × (getD M c 0 ≡ 1) × (viewOf (high (getD C c 0)) ≡ v)) → v ∈ occupied S 33
-        go (inl e) = subst (λ v. v ∈ occupied S 33) (sym e) (word init (inl refl))
-        go (inr (c, l, k, e)) = subst (λ v. v ∈ occupied S 33) e (word (high (getD C c 0)) (inr (c, l, k, refl)))
-
-    pairs : pairwise (comparable 16) (occupied S 33) ≡ pairwise (comparable 16) all
-    pairs = pairs-same (comparable 16) Compare says-comparable (occupied S 33) all slots-in in-slots
+        go : (v ≡ viewOf init) ⊎ ((c : ℕ) × (c < n) × (getD M c 0 ≡ 1) × (viewOf (high (getD C c 0)) ≡ v)) → v ∈ shown
+        go (inl e) = subst (λ v. v ∈ shown) (sym e) (word init (inl refl))
+        go (inr (c, l, k, e)) = subst (λ v. v ∈ shown) e (word (high (getD C c 0)) (inr (c, l, k, refl)))
 
     fit : (v : View) → v ∈ all → Fits 16 v
-    fit v m = let (j, l, e, f) = occupied-out S 33 (in-slots v m) in subst (Fits 16) f (fits (getD S j 0))
+    fit v m = let (j, l, e, f) = occupied-out viewScale S 33 (in-slots v m) in subst (Fits 16) f (fits (getD S j 0))
 
-    exact : true ≡ pairwise (comparable 16) (occupied S 33) → occupied S 33 ≡ all
+    exact : ((u : View) → u ∈ shown → (v : View) → v ∈ shown → Compare u v) → shown ≡ all
     exact t =
-        same-members (size 16) (occupied S 33) all (occupied-climbs S 33)
-        (climbs (ring init) refl all (order.candidates-ordered (ring init) X) fit (says-pairwise says-comparable all .sound (subst T (t ∙ pairs) tt))) slots-in in-slots
+        same-members (size 16) shown all (occupied-climbs viewScale S 33)
+        (climbs (ring init) refl all (order.candidates-ordered (ring init) X) fit (λ u i v j. t u (in-slots u i) v (in-slots v j))) slots-in in-slots
 
-    pub apart-conflict : (b : Bool) → b ≡ pairwise (comparable 16) (occupied S 33) → b ≡ false → (count : ℕ) (views : List ℕ)
-        → CandidatesOf init X (record { conflict = true; many = false; count = count; views = views })
-    apart-conflict b e f count views = record {
-      conflict = ap not (sym f ∙ e ∙ pairs);
+    -- one is smaller than another, and not within it
+    apart : (u v : View) → size 16 u < size 16 v → (Within 16 u v → ⊥) → Compare u v → ⊥
+    apart u v l n (inl w) = n w
+    apart u v l n (inr w) = omega (arith, within-size w)
+
+    pub apart-conflict : Broken viewScale S 33 → (count : ℕ) (views : List ℕ) → CandidatesOf init X (record { conflict = true; many = false; count = count; views = views })
+    apart-conflict k count views = record {
+      conflict = ap not (sym (fails (says-pairwise says-comparable all)
+          (λ h. apart (k .lower) (k .upper) (k .less) (k .apart) (h _ (slots-in _ (k .lower-in)) _ (slots-in _ (k .upper-in))))));
       many = λ e. absurd (subst T e tt);
       views = λ e. absurd (subst T e tt);
     }
 
-    pub ranked : (b : Bool) → b ≡ pairwise (comparable 16) (occupied S 33) → b ≡ true → (count : ℕ) (views : List ℕ) → Listed S views count
+    pub ranked : ((u : View) → u ∈ shown → (v : View) → v ∈ shown → Compare u v) → (count : ℕ) (views : List ℕ) → Listed S views count
         → CandidatesOf init X (record { conflict = false; many = ltb 16 count; count = count; views = views })
-    ranked b e f count views listed = record {
-      conflict = ap not (sym f ∙ e ∙ pairs);
-      many = λ z. listed .many ∙ ap (λ l. ltb 16 (length l)) (exact (sym f ∙ e));
-      views = λ z h. listed .views (ltb-false 16 count h) ∙ exact (sym f ∙ e);
+    ranked t count views listed = record {
+      conflict = ap not (sym (passes (says-pairwise says-comparable all) (λ u i v j. t u (in-slots u i) v (in-slots v j))));
+      many = λ z. listed .many ∙ ap (λ l. ltb 16 (length l)) (exact t);
+      views = λ z h. listed .views (ltb-false 16 count h) ∙ exact t;
     }

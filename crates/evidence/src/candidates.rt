@@ -3,12 +3,11 @@ ghost use mathlib.Core.Path.{_≡_};
 ghost use mathlib.Core.List.{List};
 ghost use Prim.Native.Nat.{_≤_, _<_};
 ghost use lib.ListN.{getD, length};
-ghost use Rattle.protocol.specs.Lists.{pairwise};
-ghost use Rattle.protocol.specs.View.{size, comparable};
+ghost use Rattle.protocol.specs.View.{size};
 ghost use Rattle.protocol.specs.Statement.{Stmt};
 ghost use Rattle.views.specs.View.{viewOf};
 ghost use Rattle.votes.specs.Tables.{high};
-ghost use Rattle.evidence.specs.Slots.{Slots, Filled, occupied, Listed};
+ghost use Rattle.evidence.specs.Slots.{viewScale, viewIn, Slots, Filled, Compared, Listed};
 ghost use Rattle.evidence.specs.Shown.{Choices, CandidatesOf};
 
 // The candidates in order, or that two of them are incomparable; `many` where there are more than sixteen.
@@ -41,7 +40,7 @@ fn slot_at(slots: &[u32; 33], k: usize) -> u32
     slots[k]
 }
 
-// Puts the views of the marked choices into the slots of their sizes. A slot in which another size stands is free. False where two of one size differ.
+// Puts the views of the marked choices into the slots of their sizes; false where two of one size differ.
 fn fill_slots(
     chosen: &[u64; 512],
     nc: usize,
@@ -49,8 +48,8 @@ fn fill_slots(
     init: u32,
     slots: &mut [u32; 33],
 ) -> bool
-    requires { ⌜ (nc ≤ 512) × Slots init (now chosen) (now mc) 0 (now slots) ⌝ }
-    ensures { λ r. ⌜ Filled init (now (chosen .entry)) (now (mc .entry)) nc (now (slots .exit)) r ⌝ }
+    requires { ⌜ (nc ≤ 512) × Slots viewScale init (viewIn (now chosen)) (now mc) 0 (now slots) ⌝ }
+    ensures { λ r. ⌜ Filled viewScale init (viewIn (now (chosen .entry))) (now (mc .entry)) nc (now (slots .exit)) r ⌝ }
 {
     let mut c = 0usize;
     while c < nc {
@@ -76,13 +75,20 @@ fn fill_slots(
 
 // Whether every two views of the slots are comparable: it is enough that each lies within the next.
 fn compare_slots(slots: &[u32; 33]) -> bool
-    ensures { λ r. ⌜ r ≡ pairwise (comparable 16) (occupied (now (slots .entry)) 33) ⌝ }
+    ensures { λ r. ⌜ Compared (now (slots .entry)) r ⌝ }
 {
+    let mut some = false;
     let mut last = 0u32;
     let mut k = 0usize;
     while k < 33 {
         let v = slot_at(slots, k);
         if size_of(v) != k {
+            k += 1;
+            continue;
+        }
+        if !some {
+            some = true;
+            last = v;
             k += 1;
             continue;
         }

@@ -1,8 +1,10 @@
 use borrow.Author.Needs.{needs}
 use native.Mathlib.Omega.{arith}
 use Prim.Native.Nat.{_+_, _-_, _≤_, _<_}
-use mathlib.Core.Path.{_≡_, sym, _∙_}
-use Rattle.evidence.specs.Slots.{Slots}
+use mathlib.Core.Path.{_≡_, sym, ap, _∙_}
+use Rattle.views.specs.View.{viewOf}
+use Rattle.views.proofs.Views.{view-inj}
+use Rattle.evidence.specs.Slots.{viewScale, viewIn, Slots}
 use Rattle.evidence.proofs.Slots as laws
 use Rattle.evidence.proofs.candidates.fill_slots.Statement.{statement}
 use Rattle.evidence.proofs.candidates.fill_slots.Tie as tie
@@ -13,7 +15,7 @@ use Rattle.evidence.proofs.candidates.size_of.Reads as size-of-reads
 use Rattle.evidence.proofs.candidates.slot_at.Reads as slot-at-reads
 
 abbrev Inv-loop : tie.InvT-loop
-Inv-loop chosen nc mc init slots₀ c₀ slots c = (c ≤ nc) × Slots init chosen mc c slots
+Inv-loop chosen nc mc init slots₀ c₀ slots c = (c ≤ nc) × Slots viewScale init (viewIn chosen) mc c slots
 
 abbrev μ-loop : tie.MeasureT-loop
 μ-loop chosen nc mc init slots₀ c₀ slots c = nc - c
@@ -36,7 +38,7 @@ loop-less c = search needs
 
 -- src/candidates.rt:50:5
 loop-again : tie.Need-loop-again Inv-loop μ-loop
-loop-again c = (omega arith, laws.slots-skip _ _ _ _ (c .if1 .taken) (c .before .before .before .loop .inv .1))
+loop-again c = (omega arith, laws.slots-skip viewScale _ _ _ _ (c .if1 .taken) (c .before .before .before .loop .inv .1))
 
 -- src/candidates.rt:55:25
 mul-high-of : tie.Need-mul-high-of Inv-loop μ-loop
@@ -68,7 +70,7 @@ loop-less-2 c = search needs
 
 -- src/candidates.rt:50:5
 loop-again-2 : tie.Need-loop-again-2 Inv-loop μ-loop
-loop-again-2 c = (omega arith, laws.slots-same _ _ _ _ _ _ _ (c .before .before .before .before .before .before .if1 .left) (c .before .before .before .before .high-of .ensures) (c .before .before .before .size-of .ensures .0) (c .before .slot-at .ensures) (c .if2 .taken) (c .before .before .before .before .before .before .before .before .before .loop .inv .1))
+loop-again-2 c = (omega arith, laws.slots-same viewScale _ _ _ _ _ _ _ (c .before .before .before .before .before .before .if1 .left) (c .before .before .before .before .high-of .ensures) (c .before .before .before .size-of .ensures .0) (c .before .slot-at .ensures) (ap viewOf (c .if2 .taken)) (c .before .before .before .before .before .before .before .before .before .loop .inv .1))
 
 -- src/candidates.rt:62:12
 size-of-requires-2 : tie.Need-size-of-requires-2 Inv-loop μ-loop
@@ -76,7 +78,7 @@ size-of-requires-2 c κs = search needs
 
 -- src/candidates.rt:63:13
 returns : tie.Need-returns Inv-loop μ-loop
-returns c = laws.slots-clash _ _ _ _ _ _ _ (c .before .before .before .before .before .before .before .before .if1 .left) (c .before .before .before .before .before .before .high-of .ensures) (c .before .before .before .before .before .size-of .ensures .0) (c .before .before .before .slot-at .ensures) _ (c .before .before .before .before .before .before .before .before .before .before .loop-test .taken) (omega (arith, c .before .before .before .before .before .size-of .ensures .1)) (omega arith) (omega arith) (c .before .before .if2 .left) (sym (c .before .size-of2 .ensures .0) ∙ c .if3 .taken) (c .before .before .before .before .before .before .before .before .before .before .before .loop .inv .1)
+returns c = laws.slots-clash viewScale _ _ _ _ _ _ _ (c .before .before .before .before .before .before .before .before .if1 .left) (c .before .before .before .before .before .before .high-of .ensures) (c .before .before .before .before .before .size-of .ensures .0) (c .before .before .before .slot-at .ensures) _ (c .before .before .before .before .before .before .before .before .before .before .loop-test .taken) (omega (arith, c .before .before .before .before .before .size-of .ensures .1)) (λ q. c .before .before .if2 .left (view-inj _ _ (omega arith) (omega arith) q)) (sym (c .before .size-of2 .ensures .0) ∙ c .if3 .taken) (c .before .before .before .before .before .before .before .before .before .before .before .loop .inv .1)
 
 -- src/candidates.rt:65:9
 mul-slots : tie.Need-mul-slots Inv-loop μ-loop
@@ -96,11 +98,11 @@ loop-less-3 c = search needs
 
 -- src/candidates.rt:50:5
 loop-again-3 : tie.Need-loop-again-3 Inv-loop μ-loop
-loop-again-3 c = (omega arith, laws.slots-put _ _ _ _ _ _ _ (c .before .before .before .before .before .before .before .before .if1 .left) (c .before .before .before .before .before .before .high-of .ensures) (c .before .before .before .before .before .size-of .ensures .0) (c .before .before .before .slot-at .ensures) (omega (arith, c .before .before .before .before .before .size-of .ensures .1)) (λ q. c .if3 .left (c .before .size-of2 .ensures .0 ∙ q)) (c .before .before .before .before .before .before .before .before .before .before .before .loop .inv .1))
+loop-again-3 c = (omega arith, laws.slots-put viewScale _ _ _ _ _ _ _ (c .before .before .before .before .before .before .before .before .if1 .left) (c .before .before .before .before .before .before .high-of .ensures) (c .before .before .before .before .before .size-of .ensures .0) (c .before .before .before .slot-at .ensures) (omega (arith, c .before .before .before .before .before .size-of .ensures .1)) (λ q. c .if3 .left (c .before .size-of2 .ensures .0 ∙ q)) (c .before .before .before .before .before .before .before .before .before .before .before .loop .inv .1))
 
 -- src/candidates.rt:45:1
 returns-2 : tie.Need-returns-2 Inv-loop μ-loop
-returns-2 c = laws.slots-done _ _ _ _ _ (omega arith) (c .before .loop .inv .1)
+returns-2 c = laws.slots-done viewScale _ _ _ _ _ (omega arith) (c .before .loop .inv .1)
 
 pub fill-slots-spec : {M : Type 1} → statement M
 fill-slots-spec =
