@@ -252,6 +252,14 @@ module _ (Q : Scale) where
         apart = n;
       }
 
+-- one word more
+pub views-put : (a : List ℕ) (n v : ℕ) → n < length a → viewsOf (set a n v) (suc n) ≡ viewsOf a n ++ (viewOf v ∷ [])
+unfolding viewsOf table
+views-put a n v l =
+    ap₂ (λ l x. l ++ (viewOf x ∷ []))
+    (table-cong n (λ i. viewOf (getD (set a n v) i 0)) (λ i. viewOf (getD a i 0)) (λ i h. ap viewOf (getD-set-other a n i v 0 (λ q. omega arith))))
+    (getD-set-same a n v 0 l)
+
 module _ (S : List ℕ) where
   abbrev shown : ℕ → List View
   shown k = occupied viewScale S k
@@ -287,14 +295,10 @@ module _ (S : List ℕ) where
     slot-level = ap (λ x. size 16 (viewOf x)) (sym is) ∙ sym sized ∙ there
 
     pub listed-more : n < 16 → ListedTo (set out n v) (n + 1) (k + 1)
-    unfolding viewsOf table
     listed-more l = record {
       long = length-set out n v ∙ c .long;
       views = rw (add-one, add-one) (
-          ap₂ (λ l x. l ++ (viewOf x ∷ []))
-          (table-cong n (λ i. viewOf (getD (set out n v) i 0)) (λ i. viewOf (getD out i 0)) (λ i h. ap viewOf (getD-set-other out n i v 0 (λ q. omega arith))))
-          (getD-set-same out n v 0 (omega (arith, c .long)) ∙ is)
-          ∙ ap (λ l. l ++ (viewOf (getD S k 0) ∷ [])) (c .views) ∙ sym (here-one viewScale S k slot-level));
+          views-put out n v (omega (arith, c .long)) ∙ ap₂ (λ l x. l ++ (viewOf x ∷ [])) (c .views) is ∙ sym (here-one viewScale S k slot-level));
     }
 
     pub listed-many : n ≡ 16 → k < 33 → Listed S out 17
