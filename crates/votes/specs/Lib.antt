@@ -1,2 +1,3 @@
 pub mod Votes
 pub mod Tables
+pub mod Keys
