@@ -2,3 +2,4 @@ pub mod Members
 pub mod Slots
 pub mod Ranks
 pub mod Summits
+pub mod Backing

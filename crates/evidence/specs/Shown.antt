@@ -2,22 +2,25 @@
 -- Assumes nothing.
 use mathlib.Core.Path.{_≡_}
 use mathlib.Core.Logic.{_⊎_}
-use mathlib.Core.Bool.{Bool, true, false, not, _||_}
+use mathlib.Core.Bool.{Bool, true, false, not, _&&_, _||_}
 use mathlib.Core.List.{List, [], _∷_}
-use Prim.Native.Nat.{ℕ, _≤_, _<_}
-use lib.Dec.{ltb}
+use Prim.Native.Nat.{ℕ, _≤_, _<_, min}
+use lib.Dec.{T, eqb, ltb}
 use lib.ListN.{getD, length}
-use Rattle.protocol.specs.Lists.{_∈_, pairwise}
+use Rattle.protocol.specs.Lists.{pairwise, first, when}
 use Rattle.protocol.specs.View.{View, comparable}
 use Rattle.protocol.specs.History.{holds, Holds}
-use Rattle.protocol.specs.Statement.{Stmt}
-use Rattle.protocol.specs.Evidence.{Candidate, candidates, Sealed, sealedHistories}
+use Rattle.protocol.specs.Statement.{Stmt, isKind}
+use Rattle.protocol.specs.Evidence.{signedByQuorum, Candidate, candidates, Sealed, sealedHistories, prepares, isPrepared, certificates}
+use Rattle.protocol.specs.Grounds.{isTop}
 use Rattle.views.specs.View.{viewOf, ring}
-use Rattle.pool.specs.Pool.{stmtAt}
+use Rattle.pool.specs.Pool.{stmtAt, recordOf}
+use Rattle.votes.specs.Votes.{alike, entry}
 use Rattle.votes.specs.Tables.{high}
 use Rattle.evidence.specs.Slots.{historyScale, viewsOf, Broken, Chain}
 use Rattle.evidence.specs.declared.candidates.Ranked.{Ranked}
 use Rattle.evidence.specs.declared.histories.Summit.{Summit}
+use Rattle.evidence.specs.declared.certificates.Certified.{Certified}
 
 -- r is the first of n that is marked, or n.
 pub record FirstMarked (M : List ℕ) (n r : ℕ) : Type 0 where
@@ -51,3 +54,32 @@ module _ (init : ℕ) (X : List Stmt) where
     pub conflict : r .conflict ≡ not (pairwise (λ H K. holds H K || holds K H) (sealedHistories (ring init) X))
     pub sealed : r .conflict ≡ false → Sealed (ring init) X (viewsOf (r .views) (r .length))
     pub holds : r .conflict ≡ false → (K : List View) → Sealed (ring init) X K → Holds (viewsOf (r .views) (r .length)) K
+
+  -- An ack or a store, by a quorum of a sealed top.
+  unfoldable pub isBacked : Stmt → Bool
+  isBacked s = (isKind 7 s || isKind 8 s) && signedByQuorum 16 X (s .at) (alike s) && isTop (ring init) X (s .at)
+
+-- B marks the groups of acks and stores that are by a quorum of a sealed top; F g is the place of a vote of group g.
+module _ (W ids : List ℕ) (len init : ℕ) where
+  pub record Backed (F : List ℕ) (n : ℕ) (B : List ℕ) : Type 0 where
+    pub most : n ≤ 512
+    pub place : (g : ℕ) → g < n → getD F g 0 < min len 512
+    pub sound : (g : ℕ) → g < n → getD B g 0 ≡ 1 → T (isBacked init (recordOf W ids len) (entry W ids (getD F g 0)))
+    pub covers : (i : ℕ) → i < min len 512 → T (isBacked init (recordOf W ids len) (entry W ids i))
+        → (g : ℕ) × (g < n) × (getD B g 0 ≡ 1) × T (alike (entry W ids (getD F g 0)) (entry W ids i))
+
+-- A prepare of m by the sender.
+unfoldable pub preparesIt : ℕ → ℕ → Stmt → Bool
+preparesIt sender m s = prepares sender s && eqb (s .payload) m
+
+-- An ack of what the sender prepared.
+unfoldable pub certifies : ℕ → List Stmt → Stmt → Bool
+certifies sender X s = isKind 7 s && isPrepared sender X (s .payload)
+
+-- A store of m.
+unfoldable pub storesIt : ℕ → Stmt → Bool
+storesIt m s = isKind 8 s && eqb (s .payload) m
+
+pub record CertificatesOf (init sender : ℕ) (X : List Stmt) (r : Certified) : Type 0 where
+  pub conflict : r .conflict ≡ not (pairwise eqb (certificates (ring init) sender X))
+  pub certificate : r .conflict ≡ false → when (r .some) (r .payload) ≡ first (certificates (ring init) sender X)

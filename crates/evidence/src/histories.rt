@@ -9,6 +9,7 @@ ghost use Rattle.protocol.specs.Statement.{Stmt};
 ghost use Rattle.pool.specs.Pool.{stmtAt};
 ghost use Rattle.evidence.specs.Slots.{historyScale, entryIn, viewsOf, Slots, Filled};
 ghost use Rattle.evidence.specs.Shown.{FirstMarked, ChainOf, Agreements, HistoriesOf};
+use pool::POOL_WORDS;
 
 // The greatest sealed history, or that two of them are apart.
 pub struct Summit {
@@ -24,7 +25,7 @@ struct Links {
 }
 
 // Whether statement i has every view of statement j.
-fn has_views(words: &[u64; 16385], i: u16, j: u16) -> bool
+fn has_views(words: &[u64; POOL_WORDS], i: u16, j: u16) -> bool
     ensures { λ r. ⌜ r ≡ holds (stmtAt (now (words .entry)) i .views) (stmtAt (now (words .entry)) j .views) ⌝ }
 {
     let c = pool::count(words, j);
@@ -71,7 +72,7 @@ fn first_marked(ma: &[u8; 512], na: usize) -> usize
 
 // Puts the histories of the marked agreements into the slots of their lengths; false where two of one length differ.
 fn fill_lengths(
-    words: &[u64; 16385],
+    words: &[u64; POOL_WORDS],
     entry: &[u16; 512],
     na: usize,
     ma: &[u8; 512],
@@ -104,7 +105,7 @@ fn fill_lengths(
 }
 
 // Whether every two histories in the slots hold one the other: it is enough that each is held by the next.
-fn link_lengths(words: &[u64; 16385], slots: &[u16; 17]) -> Links
+fn link_lengths(words: &[u64; POOL_WORDS], slots: &[u16; 17]) -> Links
     ensures { λ r. ⌜ ChainOf (now (words .entry)) (now (slots .entry)) (r .whole) (r .last) ⌝ }
 {
     let mut some = false;
@@ -132,7 +133,7 @@ fn link_lengths(words: &[u64; 16385], slots: &[u16; 17]) -> Links
 }
 
 // Copies the views of statement n: how many.
-fn copy_views(words: &[u64; 16385], n: u16, out: &mut [u32; 16]) -> usize
+fn copy_views(words: &[u64; POOL_WORDS], n: u16, out: &mut [u32; 16]) -> usize
     requires { ⌜ length (now out) ≡ 16 ⌝ }
     ensures { λ r. ⌜ viewsOf (now (out .exit)) r ≡ stmtAt (now (words .entry)) n .views ⌝ }
 {
@@ -147,7 +148,7 @@ fn copy_views(words: &[u64; 16385], n: u16, out: &mut [u32; 16]) -> usize
 
 // The greatest sealed history of a record, of whose agreements `ma` marks those that seal theirs.
 pub fn climb(
-    words: &[u64; 16385],
+    words: &[u64; POOL_WORDS],
     entry: &[u16; 512],
     na: usize,
     ma: &[u8; 512],
