@@ -37,17 +37,21 @@ use Rattle.evidence.proofs.Members.{table-in, table-out}
 
 -- ---- tests of one statement
 
-pub prepares-kind : (sender m k : ℕ) (s : Stmt) → k ≡ s .kind → (k ≡ 6 → ⊥) → false ≡ preparesIt sender m s
-unfolding preparesIt prepares isKind
-prepares-kind sender m k s e n = rw (sym e, ne-eqb k 6 n)
+pub prepare-kind : (sender k : ℕ) (s : Stmt) → k ≡ s .kind → (k ≡ 6 → ⊥) → false ≡ prepares sender s
+unfolding prepares isKind
+prepare-kind sender k s e n = rw (sym e, ne-eqb k 6 n)
 
-pub prepares-origin : (sender m k o : ℕ) (s : Stmt) → k ≡ s .kind → k ≡ 6 → o ≡ s .origin → (o ≡ sender → ⊥) → false ≡ preparesIt sender m s
-unfolding preparesIt prepares isKind
-prepares-origin sender m k o s e f g n = rw (sym e, eq-eqb k 6 f, sym g, ne-eqb o sender n)
+pub prepare-origin : (sender k o : ℕ) (s : Stmt) → k ≡ s .kind → k ≡ 6 → o ≡ s .origin → eqb o sender ≡ prepares sender s
+unfolding prepares isKind
+prepare-origin sender k o s e f g = rw (sym e, eq-eqb k 6 f, sym g)
 
-pub prepares-payload : (sender m k o p : ℕ) (s : Stmt) → k ≡ s .kind → k ≡ 6 → o ≡ s .origin → o ≡ sender → p ≡ s .payload → eqb p m ≡ preparesIt sender m s
-unfolding preparesIt prepares isKind
-prepares-payload sender m k o p s e f g h q = rw (sym e, eq-eqb k 6 f, sym g, eq-eqb o sender h, sym q)
+pub prepares-not : (sender m : ℕ) (s : Stmt) (r : Bool) → r ≡ prepares sender s → r ≡ false → false ≡ preparesIt sender m s
+unfolding preparesIt
+prepares-not sender m s r e f = sym (ap (λ b. b && eqb (s .payload) m) (sym e ∙ f))
+
+pub prepares-payload : (sender m p : ℕ) (s : Stmt) (r : Bool) → r ≡ prepares sender s → r ≡ true → p ≡ s .payload → eqb p m ≡ preparesIt sender m s
+unfolding preparesIt
+prepares-payload sender m p s r e f g = ap (λ x. eqb x m) g ∙ sym (ap (λ b. b && eqb (s .payload) m) (sym e ∙ f))
 
 pub certifies-kind : (sender k : ℕ) (X : List Stmt) (s : Stmt) → k ≡ s .kind → (k ≡ 7 → ⊥) → false ≡ certifies sender X s
 unfolding certifies isKind

@@ -3,3 +3,6 @@ pub mod Slots
 pub mod Ranks
 pub mod Summits
 pub mod Backing
+pub mod Reporting
+pub mod Merging
+pub mod Turns

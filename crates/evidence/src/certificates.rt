@@ -122,14 +122,21 @@ pub fn mark_backed(
     }
 }
 
-// Whether statement s is a prepare of m by the sender.
-fn prepares_it(words: &[u64; POOL_WORDS], s: u16, sender: u8, m: u64) -> bool
-    ensures { λ r. ⌜ r ≡ preparesIt sender m (stmtAt (now (words .entry)) s) ⌝ }
+// Whether statement s is a prepare of the sender.
+pub fn is_prepare(words: &[u64; POOL_WORDS], s: u16, sender: u8) -> bool
+    ensures { λ r. ⌜ r ≡ prepares sender (stmtAt (now (words .entry)) s) ⌝ }
 {
     if pool::kind(words, s) != 6 {
         return false;
     }
-    if pool::origin(words, s) != sender as u64 {
+    pool::origin(words, s) == sender as u64
+}
+
+// Whether statement s is a prepare of m by the sender.
+fn prepares_it(words: &[u64; POOL_WORDS], s: u16, sender: u8, m: u64) -> bool
+    ensures { λ r. ⌜ r ≡ preparesIt sender m (stmtAt (now (words .entry)) s) ⌝ }
+{
+    if !is_prepare(words, s, sender) {
         return false;
     }
     pool::payload(words, s) == m

@@ -1,39 +1,29 @@
 use native.Mathlib.Omega.{arith}
-use mathlib.Core.Path.{_≡_, sym, _∙_}
+use borrow.Author.Tests.{not-true, not-false}
 use Rattle.evidence.proofs.Backing as laws
 use borrow.Author.Needs.{needs}
 use Rattle.evidence.proofs.certificates.prepares_it.Statement.{statement}
 use Rattle.evidence.proofs.certificates.prepares_it.Tie as tie
 use Rattle.evidence.proofs.certificates.prepares_it.Reads as reads
 use Rattle.evidence.proofs.certificates.prepares_it.Lts as lts
-use Rattle.pool.proofs.kind.Reads as kind-reads
-use Rattle.pool.proofs.origin.Reads as origin-reads
+use Rattle.evidence.proofs.certificates.is_prepare.Reads as is-prepare-reads
 use Rattle.pool.proofs.payload.Reads as payload-reads
 
--- src/certificates.rt:129:8
-kind-requires : tie.Need-kind-requires
-kind-requires c κs = search needs
+-- src/certificates.rt:139:9
+is-prepare-requires : tie.Need-is-prepare-requires
+is-prepare-requires c κs = search needs
 
--- src/certificates.rt:130:9
+-- src/certificates.rt:140:9
 returns : tie.Need-returns
-returns c = laws.prepares-kind _ _ _ _ (c .before .kind .ensures .0) (c .if1 .taken)
+returns c = laws.prepares-not _ _ _ _ (c .before .is-prepare .ensures) (not-true _ (c .if1 .taken))
 
--- src/certificates.rt:132:8
-origin-requires : tie.Need-origin-requires
-origin-requires c κs = search needs
-
--- src/certificates.rt:133:9
-returns-2 : tie.Need-returns-2
-returns-2 c = laws.prepares-origin _ _ _ _ _ (c .before .before .before .kind .ensures .0) (c .before .before .if1 .left) (c .before .origin .ensures .0) (c .if2 .taken)
-
--- src/certificates.rt:135:5
+-- src/certificates.rt:142:5
 payload-requires : tie.Need-payload-requires
 payload-requires c κs = search needs
 
--- src/certificates.rt:126:1
-returns-3 : tie.Need-returns-3
-returns-3 c = laws.prepares-payload _ _ _ _ _ _ (c .before .before .before .before .kind .ensures .0) (c .before .before .before .if1 .left) (c .before .before .origin .ensures .0) (c .before .if2 .left) (c .payload .ensures)
+-- src/certificates.rt:136:1
+returns-2 : tie.Need-returns-2
+returns-2 c = laws.prepares-payload _ _ _ _ _ (c .before .before .is-prepare .ensures) (not-false _ (c .before .if1 .left)) (c .payload .ensures)
 
 pub prepares-it-spec : {M : Type 1} → statement M
-prepares-it-spec =
-    tie.close (tie.spec kind-requires returns origin-requires returns-2 payload-requires returns-3)
+prepares-it-spec = tie.close (tie.spec is-prepare-requires returns payload-requires returns-2)
