@@ -150,7 +150,7 @@ module _ (W ids : List ℕ) where
           oldF h = getD-set-other F n h i 0
 
           fresh : (h : ℕ) → h < n → alike (group F h) (entry W ids i) ≡ false
-          fresh h l = at .none h (omega (arith, at .most))
+          fresh h l = at .none (omega (arith, at .most)) h l
 
           strange : (h : ℕ) → h < n → Alike (group F h) (entry W ids i) → ⊥
           strange h l al = no-T (fresh h l) (says-alike (group F h) (entry W ids i) .complete al)

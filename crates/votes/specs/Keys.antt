@@ -34,6 +34,11 @@ tailOf s = if eqb (s .kind) 3 then wordOf (s .view) else if eqb (s .kind) 4 then
 unfoldable pub sameNames : Stmt → Stmt → Bool
 sameNames a s = not (eqb (s .kind) 4) || sameViews (a .views) (s .views)
 
+-- The words of statement s.
+pub record Key (W : List ℕ) (s x y : ℕ) : Type 0 where
+  pub head : x ≡ headOf (stmtAt W s)
+  pub tail : y ≡ tailOf (stmtAt W s)
+
 -- K and L are the words of the first votes F of n groups.
 pub record Keyed (W ids K L F : List ℕ) (n : ℕ) : Type 0 where
   pub place : (g : ℕ) → g < n → getD F g 0 < 512
@@ -44,7 +49,7 @@ pub record Keyed (W ids K L F : List ℕ) (n : ℕ) : Type 0 where
 -- r is the group of statement s, or n.
 pub record Place (W ids F : List ℕ) (n s r : ℕ) : Type 0 where
   pub most : r ≤ n
-  pub none : (g : ℕ) → g < r → alike (entry W ids (getD F g 0)) (stmtAt W s) ≡ false
+  pub none : r ≡ n → (g : ℕ) → g < n → alike (entry W ids (getD F g 0)) (stmtAt W s) ≡ false
   pub here : r < n → alike (entry W ids (getD F r 0)) (stmtAt W s) ≡ true
 
 -- Four arrays of 512.

@@ -1,14 +1,11 @@
 // The votes of a record in groups.
-ghost use mathlib.Core.Path.{_≡_};
 ghost use Prim.Native.Nat.{_+_, _<_, _≤_};
-ghost use lib.ListN.{getD};
-ghost use Rattle.pool.specs.Pool.{stmtAt};
 ghost use Rattle.votes.specs.Votes.{Groups};
-ghost use Rattle.votes.specs.Keys.{headOf, tailOf, Keyed, Place, Room, Sofar};
+ghost use Rattle.votes.specs.Keys.{Key, Keyed, Place, Room, Sofar};
 use crate::keys;
 use pool::POOL_WORDS;
 
-// The group of statement s among the first n, or n.
+// The group of statement s, whose words are given, or n. The newest groups come first, since most votes follow others like them.
 fn find(
     words: &[u64; POOL_WORDS],
     ids: &[u16; 512],
@@ -17,29 +14,27 @@ fn find(
     first: &[u16; 512],
     n: usize,
     s: u16,
+    head: u64,
+    tail: u64,
 ) -> usize
-    requires { ⌜ (n ≤ 512) × Keyed (now words) (now ids) (now heads) (now tails) (now first) n ⌝ }
+    requires { ⌜ (n ≤ 512) × Keyed (now words) (now ids) (now heads) (now tails) (now first) n × Key (now words) s head tail ⌝ }
     ensures { λ r. ⌜ Place (now (words .entry)) (now (ids .entry)) (now (first .entry)) n s r ⌝ }
 {
-    let head = keys::head_of(words, s);
-    let tail = keys::tail_of(words, s);
-    let mut g = 0usize;
-    while g < n {
+    let mut g = n;
+    while g > 0 {
+        g -= 1;
         if tails[g] != tail {
-            g += 1;
             continue;
         }
         if heads[g] != head {
-            g += 1;
             continue;
         }
         let f = first[g] as usize;
         if keys::same_names(words, ids[f], s) {
             return g;
         }
-        g += 1;
     }
-    g
+    n
 }
 
 // Puts entry i into its group if it is a vote. Returns how many groups there are then.
@@ -61,14 +56,16 @@ fn add(
         return n;
     }
     let o = pool::origin(words, s);
-    let g = find(words, ids, heads, tails, first, n, s);
+    let head = keys::head_of(words, s);
+    let tail = keys::tail_of(words, s);
+    let g = find(words, ids, heads, tails, first, n, s, head, tail);
     if g < n {
         let known = seen[g];
         seen[g] = views::note(known, true, o);
         return n;
     }
-    heads[n] = keys::head_of(words, s);
-    tails[n] = keys::tail_of(words, s);
+    heads[n] = head;
+    tails[n] = tail;
     first[n] = i as u16;
     seen[n] = views::note(0, true, o);
     n + 1
@@ -109,6 +106,7 @@ pub fn gather(
 {
     let mut heads = [0u64; 512];
     let mut tails = [0u64; 512];
+    // What was in the arrays before does not matter.
     *first = [0u16; 512];
     *seen = [0u32; 512];
     gather_in(words, ids, len, &mut heads, &mut tails, first, seen)
