@@ -1,6 +1,6 @@
 -- Laws of the verdicts as they are written down one by one, and of a search among them.
 -- Assumes nothing.
-use mathlib.Core.Path.{_≡_, refl, sym, ap, _∙_, subst}
+use mathlib.Core.Path.{_≡_, sym, ap, _∙_, subst}
 use mathlib.Core.Bool.{Bool, true, false}
 use mathlib.Core.List.{List}
 use Prim.Native.Nat.{ℕ, _+_, _≤_, _<_}
@@ -11,10 +11,9 @@ use lib.ListN.{length, getD, set, length-set, replicate, getD-replicate, length-
 use lib.Seq.{getD-set-same, getD-set-other}
 use borrow.Author.Tests.{eq-eqb, ne-eqb}
 use Rattle.views.specs.View.{viewOf}
-use Rattle.votes.specs.Tables.{high, sealsAt, Tables, Verdicts}
-use Rattle.sealing.specs.Rows.{Next}
+use Rattle.votes.specs.Tables.{high, sealsAt, Verdicts}
 use Rattle.sealing.specs.Memos.{Memos, Choices, Agreements}
-use Rattle.sealing.proofs.Laws.{cand, tops, Sought, seek-next, top-found, top-none}
+use Rattle.sealing.proofs.Laws.{cand}
 
 -- what is written at n
 module _ (q : ℕ → Bool) where

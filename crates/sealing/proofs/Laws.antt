@@ -3,14 +3,14 @@
 use mathlib.Core.Path.{_≡_, refl, sym, ap, ap₂, _∙_, subst}
 use mathlib.Core.Bool.{Bool, true, false, _&&_, _||_}
 use mathlib.Core.List.{List}
-use Prim.Native.Nat.{ℕ, zero, suc, _+_, _*_, _≤_, _<_}
+use Prim.Native.Nat.{ℕ, _+_, _≤_, _<_}
 use native.Mathlib.Decide.{ℕ-discrete, decLt}
 use native.Mathlib.Omega.{arith}
-use lib.Dec.{T, eqb}
+use lib.Dec.{eqb}
 use lib.ListN.{length, getD, set}
 use lib.Seq.{getD-set-same, getD-set-other, set-out}
 use borrow.Author.Tests.{eq-eqb, ne-eqb}
-use Rattle.protocol.specs.Lists.{_∈_, any, all}
+use Rattle.protocol.specs.Lists.{any, all}
 use Rattle.protocol.specs.View.{View, sameView, size}
 use Rattle.protocol.specs.Evidence.{isCandidate}
 use Rattle.protocol.specs.Grounds.{isTop}
@@ -20,9 +20,9 @@ use Rattle.views.specs.View.{viewOf, ring}
 use Rattle.views.proofs.Tables.{any-at, all-zero, all-more, all-miss}
 use Rattle.views.proofs.Views.{same-yes}
 use Rattle.pool.specs.Pool.{viewAt, countOf, stmtAt, recordOf}
-use Rattle.votes.specs.Tables.{low, high, upTo, gives, sealsAt, ends, Tables, Verdicts}
+use Rattle.votes.specs.Tables.{low, high, upTo, gives, sealsAt, ends, Tables}
 use Rattle.sealing.specs.Rows.{Next, Row, Passed}
-use Rattle.sealing.specs.Memos.{Memos, Choices, Agreements}
+use Rattle.sealing.specs.Memos.{Memos}
 use Rattle.sealing.proofs.Searches.{passed-first, passed-next, none-has}
 
 or-none : (a b : Bool) → a ≡ false → b ≡ false → (a || b) ≡ false

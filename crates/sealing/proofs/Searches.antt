@@ -8,7 +8,6 @@ use native.Mathlib.Decide.{decLt}
 use native.Mathlib.Omega.{arith}
 use lib.ListN.{getD}
 use Rattle.protocol.specs.Lists.{any}
-use Rattle.views.specs.Table.{table}
 use Rattle.views.proofs.Tables.{any-zero, any-suc}
 use Rattle.votes.specs.Tables.{high, upTo}
 use Rattle.sealing.specs.Rows.{Next, Row, Passed}

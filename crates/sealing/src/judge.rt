@@ -1,6 +1,5 @@
 // The verdicts on all choices and all agreements, and what follows from them.
 ghost use mathlib.Core.Path.{_≡_};
-ghost use Prim.Native.Nat.{_≤_, _<_};
 ghost use lib.Dec.{eqb};
 ghost use lib.ListN.{length};
 ghost use Rattle.protocol.specs.Grounds.{isTop};

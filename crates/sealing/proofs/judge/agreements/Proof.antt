@@ -1,14 +1,10 @@
 use borrow.Author.Needs.{needs}
 use native.Mathlib.Omega.{arith}
-use Prim.Native.Nat.{ℕ, _+_, _-_, _≤_, _<_}
+use Prim.Native.Nat.{_-_, _≤_}
 use Rattle.sealing.specs.Memos.{Memos, Agreements}
 use Rattle.sealing.proofs.Judged.{agreements-first, agreements-next, agreements-all}
 use Rattle.sealing.proofs.judge.agreements.Statement.{statement}
 use Rattle.sealing.proofs.judge.agreements.Tie as tie
-use Rattle.sealing.proofs.judge.agreements.Reads as reads
-use Rattle.sealing.proofs.judge.agreements.Lts as lts
-use Rattle.sealing.proofs.cycle.sealed.Reads as sealed-reads
-use Rattle.sealing.proofs.judge.mark.Reads as mark-reads
 
 abbrev Inv-loop : tie.InvT-loop
 Inv-loop words ids len init chosen nc agreed entry na mc₀ ma₀ hint₀ out₀ a₀ mc ma hint out a = (a ≤ na) × Memos words ids len init chosen agreed entry mc ma × Agreements words ids len init agreed entry a out

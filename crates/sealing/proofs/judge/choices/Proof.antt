@@ -1,15 +1,10 @@
 use borrow.Author.Needs.{needs}
 use native.Mathlib.Omega.{arith}
-use Prim.Native.Nat.{ℕ, _+_, _-_, _≤_, _<_}
+use Prim.Native.Nat.{_-_, _≤_}
 use Rattle.sealing.specs.Memos.{Memos, Choices}
 use Rattle.sealing.proofs.Judged.{choices-first, choices-next, choices-all}
 use Rattle.sealing.proofs.judge.choices.Statement.{statement}
 use Rattle.sealing.proofs.judge.choices.Tie as tie
-use Rattle.sealing.proofs.judge.choices.Reads as reads
-use Rattle.sealing.proofs.judge.choices.Lts as lts
-use Rattle.sealing.proofs.cycle.candidate.Reads as candidate-reads
-use Rattle.sealing.proofs.judge.mark.Reads as mark-reads
-use Rattle.sealing.proofs.rows.high_of.Reads as high-of-reads
 
 abbrev Inv-loop : tie.InvT-loop
 Inv-loop words ids len init chosen nc agreed entry na mc₀ ma₀ hint₀ out₀ c₀ mc ma hint out c = (c ≤ nc) × Memos words ids len init chosen agreed entry mc ma × Choices words ids len init chosen c out

@@ -1,15 +1,12 @@
 use borrow.Author.Needs.{needs}
 use native.Mathlib.Omega.{arith}
-use mathlib.Core.Path.{_≡_, sym}
-use Prim.Native.Nat.{ℕ, _+_, _-_, _≤_, _<_}
+use mathlib.Core.Path.{sym}
+use Prim.Native.Nat.{_-_}
 use Rattle.sealing.proofs.Laws.{Sought, seek-first, seek-next, top-init, top-found, top-none}
 use Rattle.sealing.proofs.Judged.{says-yes, says-no}
 use mathlib.Core.Path.{refl}
 use Rattle.sealing.proofs.judge.is_sealed_top.Statement.{statement}
 use Rattle.sealing.proofs.judge.is_sealed_top.Tie as tie
-use Rattle.sealing.proofs.judge.is_sealed_top.Reads as reads
-use Rattle.sealing.proofs.judge.is_sealed_top.Lts as lts
-use Rattle.sealing.proofs.rows.next.Reads as next-reads
 
 abbrev Inv-loop : tie.InvT-loop
 Inv-loop words ids len init chosen nc agreed entry na mc ma t a₀ a = Sought words ids len init agreed entry na t a

@@ -1,16 +1,11 @@
 use borrow.Author.Needs.{needs}
 use native.Mathlib.Omega.{arith}
-use mathlib.Core.Path.{_≡_, sym, _∙_}
-use Prim.Native.Nat.{ℕ, _+_, _-_, _≤_, _<_}
-use lib.ListN.{getD}
+use mathlib.Core.Path.{sym, _∙_}
+use Prim.Native.Nat.{_-_, _≤_}
 use Rattle.votes.specs.Tables.{high}
-use Rattle.sealing.specs.Rows.{Next}
 use Rattle.sealing.proofs.Searches.{Skipped, skipped-first, skipped-next}
 use Rattle.sealing.proofs.rows.next.Statement.{statement}
 use Rattle.sealing.proofs.rows.next.Tie as tie
-use Rattle.sealing.proofs.rows.next.Reads as reads
-use Rattle.sealing.proofs.rows.next.Lts as lts
-use Rattle.sealing.proofs.rows.high_of.Reads as high-of-reads
 
 abbrev Inv-loop : tie.InvT-loop
 Inv-loop rows n v from i₀ i = (from ≤ i) × (i ≤ n) × Skipped rows v from i

@@ -1,15 +1,8 @@
 use native.Mathlib.Omega.{arith}
-use Prim.Native.Nat.{ℕ, _<_, _≤_}
 use Rattle.sealing.proofs.Searches.{row-hinted, row-searched}
 use borrow.Author.Needs.{needs}
 use Rattle.sealing.proofs.rows.row.Statement.{statement}
 use Rattle.sealing.proofs.rows.row.Tie as tie
-use Rattle.sealing.proofs.rows.row.Reads as reads
-use Rattle.sealing.proofs.rows.row.Lts as lts
-use Rattle.sealing.proofs.rows.high_of.Reads as high-of-reads
-use Rattle.sealing.proofs.rows.next.Reads as next-reads
-use Rattle.sealing.proofs.rows.slot_of.Reads as slot-of-reads
-use Rattle.sealing.proofs.rows.wide.Reads as wide-reads
 
 pub row-spec : {M : Type 1} → statement M
 row-spec =
