@@ -6,3 +6,4 @@ pub mod Backing
 pub mod Reporting
 pub mod Merging
 pub mod Turns
+pub mod Tied

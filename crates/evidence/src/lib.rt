@@ -4,6 +4,7 @@ mod candidates;
 mod certificates;
 mod histories;
 mod reports;
+mod whole;
 
 pub use binding::Binding;
 pub use candidates::Ranked;
@@ -17,6 +18,7 @@ pub use histories::Summit;
 pub use histories::climb;
 pub use reports::merged;
 pub use reports::reported;
+pub use whole::of_record;
 
 // What a record shows, views as words: wished; whether there is a conflict; whether there are more than sixteen candidates, and else the first `count` of
 // `candidates`; the first `length` of `greatest`; the payload that has a certificate, and whether it is stored.
