@@ -1,22 +1,22 @@
 -- Acks and stores by quorums of sealed tops, group by group.
 -- Assumes nothing.
 use mathlib.Core.Path.{_≡_, refl, sym, ap, ap₂, subst, _∙_}
-use mathlib.Core.Logic.{_≢_, _⊎_, inl, inr}
-use mathlib.Core.Bool.{Bool, true, false, not, _&&_, _||_, and-false}
+use mathlib.Core.Logic.{_⊎_, inl, inr}
+use mathlib.Core.Bool.{Bool, true, false, not, _&&_, _||_}
 use mathlib.Core.List.{List, [], _∷_, List·Memᴰ·head, List·Memᴰ·not-nil}
-use mathlib.Core.Option.{Option, some, none}
+use mathlib.Core.Option.{some, none}
 use Prim.Native.Nat.{ℕ, _+_, _≤_, _<_, min}
-use native.Mathlib.Decide.{decLt, ℕ-discrete}
+use native.Mathlib.Decide.{ℕ-discrete}
 use native.Mathlib.Omega.{arith}
 use lib.Dec.{T, eqb, eqb→eq}
 use lib.ListN.{length, getD, set, replicate, length-set, length-replicate}
 use lib.Seq.{getD-set-same, getD-set-other}
 use borrow.Author.Tests.{eq-eqb, ne-eqb}
-use Rattle.protocol.specs.Lists.{_∈_, pairwise, first, when}
-use Rattle.protocol.specs.View.{View, Ring}
+use Rattle.protocol.specs.Lists.{_∈_, first, when}
+use Rattle.protocol.specs.View.{View}
 use Rattle.protocol.specs.History.{top}
-use Rattle.protocol.specs.Statement.{Stmt, isKind, Ack, Store, Signed}
-use Rattle.protocol.specs.Evidence.{signs, signedByQuorum, Quorum, sealed, Shown, Sealed, prepares, isPrepared, isStored, Certificate, certificates}
+use Rattle.protocol.specs.Statement.{Stmt, isKind, Signed}
+use Rattle.protocol.specs.Evidence.{signs, signedByQuorum, Quorum, sealed, Shown, prepares, isPrepared, isStored, Certificate, certificates}
 use Rattle.protocol.specs.Grounds.{isTop}
 use Rattle.protocol.proofs.Says.{Says, says-map, says-unique, says-and, says-or, says-eqb}
 use Rattle.protocol.proofs.Monotone.{quorum-map}
@@ -30,10 +30,9 @@ use Rattle.protocol.specs.Sets.{bit}
 use Rattle.views.proofs.Views.{passes, fails, signed-by-set}
 use Rattle.pool.specs.Pool.{stmtAt, recordOf}
 use Rattle.votes.specs.Votes.{isVote, alike, entry, Groups}
-use Rattle.votes.proofs.Alike.{Vote, says-vote, Alike, says-alike, alike-both, alike-turned}
-use Rattle.evidence.specs.declared.certificates.Certified.{Certified}
+use Rattle.votes.proofs.Alike.{says-vote, Alike, says-alike, alike-both, alike-turned}
 use Rattle.evidence.specs.Shown.{isBacked, Backed, preparesIt, certifies, storesIt, CertificatesOf}
-use Rattle.evidence.proofs.Members.{table-in, table-out}
+use Rattle.evidence.proofs.Members.{table-out}
 
 -- ---- tests of one statement
 

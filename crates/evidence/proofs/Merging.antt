@@ -1,19 +1,18 @@
 -- Laws of merging: each is what one step of a function of bindings needs.
 -- Assumes nothing.
-use mathlib.Core.Path.{_≡_, refl, sym, ap, ap₂, subst, _∙_}
+use mathlib.Core.Path.{_≡_, refl, sym, ap, ap₂, _∙_}
 use mathlib.Core.Bool.{Bool, true, false}
-use mathlib.Core.List.{List, [], _∷_, _++_, append-nil}
+use mathlib.Core.List.{List, [], _∷_, _++_}
 use Prim.Native.Nat.{ℕ, suc, _+_, _-_, _≤_, _<_, min}
 use native.Mathlib.Omega.{arith}
 use lib.Dec.{eqb}
-use lib.ListN.{getD}
 use borrow.Author.Tests.{eq-eqb, ne-eqb}
 use Rattle.protocol.specs.Lists.{if_then_else_, filter}
 use Rattle.protocol.specs.Statement as statement
 use Rattle.protocol.specs.Statement.{Stmt, bindingOf}
 use Rattle.protocol.specs.Turn.{merge, mergeAll}
 use Rattle.views.specs.Table.{table}
-use Rattle.pool.specs.Pool.{stmtAt, recordOf}
+use Rattle.pool.specs.Pool.{recordOf}
 use Rattle.pool.proofs.Records.{entry, so-far, whole}
 use Rattle.evidence.specs.declared.binding.Binding.{Binding}
 use Rattle.evidence.specs.declared.binding.Binding.the-variants.{Unbound, Bound, Barred}

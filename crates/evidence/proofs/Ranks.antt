@@ -2,7 +2,7 @@
 -- Assumes nothing.
 use mathlib.Core.Path.{_≡_, refl, sym, ap, subst, _∙_}
 use mathlib.Core.Logic.{_≢_, _⊎_, inl, inr}
-use mathlib.Core.Bool.{Bool, true, false, not}
+use mathlib.Core.Bool.{true, false, not}
 use mathlib.Core.List.{List, [], _∷_, List·Memᴰ·head, List·Memᴰ·tail}
 use Prim.Native.Nat.{ℕ, _≤_, _<_}
 use native.Mathlib.Omega.{arith}
@@ -10,7 +10,7 @@ use lib.Dec.{T, ltb}
 use lib.ListN.{length, getD}
 use borrow.Author.Tests.{ltb-false}
 use Rattle.protocol.specs.Sets.{bit}
-use Rattle.protocol.specs.Lists.{_∈_, _⊆_, pairwise}
+use Rattle.protocol.specs.Lists.{_∈_, _⊆_}
 use Rattle.protocol.specs.View.{View, Ring, comparable, size, Within}
 use Rattle.protocol.specs.Statement.{Stmt}
 use Rattle.protocol.specs.Evidence.{candidates, Candidate, initial}
@@ -23,8 +23,7 @@ use Rattle.views.specs.View.{viewOf, ring}
 use Rattle.views.proofs.Sets.{count-le}
 use Rattle.views.proofs.Views.{passes, fails, fits}
 use Rattle.votes.specs.Tables.{high}
-use Rattle.evidence.specs.declared.candidates.Ranked.{Ranked}
-use Rattle.evidence.specs.Slots.{viewScale, viewIn, viewsOf, Stands, Slots, Clash, occupied, Broken, Compared, Listed}
+use Rattle.evidence.specs.Slots.{viewScale, viewIn, Stands, Slots, Clash, occupied, Broken, Listed}
 use Rattle.evidence.specs.Shown.{Choices, CandidatesOf}
 use Rattle.evidence.proofs.Members.{Climbs, same-members}
 use Rattle.evidence.proofs.Slots.{within-size, occupied-in, occupied-out, occupied-climbs}

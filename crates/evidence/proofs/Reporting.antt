@@ -1,18 +1,17 @@
 -- Laws of reports: each is what one step of a function of reports needs.
 -- Assumes nothing.
 use mathlib.Core.Path.{_≡_, refl, sym, ap, ap₂, subst, _∙_}
-use mathlib.Core.Logic.{_≢_, _⊎_, inl, inr}
 use mathlib.Core.Bool.{Bool, true, false, not, _&&_, _||_, and-true, and-assoc}
-use mathlib.Core.List.{List, [], _∷_}
+use mathlib.Core.List.{List}
 use Prim.Native.Nat.{ℕ, zero, suc, _+_, _*_, _/_, _%_, _^_, _≤_, _<_, min}
 use native.Mathlib.Decide.{ℕ-discrete}
 use native.Mathlib.Nat.{div-div-eq-div-mul}
 use native.Mathlib.Omega.{arith}
-use lib.Dec.{T, eqb, ltb}
+use lib.Dec.{T, eqb}
 use lib.ListN.{length, getD}
 use borrow.Author.Tests.{eq-eqb, ne-eqb, ltb-false}
 use Rattle.protocol.specs.Sets.{bit}
-use Rattle.protocol.specs.Lists.{_∈_, any, all, first, when}
+use Rattle.protocol.specs.Lists.{_∈_, any, all, when}
 use Rattle.protocol.specs.View.{View, Ring, sameView, member, within, below}
 use Rattle.protocol.specs.History.{top, holds}
 use Rattle.protocol.specs.Statement.{Stmt, reportsOn}
@@ -23,16 +22,15 @@ use Rattle.protocol.proofs.Found.{first-in, first-none}
 use Rattle.protocol.proofs.Histories.{sealed-short}
 use Rattle.protocol.proofs.Decided.{says-same, says-in, says-kind, says-shown, says-certified, says-twoPrepares}
 use Rattle.protocol.proofs.Asked.{says-holds, candidates-exact, certificates-in, certificates-out, one-payload, greatest-holds}
-use Rattle.views.specs.Table.{table}
 use Rattle.views.specs.Sets.{IsSet}
 use Rattle.views.specs.View.{viewOf, ring, quorumHas}
 use Rattle.views.proofs.Tables.{table-length}
-use Rattle.views.proofs.Views.{passes, fails, pair, view-parts, view-is, view-not, signed-by-set}
+use Rattle.views.proofs.Views.{passes, fails, view-parts, signed-by-set}
 use Rattle.pool.specs.Pool.{stmtAt, recordOf}
 use Rattle.votes.specs.Votes.{entry}
 use Rattle.evidence.specs.declared.Evidence.{Evidence}
 use Rattle.evidence.specs.Slots.{viewsOf}
-use Rattle.evidence.specs.Evidence.{EvidenceOf, Settled, bindingHolds, keptHolds, reportedOn, reportedAll, countsBelow}
+use Rattle.evidence.specs.Evidence.{Settled, bindingHolds, keptHolds, reportedOn, reportedAll, countsBelow}
 use Rattle.evidence.proofs.Members.{table-in}
 use Rattle.evidence.proofs.Backing.{placed}
 

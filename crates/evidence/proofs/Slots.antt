@@ -3,16 +3,16 @@
 use mathlib.Core.Path.{_≡_, refl, sym, ap, ap₂, subst, _∙_}
 use mathlib.Core.Logic.{_≢_, _⊎_, inl, inr}
 use mathlib.Core.Bool.{Bool, true, false, not}
-use mathlib.Core.List.{List, [], _∷_, _++_, append-nil, List·Memᴰ·head, List·Memᴰ·tail, List·Memᴰ·not-nil, List·Memᴰ·append-cases, List·Memᴰ·eq-of-singleton, Memᴰ·cast}
-use Prim.Native.Nat.{ℕ, zero, suc, _+_, _*_, _/_, _%_, _≤_, _<_}
+use mathlib.Core.List.{List, [], _∷_, _++_, append-nil, List·Memᴰ·head, List·Memᴰ·not-nil, List·Memᴰ·append-cases, List·Memᴰ·eq-of-singleton}
+use Prim.Native.Nat.{ℕ, zero, suc, _+_, _/_, _%_, _≤_, _<_}
 use native.Mathlib.Decide.{decLt, ℕ-discrete}
 use native.Mathlib.Numerals.{add-one}
 use native.Mathlib.Omega.{arith}
 use lib.Count.{ones, ones-le}
-use lib.Dec.{T, eqb, ltb}
+use lib.Dec.{T, ltb}
 use lib.ListN.{length, getD, set, replicate, length-set, length-append, length-replicate, getD-replicate}
 use lib.Seq.{getD-set-same, getD-set-other}
-use borrow.Author.Tests.{eq-eqb, ne-eqb, eqb-true, lt-ltb, le-ltb}
+use borrow.Author.Tests.{eq-eqb, ne-eqb, lt-ltb}
 use Rattle.protocol.specs.Sets.{bit, count}
 use Rattle.protocol.specs.Lists.{if_then_else_, _∈_, _⊆_}
 use Rattle.protocol.specs.View.{View, size, Within}
@@ -22,7 +22,7 @@ use Rattle.protocol.proofs.Different.{ordered-append}
 use Rattle.views.specs.Table.{table}
 use Rattle.views.specs.View.{viewOf}
 use Rattle.views.proofs.Tables.{table-length, table-cong}
-use Rattle.evidence.specs.Slots.{Scale, viewScale, viewsOf, Stands, Slots, Clash, Filled, here, occupied, Broken, Chain, Compared, Listed}
+use Rattle.evidence.specs.Slots.{Scale, viewScale, viewsOf, Stands, Slots, Filled, here, occupied, Broken, Chain, Compared, Listed}
 use Rattle.evidence.proofs.Members.{in-left, in-right, Climbs}
 
 -- ---- sizes

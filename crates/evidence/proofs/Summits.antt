@@ -1,10 +1,10 @@
 -- The histories in the slots are the sealed ones.
 -- Assumes nothing.
 use mathlib.Core.Path.{_≡_, refl, sym, ap, ap₂, subst, _∙_}
-use mathlib.Core.Logic.{_≢_, _⊎_, inl, inr}
+use mathlib.Core.Logic.{_⊎_, inl, inr}
 use mathlib.Core.Bool.{Bool, true, false, not, _||_}
-use mathlib.Core.List.{List, [], _∷_, _++_, List·Memᴰ·head, List·Memᴰ·tail, List·Memᴰ·cases-cons, List·Memᴰ·not-nil}
-use Prim.Native.Nat.{ℕ, suc, _+_, _≤_, _<_}
+use mathlib.Core.List.{List, [], _∷_, _++_, List·Memᴰ·cases-cons, List·Memᴰ·not-nil}
+use Prim.Native.Nat.{ℕ, _+_, _≤_, _<_}
 use native.Mathlib.Numerals.{add-one}
 use native.Mathlib.Omega.{arith}
 use lib.Dec.{T}
@@ -25,7 +25,6 @@ use Rattle.views.proofs.Tables.{table-length}
 use Rattle.views.proofs.Views.{passes, fails}
 use Rattle.pool.specs.Pool.{countOf, viewAt, stmtAt}
 use Rattle.pool.proofs.Laws.{views-of}
-use Rattle.evidence.specs.declared.histories.Summit.{Summit}
 use Rattle.evidence.specs.Slots.{historyScale, entryIn, viewsOf, Stands, Slots, Clash, occupied, Broken, Chain}
 use Rattle.evidence.specs.Shown.{FirstMarked, ChainOf, Agreements, HistoriesOf}
 use Rattle.evidence.proofs.Members.{Climbs, same-members}

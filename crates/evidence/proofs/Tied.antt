@@ -2,29 +2,26 @@
 -- Assumes nothing.
 use mathlib.Core.Path.{_≡_, refl, sym, ap, ap₂, subst, _∙_}
 use mathlib.Core.Logic.{_⊎_, inl, inr}
-use mathlib.Core.Bool.{Bool, true, false, not, _&&_, _||_}
+use mathlib.Core.Bool.{Bool, true, false, not, _||_}
 use mathlib.Core.List.{List, [], _∷_}
-use Prim.Native.Nat.{ℕ, _%_, _≤_, _<_}
+use Prim.Native.Nat.{ℕ, _%_, _<_}
 use native.Mathlib.Omega.{arith}
 use lib.Dec.{T, eqb, eqb→eq}
 use lib.ListN.{getD}
-use Rattle.protocol.specs.Lists.{_∈_, any, pairwise}
+use Rattle.protocol.specs.Lists.{any, pairwise}
 use Rattle.protocol.specs.View.{View, comparable}
 use Rattle.protocol.specs.History.{sameViews, holds}
 use Rattle.protocol.specs.Statement.{Stmt}
-use Rattle.protocol.specs.Evidence.{wished, candidate, sealed, Candidate, initial, chosen, Sealed, isCandidate, isSealed, candidates, sealedHistories, certificates, isConflict, isStored, greatest}
+use Rattle.protocol.specs.Evidence.{wished, candidate, sealed, Candidate, initial, chosen, isCandidate, candidates, sealedHistories, certificates, isConflict, isStored, greatest}
 use Rattle.protocol.specs.Grounds.{isTop}
 use Rattle.protocol.proofs.Says.{Says, says-self, says-and, says-or, says-eqb, says-any}
 use Rattle.protocol.proofs.Quorums.{someone}
 use Rattle.protocol.proofs.Decided.{says-sames, says-shown}
 use Rattle.protocol.proofs.Asked.{greatest-holds}
-use Rattle.views.specs.Table.{table}
 use Rattle.views.specs.View.{viewOf, ring}
 use Rattle.views.proofs.Views.{view-low}
 use Rattle.pool.specs.Pool.{word, stmtAt, recordOf}
-use Rattle.votes.specs.Votes.{entry}
 use Rattle.votes.specs.Tables.{low, high, upTo, gives, sealsAt, sealsAs, Tables, Verdicts}
-use Rattle.evidence.specs.declared.Evidence.{Evidence}
 use Rattle.evidence.specs.declared.candidates.Ranked.{Ranked}
 use Rattle.evidence.specs.declared.histories.Summit.{Summit}
 use Rattle.evidence.specs.declared.certificates.Certified.{Certified}

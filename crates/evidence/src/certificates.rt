@@ -1,9 +1,7 @@
 // The certificate, and whether its payload is stored: what quorums of sealed tops acked and stored.
 ghost use mathlib.Core.Path.{_≡_};
-ghost use mathlib.Core.Bool.{_&&_};
-ghost use Prim.Native.Nat.{_≤_, _<_};
+ghost use Prim.Native.Nat.{_<_};
 ghost use lib.Dec.{eqb};
-ghost use Rattle.protocol.specs.Statement.{isKind};
 ghost use Rattle.protocol.specs.Evidence.{signs, prepares, isPrepared, isStored};
 ghost use Rattle.views.specs.Sets.{IsSet};
 ghost use Rattle.views.specs.View.{ring};

@@ -1,6 +1,5 @@
 // The sealed histories, of which the greatest. Those of which one holds the other differ in length, so a slot for each length holds them.
 ghost use mathlib.Core.Path.{_≡_};
-ghost use mathlib.Core.Bool.{Bool};
 ghost use mathlib.Core.List.{List};
 ghost use Prim.Native.Nat.{_≤_, _<_};
 ghost use lib.ListN.{getD, length};
