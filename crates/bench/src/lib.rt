@@ -1,0 +1,1 @@
+// The bench: a schedule to its rows.
