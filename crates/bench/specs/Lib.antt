@@ -2,3 +2,4 @@
 pub mod Line
 pub mod Bench
 pub mod Rows
+pub mod Reading

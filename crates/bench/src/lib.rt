@@ -1,1 +1,2 @@
 // The bench: a schedule to its rows.
+pub mod line;
