@@ -1,1 +1,4 @@
 pub mod Scan
+pub mod Words
+pub mod Fields
+pub mod Commands
