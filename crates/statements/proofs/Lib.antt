@@ -1,4 +1,8 @@
+pub mod Held
 pub mod Fields
 pub mod Views
 pub mod Whole
 pub mod Written
+pub mod FieldLaws
+pub mod Laws
+pub mod Example

@@ -12,8 +12,7 @@ use mathlib.Core.List.{List, [], _∷_, _++_, append-assoc}
 use lib.Dec.{ltb, eqb}
 use lib.ListN.{length, length-append}
 use borrow.Author.Tests.{ltb-true, lt-ltb, le-ltb, eqb-true, eqb-false, ne-eqb}
-use Rattle.text.specs.declared.Read.{Read}
-use Rattle.text.specs.declared.Read.the-variants.{Got, Refused}
+use Rattle.text.specs.declared.Read.the-variants.{Got}
 use Rattle.text.specs.Text.{glyph, digits, decText}
 use Rattle.text.specs.Scan.{isDigit, Stops, scanDec, zeroThen, decFrom}
 use Rattle.text.proofs.Bytes.{below?, digit-is, digit-range, digit-back, digit-less, glyph-small}

@@ -2,7 +2,7 @@
 --     hex-from   what is written is read back
 --     hex-taken  only what is written is accepted
 -- Assumes nothing.
-use Prim.Native.Nat.{ℕ, zero, suc, _+_, _-_, _*_, _/_, _%_, _^_, _<_, _≤_}
+use Prim.Native.Nat.{ℕ, zero, suc, _+_, _*_, _/_, _%_, _^_, _<_}
 use native.Mathlib.Nat.{div-lt-iff-lt-mul, pow-suc, suc-add, add-suc, zero-add, add-zero}
 use native.Mathlib.Omega.{arith}
 use mathlib.Core.Path.{_≡_, refl, sym, ap, _∙_}
@@ -11,8 +11,7 @@ use mathlib.Core.List.{List, [], _∷_, _++_, append-assoc}
 use lib.Dec.{ltb}
 use lib.ListN.{length, length-append}
 use borrow.Author.Tests.{ltb-true, lt-ltb}
-use Rattle.text.specs.declared.Read.{Read}
-use Rattle.text.specs.declared.Read.the-variants.{Got, Refused}
+use Rattle.text.specs.declared.Read.the-variants.{Got}
 use Rattle.text.specs.Text.{glyph, hexText}
 use Rattle.text.specs.Scan.{hexVal, scanHex}
 use Rattle.text.proofs.Bytes.{val-of, byte-of}

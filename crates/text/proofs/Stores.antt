@@ -4,7 +4,7 @@ use native.Mathlib.Nat.{add-zero, suc-add, add-suc}
 use native.Mathlib.Omega.{arith}
 use mathlib.Core.Path.{_≡_, refl, sym, ap, _∙_}
 use mathlib.Core.List.{List, [], _∷_, _++_, append-nil, append-assoc}
-use lib.ListN.{length, set, length-append}
+use lib.ListN.{length, set}
 use lib.Seq.{sets, length-sets, set-comm}
 use Rattle.text.specs.Text.{glyph, decText, hexText}
 use Rattle.text.proofs.Decimal.{dec-small, dec-grow, one-long, one-longer, some-long}
@@ -37,9 +37,6 @@ module _ (out₀ : List ℕ) (at v : ℕ) where
   module _ (out : List ℕ) (i x : ℕ) (l : Left out₀ at v out i x) where
     pub left-length : length out ≡ length out₀
     left-length = ap length (l .stored) ∙ length-sets out₀ i (l .tail)
-
-    pub left-room : at + length (decText v) ≤ length out₀ → i ≤ length out
-    left-room h = omega (arith, h, left-length, l .place, ap length (l .split) ∙ length-append (decText x) (l .tail))
 
     pub left-one : 0 < i
     left-one = omega (arith, l .place, some-long x)

@@ -1,30 +1,22 @@
-use native.Mathlib.Omega.{arith}
-use mathlib.Core.Path.{_≡_, sym, _∙_}
+-- `text::after_zero` meets its contract. Assumes nothing.
+use mathlib.Core.Path.{sym, _∙_}
 use Rattle.text.proofs.Steps.{zero-end, zero-more, zero-stop}
 use borrow.Author.Needs.{needs}
 use Rattle.text.proofs.after_zero.Statement.{statement}
 use Rattle.text.proofs.after_zero.Tie as tie
-use Rattle.text.proofs.after_zero.Reads as reads
-use Rattle.text.proofs.after_zero.Lts as lts
-use Rattle.text.proofs.digit.Reads as digit-reads
 
--- src/lib.rt:83:18
 shared-slice-read-digit : tie.Need-shared-slice-read-digit
 shared-slice-read-digit c = search needs
 
--- src/lib.rt:83:12
 digit-requires : tie.Need-digit-requires
 digit-requires c κs = search needs
 
--- src/lib.rt:84:13
 returns : tie.Need-returns
 returns c = sym (zero-more (c .before .before .before .before .before .args .s .now) (c .before .before .before .before .before .args .next) (c .before .before .before .if1 .taken) (sym (c .before .digit .ensures) ∙ c .if2 .taken))
 
--- src/lib.rt:79:1
 returns-2 : tie.Need-returns-2
 returns-2 c = sym (zero-stop (c .before .before .before .before .before .args .s .now) (c .before .before .before .before .before .args .next) (c .before .before .before .if1 .taken) (sym (c .before .digit .ensures) ∙ c .if2 .left))
 
--- src/lib.rt:79:1
 returns-3 : tie.Need-returns-3
 returns-3 c = sym (zero-end (c .before .before .args .s .now) (c .before .before .args .next) (c .if1 .left))
 

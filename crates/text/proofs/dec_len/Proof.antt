@@ -1,6 +1,7 @@
+-- `text::dec_len` meets its contract. The loop's invariant: the digits counted and those of what is left are the number's. Assumes nothing.
 use borrow.Author.Needs.{needs}
 use native.Mathlib.Omega.{arith}
-use mathlib.Core.Path.{_≡_, sym, _∙_}
+use mathlib.Core.Path.{_≡_}
 use Prim.Native.Nat.{_+_, _<_}
 use lib.ListN.{length}
 use Rattle.text.specs.Text.{decText}
@@ -8,9 +9,6 @@ use Rattle.text.proofs.Decimal.{some-long, most-long}
 use Rattle.text.proofs.Steps.{four-longer}
 use Rattle.text.proofs.dec_len.Statement.{statement}
 use Rattle.text.proofs.dec_len.Tie as tie
-use Rattle.text.proofs.dec_len.Reads as reads
-use Rattle.text.proofs.dec_len.Lts as lts
-use Rattle.text.proofs.short_len.Reads as short-len-reads
 
 abbrev Inv-loop : tie.InvT-loop
 Inv-loop v n₀ x₀ n x = (length (decText v) ≡ n + length (decText x)) × (x < 18446744073709551616)
@@ -18,31 +16,24 @@ Inv-loop v n₀ x₀ n x = (length (decText v) ≡ n + length (decText x)) × (x
 abbrev μ-loop : tie.MeasureT-loop
 μ-loop v n₀ x₀ n x = x
 
--- src/lib.rt:164:5
 loop-holds : tie.Need-loop-holds Inv-loop μ-loop
 loop-holds c = (omega arith, c .fits .v .fits)
 
--- src/lib.rt:166:9
 add-n : tie.Need-add-n Inv-loop μ-loop
 add-n c = omega (arith, c .before .loop .inv .0, four-longer (c .before .loop .x) (c .loop-test .taken), most-long (c .before .before .args .v) (c .before .before .fits .v .fits))
 
--- src/lib.rt:164:5
 loop-less : tie.Need-loop-less Inv-loop μ-loop
 loop-less c = search needs
 
--- src/lib.rt:164:5
 loop-again : tie.Need-loop-again Inv-loop μ-loop
 loop-again c = (omega (arith, four-longer (c .before .loop .x) (c .loop-test .taken)), omega arith)
 
--- src/lib.rt:168:9
 short-len-requires : tie.Need-short-len-requires Inv-loop μ-loop
 short-len-requires c κs = search needs
 
--- src/lib.rt:168:5
 add-result : tie.Need-add-result Inv-loop μ-loop
 add-result c = omega (arith, c .before .before .loop .inv .0, c .short-len .ensures, most-long (c .before .before .before .args .v) (c .before .before .before .fits .v .fits))
 
--- src/lib.rt:159:1
 returns : tie.Need-returns Inv-loop μ-loop
 returns c = (omega (arith, c .before .before .loop .inv .0, c .short-len .ensures), omega (arith, c .short-len .ensures, some-long (c .before .before .loop .x)), omega (arith, c .before .before .loop .inv .0, c .short-len .ensures, most-long (c .before .before .before .args .v) (c .before .before .before .fits .v .fits)))
 

@@ -1,32 +1,24 @@
-use native.Mathlib.Omega.{arith}
+-- `text::glyph_of` meets its contract. Assumes nothing.
 use borrow.Author.Tests.{lt-ltb, le-ltb}
 use borrow.Author.Needs.{needs}
 use Rattle.text.proofs.glyph_of.Statement.{statement}
 use Rattle.text.proofs.glyph_of.Tie as tie
-use Rattle.text.proofs.glyph_of.Reads as reads
-use Rattle.text.proofs.glyph_of.Lts as lts
 
--- src/lib.rt:175:22
 cast-result : tie.Need-cast-result
 cast-result c = search needs
 
--- src/lib.rt:175:17
 add-result : tie.Need-add-result
 add-result c = search needs
 
--- src/lib.rt:175:44
 cast-result-2 : tie.Need-cast-result-2
 cast-result-2 c = search needs
 
--- src/lib.rt:175:39
 add-result-2 : tie.Need-add-result-2
 add-result-2 c = search needs
 
--- src/lib.rt:171:1
 returns : tie.Need-returns
 returns c = simp (lt-ltb _ _ (c .if1 .taken))
 
--- src/lib.rt:171:1
 returns-2 : tie.Need-returns-2
 returns-2 c = simp (le-ltb _ _ (c .if1 .left))
 

@@ -1,6 +1,6 @@
+-- `text::read_dec` meets its contract. Each answer is what the definition says of the byte that stands there. Assumes nothing.
 use native.Mathlib.Omega.{arith}
-use mathlib.Core.Path.{_≡_, refl, sym, ap, _∙_}
-use Prim.Native.Nat.{_+_}
+use mathlib.Core.Path.{sym, _∙_}
 use borrow.Author.Tests.{not-true, not-false}
 use lib.ListN.{getD}
 use Rattle.text.proofs.Bytes.{digit-range}
@@ -8,54 +8,37 @@ use Rattle.text.proofs.Steps.{at-end, at-zero, at-other, at-digit}
 use borrow.Author.Needs.{needs}
 use Rattle.text.proofs.read_dec.Statement.{statement}
 use Rattle.text.proofs.read_dec.Tie as tie
-use Rattle.text.proofs.read_dec.Reads as reads
-use Rattle.text.proofs.read_dec.Lts as lts
-use Rattle.text.proofs.after_zero.Reads as after-zero-reads
-use Rattle.text.proofs.digit.Reads as digit-reads
-use Rattle.text.proofs.scan_dec.Reads as scan-dec-reads
-use Rattle.text.proofs.wide.Reads as wide-reads
 
--- src/lib.rt:98:9
 returns : tie.Need-returns
 returns c = sym (at-end (c .before .before .args .s .now) (c .before .before .args .at) (c .if1 .taken))
 
--- src/lib.rt:100:13
 shared-slice-read-c : tie.Need-shared-slice-read-c
 shared-slice-read-c c = search needs
 
--- src/lib.rt:101:16
 add-next : tie.Need-add-next
 add-next c = search needs
 
--- src/lib.rt:103:9
 after-zero-requires : tie.Need-after-zero-requires
 after-zero-requires c κs = search needs
 
--- src/lib.rt:103:9
 returns-2 : tie.Need-returns-2
 returns-2 c = c .after-zero .ensures ∙ sym (at-zero (c .before .before .before .before .before .args .s .now) (c .before .before .before .before .before .args .at) (c .before .before .before .if1 .left) (c .before .if2 .taken))
 
--- src/lib.rt:105:9
 digit-requires : tie.Need-digit-requires
 digit-requires c κs = search needs
 
--- src/lib.rt:107:9
 returns-3 : tie.Need-returns-3
 returns-3 c = sym (at-other (c .before .before .before .before .before .before .args .s .now) (c .before .before .before .before .before .before .args .at) (c .before .before .before .before .if1 .left) (c .before .before .if2 .left) (sym (c .before .digit .ensures) ∙ not-true _ (c .if3 .taken)))
 
--- src/lib.rt:109:23
 wide-requires : tie.Need-wide-requires
 wide-requires c κs = search needs
 
--- src/lib.rt:109:23
 sub-scan-dec : tie.Need-sub-scan-dec
 sub-scan-dec c = omega (arith, c .wide .ensures, digit-range (getD (c .before .before .before .before .before .before .before .args .s .now) (c .before .before .before .before .before .before .before .args .at) 0) (sym (c .before .before .digit .ensures) ∙ not-false _ (c .before .if3 .left)))
 
--- src/lib.rt:109:5
 scan-dec-requires : tie.Need-scan-dec-requires
 scan-dec-requires c κs = search needs
 
--- src/lib.rt:94:1
 returns-4 : tie.Need-returns-4
 returns-4 c = c .scan-dec .ensures ∙ rw (c .before .wide .ensures) (sym (at-digit (c .before .before .before .before .before .before .before .before .args .s .now) (c .before .before .before .before .before .before .before .before .args .at) (c .before .before .before .before .before .before .if1 .left) (c .before .before .before .before .if2 .left) (sym (c .before .before .before .digit .ensures) ∙ not-false _ (c .before .before .if3 .left))))
 

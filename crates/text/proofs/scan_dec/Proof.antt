@@ -1,19 +1,15 @@
+-- `text::scan_dec` meets its contract. The loop's invariant: what is still to be scanned, from the number so far, is what the whole scan finds. Assumes nothing.
 use borrow.Author.Needs.{needs}
 use native.Mathlib.Omega.{arith}
-use Prim.Native.Nat.{ℕ, _+_, _*_, _-_, _<_, _≤_}
-use mathlib.Core.Path.{_≡_, refl, sym, ap, _∙_}
-use mathlib.Core.Bool.{true, false}
+use Prim.Native.Nat.{_-_, _<_}
+use mathlib.Core.Path.{_≡_, refl, sym, _∙_}
 use borrow.Author.Tests.{not-true, not-false}
 use lib.ListN.{length, drop, getD}
-use Rattle.text.specs.Scan.{scanDec, isDigit}
+use Rattle.text.specs.Scan.{scanDec}
 use Rattle.text.proofs.Bytes.{digit-range}
 use Rattle.text.proofs.Steps.{scan-end, scan-stop, scan-over, scan-next}
 use Rattle.text.proofs.scan_dec.Statement.{statement}
 use Rattle.text.proofs.scan_dec.Tie as tie
-use Rattle.text.proofs.scan_dec.Reads as reads
-use Rattle.text.proofs.scan_dec.Lts as lts
-use Rattle.text.proofs.digit.Reads as digit-reads
-use Rattle.text.proofs.wide.Reads as wide-reads
 
 abbrev Inv-loop : tie.InvT-loop
 Inv-loop s from start i₀ acc₀ i acc = (acc < 18446744073709551616) × (scanDec start from (drop from s) ≡ scanDec acc i (drop i s))
@@ -21,63 +17,48 @@ Inv-loop s from start i₀ acc₀ i acc = (acc < 18446744073709551616) × (scanD
 abbrev μ-loop : tie.MeasureT-loop
 μ-loop s from start i₀ acc₀ i acc = length s - i
 
--- src/lib.rt:52:5
 loop-holds : tie.Need-loop-holds Inv-loop μ-loop
 loop-holds c = (c .before .fits .start .fits, refl)
 
--- src/lib.rt:53:17
 shared-slice-read-c : tie.Need-shared-slice-read-c Inv-loop μ-loop
 shared-slice-read-c c = search needs
 
--- src/lib.rt:54:13
 digit-requires : tie.Need-digit-requires Inv-loop μ-loop
 digit-requires c κs = search needs
 
--- src/lib.rt:56:13
 returns : tie.Need-returns Inv-loop μ-loop
 returns c = sym (c .before .before .before .before .loop .inv .1 ∙ scan-stop (c .before .before .before .before .before .before .args .s .now) (c .before .before .before .before .loop .i) (c .before .before .before .before .loop .acc) (c .before .before .before .loop-test .taken) (sym (c .before .digit .ensures) ∙ not-true _ (c .if1 .taken)))
 
--- src/lib.rt:61:17
 wide-requires : tie.Need-wide-requires Inv-loop μ-loop
 wide-requires c κs = search needs
 
--- src/lib.rt:61:17
 sub-d : tie.Need-sub-d Inv-loop μ-loop
 sub-d c = omega (arith, c .wide .ensures, digit-range (getD (c .before .before .before .before .before .before .before .args .s .now) (c .before .before .before .before .before .loop .i) 0) (sym (c .before .before .digit .ensures) ∙ not-false _ (c .before .if1 .left)))
 
--- src/lib.rt:63:13
 returns-2 : tie.Need-returns-2 Inv-loop μ-loop
 returns-2 c = sym (c .before .before .before .before .before .before .loop .inv .1 ∙ scan-over (c .before .before .before .before .before .before .before .before .args .s .now) (c .before .before .before .before .before .before .loop .i) (c .before .before .before .before .before .before .loop .acc) (c .before .before .before .before .before .loop-test .taken) (sym (c .before .before .before .digit .ensures) ∙ not-false _ (c .before .before .if1 .left)) (omega (arith, c .if2 .taken)))
 
--- src/lib.rt:65:17
 mul-t : tie.Need-mul-t Inv-loop μ-loop
 mul-t c = search needs
 
--- src/lib.rt:66:16
 sub-if3 : tie.Need-sub-if3 Inv-loop μ-loop
 sub-if3 c = search needs
 
--- src/lib.rt:67:13
 returns-3 : tie.Need-returns-3 Inv-loop μ-loop
 returns-3 c = sym (c .before .before .before .before .before .before .before .loop .inv .1 ∙ scan-over (c .before .before .before .before .before .before .before .before .before .args .s .now) (c .before .before .before .before .before .before .before .loop .i) (c .before .before .before .before .before .before .before .loop .acc) (c .before .before .before .before .before .before .loop-test .taken) (sym (c .before .before .before .before .digit .ensures) ∙ not-false _ (c .before .before .before .if1 .left)) (omega (arith, c .before .before .wide .ensures, c .if3 .taken, c .before .if2 .left)))
 
--- src/lib.rt:69:15
 add-acc : tie.Need-add-acc Inv-loop μ-loop
 add-acc c = search needs
 
--- src/lib.rt:70:9
 add-i : tie.Need-add-i Inv-loop μ-loop
 add-i c = search needs
 
--- src/lib.rt:52:5
 loop-less : tie.Need-loop-less Inv-loop μ-loop
 loop-less c = search needs
 
--- src/lib.rt:52:5
 loop-again : tie.Need-loop-again Inv-loop μ-loop
 loop-again c = (omega arith, c .before .before .before .before .before .before .before .loop .inv .1 ∙ scan-next (c .before .before .before .before .before .before .before .before .before .args .s .now) (c .before .before .before .before .before .before .before .loop .i) (c .before .before .before .before .before .before .before .loop .acc) (c .before .before .before .before .before .before .loop-test .taken) (sym (c .before .before .before .before .digit .ensures) ∙ not-false _ (c .before .before .before .if1 .left)) (omega (arith, c .before .before .wide .ensures)) ∙ rw (c .before .before .wide .ensures))
 
--- src/lib.rt:47:1
 returns-4 : tie.Need-returns-4 Inv-loop μ-loop
 returns-4 c = sym (c .before .loop .inv .1 ∙ scan-end (c .before .before .before .args .s .now) (c .before .loop .i) (c .before .loop .acc) (c .loop-test .left))
 

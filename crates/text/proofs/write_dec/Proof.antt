@@ -1,15 +1,12 @@
+-- `text::write_dec` meets its contract. The loop's invariant: the digits stored are the end of the number's text, and those of what is left go before them. Assumes nothing.
 use borrow.Author.Needs.{needs}
 use native.Mathlib.Omega.{arith}
-use Prim.Native.Nat.{_+_, _-_, _≤_}
-use mathlib.Core.Path.{_≡_, refl, sym, ap, _∙_}
-use lib.ListN.{length, set, length-set}
-use Rattle.text.proofs.Stores.{Left, left-first, left-next, left-end, left-end-two, left-one, left-two, left-room, left-length}
+use Prim.Native.Nat.{_+_, _≤_}
+use mathlib.Core.Path.{ap}
+use lib.ListN.{length, length-set}
+use Rattle.text.proofs.Stores.{Left, left-first, left-next, left-end, left-end-two, left-one, left-two, left-length}
 use Rattle.text.proofs.write_dec.Statement.{statement}
 use Rattle.text.proofs.write_dec.Tie as tie
-use Rattle.text.proofs.write_dec.Reads as reads
-use Rattle.text.proofs.write_dec.Lts as lts
-use Rattle.text.proofs.dec_len.Reads as dec-len-reads
-use Rattle.text.proofs.glyph_of.Reads as glyph-of-reads
 
 abbrev Inv-loop : tie.InvT-loop
 Inv-loop out₀ at v end i₀ x₀ out i x = (i ≤ length out) × Left out₀ at v out i x
@@ -17,103 +14,78 @@ Inv-loop out₀ at v end i₀ x₀ out i x = (i ≤ length out) × Left out₀ a
 abbrev μ-loop : tie.MeasureT-loop
 μ-loop out₀ at v end i₀ x₀ out i x = x
 
--- src/lib.rt:183:20
 dec-len-requires : tie.Need-dec-len-requires Inv-loop μ-loop
 dec-len-requires c κs = search needs
 
--- src/lib.rt:183:15
 add-end : tie.Need-add-end Inv-loop μ-loop
 add-end c = omega (arith, c .before .before .pre, c .dec-len .ensures .0)
 
--- src/lib.rt:186:5
 loop-holds : tie.Need-loop-holds Inv-loop μ-loop
 loop-holds c = (omega (arith, c .before .before .pre, c .dec-len .ensures .0), left-first _ _ _ _ (ap (λ k. c .before .before .args .at + k) (c .dec-len .ensures .0)))
 
--- src/lib.rt:188:22
 glyph-of-requires : tie.Need-glyph-of-requires Inv-loop μ-loop
 glyph-of-requires c κs = omega arith
 
--- src/lib.rt:188:13
 sub-out : tie.Need-sub-out Inv-loop μ-loop
 sub-out c = omega (arith, left-one _ _ _ _ _ _ (c .before .before .loop .inv .1))
 
--- src/lib.rt:188:9
 slice-write-out : tie.Need-slice-write-out Inv-loop μ-loop
 slice-write-out c = omega (arith, c .before .before .loop .inv .0, left-one _ _ _ _ _ _ (c .before .before .loop .inv .1))
 
--- src/lib.rt:189:22
 glyph-of-requires-2 : tie.Need-glyph-of-requires-2 Inv-loop μ-loop
 glyph-of-requires-2 c κs = omega arith
 
--- src/lib.rt:189:13
 sub-out-2 : tie.Need-sub-out-2 Inv-loop μ-loop
 sub-out-2 c = omega (arith, left-two _ _ _ _ _ _ (c .before .before .before .loop .inv .1) (omega (arith, c .before .before .loop-test .taken)))
 
--- src/lib.rt:189:9
 slice-write-out-2 : tie.Need-slice-write-out-2 Inv-loop μ-loop
 slice-write-out-2 c = rw length-set (omega (arith, c .before .before .before .loop .inv .0, left-two _ _ _ _ _ _ (c .before .before .before .loop .inv .1) (omega (arith, c .before .before .loop-test .taken))))
 
--- src/lib.rt:190:9
 sub-i : tie.Need-sub-i Inv-loop μ-loop
 sub-i c = omega (arith, left-two _ _ _ _ _ _ (c .before .before .before .loop .inv .1) (omega (arith, c .before .before .loop-test .taken)))
 
--- src/lib.rt:186:5
 loop-less : tie.Need-loop-less Inv-loop μ-loop
 loop-less c = search needs
 
--- src/lib.rt:186:5
 loop-again : tie.Need-loop-again Inv-loop μ-loop
 loop-again c = (simp length-set (omega (arith, c .before .before .before .loop .inv .0)), rw (c .before .glyph-of .ensures, c .glyph-of2 .ensures) (left-next _ _ _ _ _ _ (c .before .before .before .loop .inv .1) (c .before .before .loop-test .taken)))
 
--- src/lib.rt:194:22
 glyph-of-requires-3 : tie.Need-glyph-of-requires-3 Inv-loop μ-loop
 glyph-of-requires-3 c κs = search needs
 
--- src/lib.rt:194:13
 sub-out-3 : tie.Need-sub-out-3 Inv-loop μ-loop
 sub-out-3 c = omega (arith, left-one _ _ _ _ _ _ (c .before .before .before .loop .inv .1))
 
--- src/lib.rt:194:9
 slice-write-out-3 : tie.Need-slice-write-out-3 Inv-loop μ-loop
 slice-write-out-3 c = omega (arith, c .before .before .before .loop .inv .0, left-one _ _ _ _ _ _ (c .before .before .before .loop .inv .1))
 
--- src/lib.rt:195:22
 glyph-of-requires-4 : tie.Need-glyph-of-requires-4 Inv-loop μ-loop
 glyph-of-requires-4 c κs = search needs
 
--- src/lib.rt:195:13
 sub-out-4 : tie.Need-sub-out-4 Inv-loop μ-loop
 sub-out-4 c = omega (arith, left-two _ _ _ _ _ _ (c .before .before .before .before .loop .inv .1) (c .before .before .if1 .taken))
 
--- src/lib.rt:195:9
 slice-write-out-4 : tie.Need-slice-write-out-4 Inv-loop μ-loop
 slice-write-out-4 c = rw length-set (omega (arith, c .before .before .before .before .loop .inv .0, left-two _ _ _ _ _ _ (c .before .before .before .before .loop .inv .1) (c .before .before .if1 .taken)))
 
--- src/lib.rt:197:22
 glyph-of-requires-5 : tie.Need-glyph-of-requires-5 Inv-loop μ-loop
 glyph-of-requires-5 c κs = search needs
 
--- src/lib.rt:197:13
 sub-out-5 : tie.Need-sub-out-5 Inv-loop μ-loop
 sub-out-5 c = omega (arith, left-one _ _ _ _ _ _ (c .before .before .before .loop .inv .1))
 
--- src/lib.rt:197:9
 slice-write-out-5 : tie.Need-slice-write-out-5 Inv-loop μ-loop
 slice-write-out-5 c = omega (arith, c .before .before .before .loop .inv .0, left-one _ _ _ _ _ _ (c .before .before .before .loop .inv .1))
 
--- src/lib.rt:179:1
 same-length : tie.Need-same-length Inv-loop μ-loop
 same-length c = simp length-set (left-length _ _ _ _ _ _ (c .before .before .before .before .loop .inv .1))
 
--- src/lib.rt:179:1
 returns : tie.Need-returns Inv-loop μ-loop
 returns c = (ap (λ k. c .before .before .before .before .before .before .before .args .at + k) (c .before .before .before .before .before .dec-len .ensures .0), rw (c .before .glyph-of3 .ensures, c .glyph-of4 .ensures) (left-end-two _ _ _ _ _ _ (c .before .before .before .before .loop .inv .1) (c .before .before .if1 .taken) (omega (arith, c .before .before .before .loop-test .left))))
 
--- src/lib.rt:179:1
 same-length-2 : tie.Need-same-length-2 Inv-loop μ-loop
 same-length-2 c = simp length-set (left-length _ _ _ _ _ _ (c .before .before .before .loop .inv .1))
 
--- src/lib.rt:179:1
 returns-2 : tie.Need-returns-2 Inv-loop μ-loop
 returns-2 c = (ap (λ k. c .before .before .before .before .before .before .args .at + k) (c .before .before .before .before .dec-len .ensures .0), rw (c .glyph-of5 .ensures) (left-end _ _ _ _ _ _ (c .before .before .before .loop .inv .1) (omega (arith, c .before .if1 .left))))
 

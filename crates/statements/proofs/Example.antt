@@ -1,0 +1,23 @@
+-- Two texts, byte by byte: a join of controller 3, and a report with a bound and a kept payload and two views.
+-- Assumes nothing.
+use mathlib.Core.Path.{_≡_, refl}
+use mathlib.Core.List.{[], _∷_}
+use mathlib.Core.Option.{some}
+use Prim.Native.Nat.{ℕ}
+use Rattle.text.specs.Text.{digits, decText, hexText}
+use Rattle.protocol.specs.View.{View}
+use Rattle.protocol.specs.Statement.{join, report, bound}
+use Rattle.statements.specs.Text.{parted, viewText, text}
+
+abbrev view : ℕ → ℕ → View
+view j l = record { joined = j; left = l }
+
+-- 1,3,00000000,00000000,0,0,0,0,0
+join-text : text (join 3) ≡ 49 ∷ 44 ∷ 51 ∷ 44 ∷ 48 ∷ 48 ∷ 48 ∷ 48 ∷ 48 ∷ 48 ∷ 48 ∷ 48 ∷ 44 ∷ 48 ∷ 48 ∷ 48 ∷ 48 ∷ 48 ∷ 48 ∷ 48 ∷ 48 ∷ 44 ∷ 48 ∷ 44 ∷ 48 ∷ 44 ∷ 48 ∷ 44 ∷ 48 ∷ 44 ∷ 48 ∷ []
+unfolding text parted viewText decText digits hexText
+join-text = refl
+
+-- 5,2,00070002,000f0002,1,4711,1,70,2,00070000,00070002
+report-text : text (report 2 (view 7 2) (view 15 2) (bound 4711) (some 70) (view 7 0 ∷ view 7 2 ∷ [])) ≡ 53 ∷ 44 ∷ 50 ∷ 44 ∷ 48 ∷ 48 ∷ 48 ∷ 55 ∷ 48 ∷ 48 ∷ 48 ∷ 50 ∷ 44 ∷ 48 ∷ 48 ∷ 48 ∷ 102 ∷ 48 ∷ 48 ∷ 48 ∷ 50 ∷ 44 ∷ 49 ∷ 44 ∷ 52 ∷ 55 ∷ 49 ∷ 49 ∷ 44 ∷ 49 ∷ 44 ∷ 55 ∷ 48 ∷ 44 ∷ 50 ∷ 44 ∷ 48 ∷ 48 ∷ 48 ∷ 55 ∷ 48 ∷ 48 ∷ 48 ∷ 48 ∷ 44 ∷ 48 ∷ 48 ∷ 48 ∷ 55 ∷ 48 ∷ 48 ∷ 48 ∷ 50 ∷ []
+unfolding text parted viewText decText digits hexText
+report-text = refl

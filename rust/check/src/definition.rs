@@ -1,0 +1,179 @@
+//! What a list of statements shows, put down as the scope document defines it.
+//!
+//! The checker judges by these definitions and not by the engine's tables, so that a fault in the tables shows.
+
+use std::cell::{OnceCell, RefCell};
+use std::collections::HashMap;
+
+use reference::{Binding, Body, History, Report, Set, Statement, View};
+
+pub struct Definition<'a> {
+    initial: View,
+    sender: u8,
+    statements: &'a [Statement],
+    candidates: RefCell<HashMap<View, bool>>,
+    sealed: RefCell<HashMap<History, bool>>,
+    wished: OnceCell<View>,
+    named: OnceCell<Vec<History>>,
+    tops: OnceCell<Vec<View>>,
+}
+
+impl<'a> Definition<'a> {
+    pub fn new(initial: View, sender: u8, statements: &'a [Statement]) -> Definition<'a> {
+        Definition {
+            initial,
+            sender,
+            statements,
+            candidates: RefCell::default(),
+            sealed: RefCell::default(),
+            wished: OnceCell::new(),
+            named: OnceCell::new(),
+            tops: OnceCell::new(),
+        }
+    }
+
+    fn origins(&self, says: impl Fn(&Body) -> bool) -> Set {
+        let said = self.statements.iter().filter(|statement| says(&statement.body));
+        said.fold(0, |origins, statement| origins | 1 << statement.origin)
+    }
+
+    pub fn wished(&self) -> View {
+        *self.wished.get_or_init(|| {
+            let joined = self.initial.joined() | self.origins(|body| *body == Body::Join);
+            View::new(joined, self.origins(|body| *body == Body::Leave) & joined)
+        })
+    }
+
+    /// Whether a quorum of `at` signed a statement of which `says` holds; each member counts once.
+    fn quorum_signed(&self, at: View, says: impl Fn(&Body) -> bool) -> bool {
+        let signers = self.origins(says) & at.members();
+        let members = at.members().count_ones();
+        members > 0 && signers.count_ones() >= members - (members - 1) / 3
+    }
+
+    pub fn is_candidate(&self, view: View) -> bool {
+        if let Some(&known) = self.candidates.borrow().get(&view) {
+            return known;
+        }
+        let verdict = view == self.initial || (view.has_members() && view.within(self.wished()) && self.is_chosen(view));
+        self.candidates.borrow_mut().insert(view, verdict);
+        verdict
+    }
+
+    fn is_chosen(&self, view: View) -> bool {
+        let places = self.statements.iter().filter_map(|statement| match statement.body {
+            Body::AgreeView { at, view: chosen } if chosen == view => Some(at),
+            _ => None,
+        });
+        distinct(places).into_iter().any(|top| {
+            top.strictly_within(view)
+                && self.quorum_signed(top, |body| *body == Body::AgreeView { at: top, view })
+                && self.is_top(top)
+        })
+    }
+
+    pub fn is_sealed(&self, history: &History) -> bool {
+        if let Some(&known) = self.sealed.borrow().get(history) {
+            return known;
+        }
+        let verdict = history.views() == [self.initial] || self.is_agreed(history);
+        self.sealed.borrow_mut().insert(*history, verdict);
+        verdict
+    }
+
+    fn is_agreed(&self, history: &History) -> bool {
+        let agreed_at = |top: View| self.quorum_signed(top, |body| *body == Body::AgreeHistory { at: top, history: *history });
+        history.first() == self.initial
+            && history.below_top().iter().any(|&top| agreed_at(top) && self.is_top(top))
+            && history.views().iter().all(|&view| self.is_candidate(view))
+    }
+
+    pub fn is_top(&self, view: View) -> bool {
+        view == self.initial || self.named().iter().any(|history| history.top() == view && self.is_sealed(history))
+    }
+
+    /// The histories that are named by an agreement.
+    fn named(&self) -> &[History] {
+        self.named.get_or_init(|| {
+            distinct(self.statements.iter().filter_map(|statement| match statement.body {
+                Body::AgreeHistory { history, .. } => Some(history),
+                _ => None,
+            }))
+        })
+    }
+
+    /// All sealed histories, the initial one first.
+    pub fn sealed_histories(&self) -> Vec<History> {
+        let initial = History::new(&[self.initial]);
+        distinct(initial.into_iter().chain(self.named().iter().copied().filter(|history| self.is_sealed(history))))
+    }
+
+    pub fn tops(&self) -> &[View] {
+        self.tops.get_or_init(|| distinct(self.sealed_histories().iter().map(|history| history.top())))
+    }
+
+    /// All candidates, the initial view first.
+    pub fn all_candidates(&self) -> Vec<View> {
+        let chosen = self.statements.iter().filter_map(|statement| match statement.body {
+            Body::AgreeView { view, .. } if self.is_candidate(view) => Some(view),
+            _ => None,
+        });
+        distinct(std::iter::once(self.initial).chain(chosen))
+    }
+
+    fn prepared(&self, payload: u64) -> bool {
+        self.statements.contains(&Statement::new(self.sender, Body::Prepare { payload }))
+    }
+
+    pub fn has_certificate(&self, payload: u64) -> bool {
+        let acked = |top: &View| self.quorum_signed(*top, |body| *body == Body::Ack { at: *top, payload });
+        self.prepared(payload) && self.tops().iter().any(acked)
+    }
+
+    /// All payloads that have a certificate.
+    pub fn certificates(&self) -> Vec<u64> {
+        let acked = self.statements.iter().filter_map(|statement| match statement.body {
+            Body::Ack { payload, .. } => Some(payload),
+            _ => None,
+        });
+        distinct(acked).into_iter().filter(|&payload| self.has_certificate(payload)).collect()
+    }
+
+    /// The sealed tops with the payloads that a quorum of each stored at it.
+    pub fn stores(&self) -> Vec<(View, u64)> {
+        let tops = self.tops();
+        let stores = self.statements.iter().filter_map(|statement| match statement.body {
+            Body::Store { at, payload } if tops.contains(&at) => Some((at, payload)),
+            _ => None,
+        });
+        let by_quorum = |&(at, payload): &(View, u64)| self.quorum_signed(at, |body| *body == Body::Store { at, payload });
+        distinct(stores).into_iter().filter(by_quorum).collect()
+    }
+
+    pub fn counts(&self, origin: u8, report: &Report) -> bool {
+        let prepares = distinct(self.statements.iter().filter_map(|statement| match statement.body {
+            Body::Prepare { payload } if statement.origin == self.sender => Some(payload),
+            _ => None,
+        }));
+        let grounded = match report.binding {
+            Binding::Unbound => true,
+            Binding::Bound(payload) => prepares.contains(&payload),
+            Binding::Barred => prepares.len() >= 2,
+        };
+        grounded
+            && report.at.has_member(origin)
+            && report.view.within(self.wished())
+            && report.history.views().iter().all(|&view| self.is_candidate(view))
+            && report.kept.is_none_or(|payload| self.has_certificate(payload))
+    }
+}
+
+fn distinct<T: PartialEq>(items: impl IntoIterator<Item = T>) -> Vec<T> {
+    let mut list = Vec::new();
+    for item in items {
+        if !list.contains(&item) {
+            list.push(item);
+        }
+    }
+    list
+}

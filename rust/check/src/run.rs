@@ -1,0 +1,85 @@
+//! A run of the bench as the list of what its rule-followers did.
+
+use reference::bench::{run_watched, Line};
+use reference::controller::Ring;
+use reference::{Bench, Body, Outcome, Row, Rules, Set, Statement, View};
+
+/// What a turn of a controller did that demand 3 speaks of.
+#[derive(Clone, Copy, PartialEq, Eq, Debug)]
+pub enum Deed {
+    Entered(View),
+    Delivered(u64),
+    Prepared(u64),
+}
+
+#[derive(Clone, Copy, PartialEq, Eq, Debug)]
+pub struct Event {
+    pub controller: u8,
+    pub deed: Deed,
+    /// The length of the controller's record after the turn.
+    pub length: usize,
+}
+
+/// A run after its whole list of events.
+#[derive(Clone, Debug)]
+pub struct Run {
+    /// `None` if no setup was taken.
+    pub ring: Option<Ring>,
+    pub faulty: Set,
+    /// In the order in which they happened.
+    pub events: Vec<Event>,
+    /// All statements that were signed.
+    pub statements: Vec<Statement>,
+    /// The records by controller; a record only grows, so a prefix is what it was earlier.
+    pub records: Vec<Vec<Statement>>,
+    pub refused: [usize; 9],
+    pub lines: usize,
+}
+
+impl Run {
+    /// Runs the schedule with an engine that follows `R`.
+    pub fn of<R: Rules>(schedule: &[u8]) -> Run {
+        let mut bench = Bench::<R>::new();
+        let mut events = Vec::new();
+        let mut refused = [0; 9];
+        let mut lines = 0;
+        run_watched(&mut bench, schedule, |bench, line, row| {
+            events.extend(event(bench, line, row));
+            lines += 1;
+            if let Outcome::Refused(refusal) = row.outcome {
+                refused[refusal as usize] += 1;
+            }
+        });
+        let ring = bench.controllers().find_map(|controller| controller.ring());
+        Run {
+            ring,
+            faulty: bench.faulty(),
+            events,
+            statements: bench.pool().statements().to_vec(),
+            records: bench.controllers().map(|controller| controller.record().statements().to_vec()).collect(),
+            refused,
+            lines,
+        }
+    }
+
+    pub fn is_follower(&self, controller: u8) -> bool {
+        self.faulty >> controller & 1 == 0
+    }
+}
+
+fn event<R: Rules>(bench: &Bench<R>, line: &[u8], row: &Row) -> Option<Event> {
+    let Some(Line::Turn(controller)) = Line::read(line) else {
+        return None;
+    };
+    let deed = match row.outcome {
+        Outcome::Entered(view) => Deed::Entered(view),
+        Outcome::Delivered(payload) => Deed::Delivered(payload),
+        Outcome::Signed(number) => match bench.pool().statements().get(number as usize)?.body {
+            Body::Prepare { payload } => Deed::Prepared(payload),
+            _ => return None,
+        },
+        _ => return None,
+    };
+    let length = bench.controller(controller)?.record().len();
+    Some(Event { controller, deed, length })
+}

@@ -1,0 +1,87 @@
+//! The checker must be able to fail: each engine here drops one rule, and a run within the premises shows it.
+
+use check::{judge, Run};
+use generate::schedule_for;
+use reference::{Document, Rules};
+
+macro_rules! broken {
+    ($name:ident drops $rule:ident) => {
+        struct $name;
+        impl Rules for $name {
+            const $rule: bool = false;
+        }
+    };
+}
+
+broken!(AnySigner drops MEMBERS_ONLY);
+broken!(OneIsAQuorum drops FULL_QUORUM);
+broken!(NoPrepare drops PREPARED_ONLY);
+broken!(NewestOnly drops EVERY_OLDER_VIEW);
+broken!(BindingLost drops BINDING_CARRIED);
+broken!(AcksAnything drops BINDING_KEPT);
+broken!(CertificateLost drops CERTIFICATE_REPORTED);
+broken!(DeliversAgain drops DELIVERED_ONCE);
+
+/// Whether a run of the style within the premises fails in the given way.
+fn fails<R: Rules>(kind: &str, lines: usize) -> bool {
+    (1..1_200).any(|seed| {
+        let run = Run::of::<R>(&schedule_for::<R>("attack", seed, lines).unwrap());
+        let verdict = judge(&run);
+        let found = verdict.breaches.iter().any(|breach| breach.kind() == kind);
+        verdict.within_premises && (found || (kind == "contradiction" && verdict.contradiction))
+    })
+}
+
+#[test]
+fn signatures_of_strangers_give_two_payloads() {
+    assert!(fails::<AnySigner>("two payloads", 800));
+}
+
+#[test]
+fn too_small_a_quorum_gives_two_payloads() {
+    assert!(fails::<OneIsAQuorum>("two payloads", 800));
+}
+
+#[test]
+fn too_small_a_quorum_gives_incomparable_views() {
+    assert!(fails::<OneIsAQuorum>("incomparable", 800));
+}
+
+#[test]
+fn a_certificate_without_prepare_breaks_integrity() {
+    assert!(fails::<NoPrepare>("not prepared", 800));
+}
+
+#[test]
+fn reports_without_the_certificate_lose_what_was_stored() {
+    assert!(fails::<CertificateLost>("not kept", 800));
+}
+
+#[test]
+fn reading_only_the_newest_older_view_loses_what_was_stored() {
+    assert!(fails::<NewestOnly>("not kept", 1_200));
+}
+
+#[test]
+fn a_binding_that_is_not_carried_over_gives_two_certificates() {
+    assert!(fails::<BindingLost>("contradiction", 1_200));
+}
+
+#[test]
+fn a_binding_that_is_not_kept_gives_two_certificates() {
+    assert!(fails::<AcksAnything>("contradiction", 1_200));
+}
+
+#[test]
+fn delivering_again_is_noticed() {
+    assert!(fails::<DeliversAgain>("delivered twice", 800));
+}
+
+#[test]
+fn too_many_liars_break_the_promises_outside_the_premises() {
+    let broken = (1..50).any(|seed| {
+        let verdict = judge(&Run::of::<Document>(&schedule_for::<Document>("overrun", seed, 300).unwrap()));
+        !verdict.within_premises && verdict.breaches.iter().any(|breach| breach.kind() == "two payloads")
+    });
+    assert!(broken);
+}

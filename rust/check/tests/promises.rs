@@ -1,0 +1,162 @@
+//! Generated runs keep demand 3, go deep, and agree with the definitions put down once more.
+
+use check::{soak, Definition, Run};
+use generate::{schedule, LIMITS, RANDOM};
+use reference::bench::run;
+use reference::{Body, Document, Evidence, Statement};
+
+#[test]
+fn honest_runs_keep_the_promises_and_go_deep() {
+    let totals = soak("honest", 1, 700, 400).unwrap();
+    println!("honest: {totals}");
+    assert!(totals.failed.is_empty(), "{:?}", totals.failed);
+    assert_eq!(totals.within_premises, totals.runs);
+    assert!(totals.four_entered * 2 > totals.runs && totals.late * 4 > totals.runs);
+    assert!(totals.most.tops >= 8 && totals.most.entered >= 8);
+}
+
+#[test]
+fn runs_with_liars_keep_the_promises_and_go_deep() {
+    let totals = soak("liars", 1, 700, 400).unwrap();
+    println!("liars: {totals}");
+    assert!(totals.failed.is_empty(), "{:?}", totals.failed);
+    assert_eq!(totals.within_premises, totals.runs);
+    assert!(totals.four_entered * 4 > totals.runs && totals.late * 4 > totals.runs);
+}
+
+#[test]
+fn attacks_within_the_premises_fail() {
+    let totals = soak("attack", 1, 700, 800).unwrap();
+    println!("attack: {totals}");
+    assert!(totals.failed.is_empty(), "{:?}", totals.failed);
+    assert_eq!(totals.within_premises, totals.runs);
+    assert!(totals.four_tops > 20 && totals.late > 50);
+}
+
+#[test]
+fn too_many_liars_bring_up_refusal_7() {
+    let totals = soak("overrun", 1, 300, 300).unwrap();
+    println!("overrun: {totals}");
+    assert!(totals.refused[7] * 2 > totals.runs);
+    assert!(totals.failed.is_empty() && totals.broken_outside > 0);
+}
+
+#[test]
+fn damaged_schedules_keep_the_promises() {
+    let totals = soak("damaged", 1, 500, 300).unwrap();
+    println!("damaged: {totals}");
+    assert!(totals.failed.is_empty(), "{:?}", totals.failed);
+    assert!(totals.refused[8] * 10 > totals.runs * 9 && totals.refused[2] > 0);
+}
+
+/// What the engine's tables show is what the definitions say.
+fn agrees(run: &Run, statements: &[Statement]) {
+    let ring = run.ring.unwrap();
+    let fast = Evidence::of(ring.initial, ring.sender, statements);
+    let slow = Definition::new(ring.initial, ring.sender, statements);
+    assert_eq!(fast.wished, slow.wished());
+    same(&fast.candidates, &slow.all_candidates());
+    same(&fast.tops, slow.tops());
+    same(&fast.certificates, &slow.certificates());
+    assert_eq!(fast.sealed.len(), slow.sealed_histories().len());
+    assert!(fast.sealed.iter().all(|history| slow.is_sealed(history)));
+    let mut stored: Vec<u64> = slow.stores().into_iter().map(|(_, payload)| payload).collect();
+    stored.sort_unstable();
+    stored.dedup();
+    same(&fast.stored, &stored);
+    for Statement { origin, body } in statements {
+        if let Body::Report(report) = body {
+            assert_eq!(fast.counts(*origin, report), slow.counts(*origin, report));
+        }
+    }
+}
+
+fn same<T: Copy + Ord + std::fmt::Debug>(one: &[T], other: &[T]) {
+    let (mut one, mut other) = (one.to_vec(), other.to_vec());
+    one.sort_unstable();
+    other.sort_unstable();
+    assert_eq!(one, other);
+}
+
+#[test]
+fn the_tables_agree_with_the_definitions() {
+    for style in RANDOM.iter().chain(LIMITS) {
+        let seeds = if RANDOM.contains(style) { 60 } else { 2 };
+        for seed in 0..seeds {
+            let run = Run::of::<Document>(&schedule(style, 1_000 + seed, 300).unwrap());
+            if run.ring.is_some() {
+                agrees(&run, &run.statements);
+                run.records.iter().for_each(|record| agrees(&run, record));
+            }
+        }
+    }
+}
+
+#[test]
+fn a_longer_list_shows_all_that_its_prefix_shows() {
+    for style in ["liars", "attack", "overrun"] {
+        for seed in 0..15 {
+            let run = Run::of::<Document>(&schedule(style, seed, 300).unwrap());
+            let ring = run.ring.unwrap();
+            let mut last = Evidence::of(ring.initial, ring.sender, &[]);
+            for length in 1..=run.statements.len() {
+                let next = Evidence::of(ring.initial, ring.sender, &run.statements[..length]);
+                assert!(last.wished.within(next.wished));
+                assert!(last.candidates.iter().all(|view| next.candidates.contains(view)));
+                assert!(last.sealed.iter().all(|history| next.sealed.contains(history)));
+                assert!(last.certificates.iter().all(|payload| next.certificates.contains(payload)));
+                last = next;
+            }
+        }
+    }
+}
+
+fn rows(style: &str, seed: u64) -> String {
+    String::from_utf8(run(&schedule(style, seed, 0).unwrap())).unwrap()
+}
+
+#[test]
+fn each_limit_is_met() {
+    for seed in 0..4 {
+        for (style, needle, expected) in [
+            ("pool-512", "refused,4", true),
+            ("pool-513", "refused,4", true),
+            ("record-512", "signed,511", true),
+            ("record-513", "refused,4", true),
+            ("record-513", "signed", false),
+            ("candidates-15", "refused", false),
+            ("candidates-16", "refused", false),
+            ("candidates-17", "refused,6", true),
+            ("candidates-20", "refused,6", true),
+            ("candidates-20", "refused,7", false),
+            ("incomparable", "refused,7", true),
+            ("two-sealed", "refused,7", true),
+            ("two-certificates", "refused,7", true),
+            ("seven-before-six", "refused,6", true),
+            ("seven-before-six", "refused,7", true),
+            ("bytes-65536", "delivered,9", true),
+            ("no-newline", ",16,refused,8", true),
+            ("everyone-leaves", "entered,000f000f", false),
+        ] {
+            assert_eq!(rows(style, seed).contains(needle), expected, "{style} {seed} {needle}");
+        }
+        assert_eq!(rows("bytes-65537", seed), "line,who,answer,value\n0,16,refused,8\n");
+        assert_eq!(rows("empty-lines", seed).lines().count(), 65_520 + (seed as usize % 2));
+        assert_eq!(schedule("bytes-65536", seed, 0).unwrap().len(), 65_536);
+        assert_eq!(schedule("bytes-65537", seed, 0).unwrap().len(), 65_537);
+    }
+}
+
+#[test]
+fn when_everyone_leaves_one_by_one_the_last_view_keeps_a_member() {
+    assert!((0..8).any(|seed| rows("everyone-leaves", seed).contains("left")));
+    assert!((0..8).any(|seed| rows("everyone-leaves", seed).contains("delivered,11")));
+}
+
+#[test]
+fn a_seed_gives_one_schedule() {
+    for style in RANDOM.iter().chain(LIMITS) {
+        assert_eq!(schedule(style, 7, 200), schedule(style, 7, 200), "{style}");
+    }
+    assert_eq!(schedule("nothing", 7, 200), None);
+}

@@ -1,0 +1,191 @@
+//! Liars and a network that work together: two groups of rule-followers are led towards two different payloads.
+//!
+//! The liars sign along with every follower of either group, the joiners are mostly of the second group, and a
+//! follower hears of the other group's acks, stores and reports only late.
+
+use reference::{Binding, Body, Evidence, History, Outcome, Report, Rules, Set, Statement, View};
+
+use crate::maker::Maker;
+
+struct Attack<'a, R> {
+    maker: &'a mut Maker<R>,
+    members: Set,
+    faulty: Set,
+    sender: u8,
+    /// The followers that are led towards the first payload.
+    first_group: Set,
+    payloads: [u64; 2],
+    active: Set,
+    leaving: Set,
+    /// Percent of the draws in which a follower hears what the attack would keep from it.
+    leak: usize,
+}
+
+/// An attack within the premises: as many liars as the initial view bears, and more that never join.
+pub fn attack<R: Rules>(seed: u64, lines: usize) -> Vec<u8> {
+    let mut maker = Maker::<R>::new(seed, lines);
+    let rng = &mut maker.rng;
+    let size = [4, 4, 4, 5, 7][rng.below(5)];
+    let members = rng.subset(!0, size);
+    let inside = rng.subset(members, (size - 1) / 3);
+    let outsiders = rng.below(5);
+    let faulty = inside | rng.subset(!members, outsiders);
+    let lying_sender = rng.chance(75);
+    let sender = rng.member(if lying_sender { inside } else { members & !inside }).unwrap_or(0);
+    // With the liars inside, this many followers are just a quorum.
+    let enough = size - 2 * ((size - 1) / 3);
+    let led = if rng.chance(70) { enough } else { rng.between(1, size - 1) };
+    let first_group = rng.subset(members & !faulty, led);
+    let payload = rng.draw() >> rng.below(64);
+    let leak = [0, 1, 3, 10][rng.below(4)];
+    maker.setup(members, sender, faulty);
+    let payloads = [payload, payload ^ 1];
+    let mut attack =
+        Attack { maker: &mut maker, members, faulty, sender, first_group, payloads, active: members, leaving: 0, leak };
+    attack.open();
+    while !attack.maker.is_done() {
+        attack.step();
+    }
+    maker.finish()
+}
+
+impl<R: Rules> Attack<'_, R> {
+    fn open(&mut self) {
+        if self.faulty >> self.sender & 1 == 1 {
+            for payload in self.payloads {
+                self.maker.lie(&Statement::new(self.sender, Body::Prepare { payload }));
+            }
+        } else if self.maker.rng.chance(60) {
+            self.maker.send(self.sender, self.payloads[0]);
+        }
+    }
+
+    fn step(&mut self) {
+        let calm = self.maker.rng.chance(20) && self.is_calm();
+        match self.maker.rng.below(100) {
+            _ if calm => self.change(),
+            0 => self.change(),
+            1..=20 => self.echo(),
+            21..=25 => self.report_falsely(),
+            _ => self.hear(),
+        }
+    }
+
+    /// Whether no change of the greatest top is due.
+    fn is_calm(&self) -> bool {
+        let evidence = self.maker.evidence();
+        evidence.greatest().is_some_and(|greatest| greatest.top() == evidence.wished)
+    }
+
+    /// The payload that the controller is led towards.
+    fn payload_of(&self, k: u8) -> u64 {
+        self.payloads[usize::from(self.first_group >> k & 1 == 0)]
+    }
+
+    fn followers(&self) -> Set {
+        self.active & !self.faulty
+    }
+
+    /// One to four followers ask to join or to leave at once.
+    fn change(&mut self) {
+        for _ in 0..self.maker.rng.between(1, 4) {
+            let staying = self.followers() & !self.leaving;
+            let joins = self.maker.rng.chance(if staying.count_ones() > 5 { 20 } else { 90 });
+            if joins {
+                let Some(k) = self.maker.rng.member(!self.active & !self.faulty) else { continue };
+                if self.maker.join(k) == Outcome::Taken(0) {
+                    self.active |= 1 << k;
+                    self.maker.turns(k, 1);
+                }
+            } else if let Some(k) = self.leaver(staying) {
+                if self.maker.leave(k) == Outcome::Taken(0) {
+                    self.leaving |= 1 << k;
+                    self.maker.turns(k, 2);
+                }
+            }
+        }
+    }
+
+    /// A follower without which the greatest top still bears the liars, a member of the first group if possible.
+    fn leaver(&mut self, staying: Set) -> Option<u8> {
+        let evidence = self.maker.evidence();
+        let top = evidence.greatest()?.top();
+        let led = staying & self.first_group;
+        let k = self.maker.rng.member(if led != 0 { led } else { staying })?;
+        let rest = View::new(top.members() & !self.leaving & !(1 << k), 0);
+        (rest.borne() >= (self.members & self.faulty).count_ones()).then_some(k)
+    }
+
+    /// The liars sign what a follower signed lately.
+    fn echo(&mut self) {
+        let Some(first) = self.maker.rng.member(self.members & self.faulty) else { return };
+        let pool = self.maker.bench.pool();
+        let is_vote = |statement: &&Statement| matches!(statement.kind(), 3 | 4 | 7 | 8);
+        let is_new = |statement: &&Statement| !pool.holds(&Statement::new(first, statement.body));
+        let votes = pool.statements().iter().rev().take(80).filter(is_vote).filter(is_new);
+        let votes: Vec<Statement> = votes.copied().collect();
+        let Some(vote) = self.maker.rng.pick(&votes) else { return };
+        for liar in (0..16).filter(|k| self.faulty >> k & 1 == 1) {
+            if liar == first || self.maker.rng.chance(30) {
+                self.maker.lie(&Statement::new(liar, vote.body));
+            }
+        }
+    }
+
+    /// A liar reports that it knew of nothing, or of the wrong payload.
+    fn report_falsely(&mut self) {
+        let Some(liar) = self.maker.rng.member(self.faulty) else { return };
+        let evidence: Evidence = self.maker.evidence();
+        let rng = &mut self.maker.rng;
+        let Some(at) = rng.pick(&evidence.candidates) else { return };
+        let Some(&initial) = evidence.candidates.first() else { return };
+        let binding = match rng.below(10) {
+            0..=6 => Binding::Unbound,
+            7..=8 => Binding::Bound(self.payloads[1]),
+            _ => Binding::Barred,
+        };
+        let Some(history) = History::new(&[initial]) else { return };
+        let report = Report { at, view: initial, binding, kept: None, history };
+        self.maker.lie(&Statement::new(liar, Body::Report(report)));
+    }
+
+    /// One follower hears what serves the attack, the most useful first, and takes turns.
+    fn hear(&mut self) {
+        // Once somebody delivered, the attack is about the second group.
+        let delivered = self.maker.bench.controllers().any(|controller| controller.delivered());
+        let group = if delivered && self.maker.rng.chance(60) { !self.first_group } else { !0 };
+        let Some(k) = self.maker.rng.member(self.followers() & group) else { return };
+        let missing = self.maker.missing(k, !0);
+        let mut scored: Vec<(usize, usize)> = missing.into_iter().map(|number| (self.score(k, number), number)).collect();
+        scored.sort_unstable_by(|one, other| other.cmp(one));
+        for (score, number) in scored.into_iter().take(12) {
+            if score < 20 && !self.maker.rng.chance(self.leak) {
+                break;
+            }
+            self.maker.give(k, number);
+            // After each report the follower may enter, before it hears of one that says more.
+            if self.maker.bench.pool().statements()[number].kind() == 5 {
+                self.maker.turns(k, 3);
+            }
+        }
+        self.maker.turns(k, 4);
+    }
+
+    /// How much it serves the attack that the follower hears the statement; 20 and more is heard soon.
+    fn score(&mut self, k: u8, number: usize) -> usize {
+        let payload = self.payload_of(k);
+        let own = |other: u64| other == payload;
+        let statement = self.maker.bench.pool().statements()[number];
+        let worth = match statement.body {
+            Body::Join | Body::Leave => 20,
+            Body::AgreeView { .. } | Body::AgreeHistory { .. } => 25,
+            Body::Report(Report { binding: Binding::Bound(other), .. }) if !own(other) => 9,
+            Body::Report(_) => 25,
+            Body::Prepare { payload: other } if own(other) => 50,
+            Body::Prepare { .. } => 8,
+            Body::Ack { payload: other, .. } | Body::Store { payload: other, .. } if own(other) => 25,
+            Body::Ack { .. } | Body::Store { .. } => 0,
+        };
+        worth + self.maker.rng.below(14)
+    }
+}

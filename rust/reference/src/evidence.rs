@@ -1,0 +1,310 @@
+//! What a list of statements shows: the wished view, candidates, sealed histories, certificates.
+
+use crate::index::{hash_of, Index};
+use crate::rules::{Document, Rules};
+use crate::statement::{Binding, Body, Report, Statement};
+use crate::view::{alone, History, Set, View};
+
+/// What a list of statements shows in a ring with a given initial view and sender.
+#[derive(Clone, Debug)]
+pub struct Evidence {
+    pub wished: View,
+    /// All candidates, by rising size.
+    pub candidates: Vec<View>,
+    /// All sealed histories, each once, by rising length.
+    pub sealed: Vec<History>,
+    /// The tops of the sealed histories, each once.
+    pub tops: Vec<View>,
+    /// The payloads that have a certificate, each once.
+    pub certificates: Vec<u64>,
+    /// The payloads that a quorum of a sealed top stored, each once.
+    pub stored: Vec<u64>,
+    /// The payloads that the sender prepared, in order of arrival.
+    pub prepares: Vec<u64>,
+}
+
+impl Evidence {
+    pub fn of(initial: View, sender: u8, statements: &[Statement]) -> Evidence {
+        Evidence::gather::<Document>(initial, sender, statements)
+    }
+
+    pub(crate) fn gather<R: Rules>(initial: View, sender: u8, statements: &[Statement]) -> Evidence {
+        let tally = Tally::count::<R>(sender, statements);
+        let joined = initial.joined() | tally.joins;
+        let wished = View::new(joined, initial.left() | (tally.leaves & joined));
+        let shown = Shown::settle::<R>(initial, wished, &tally);
+        let voted = |votes: &Votes| shown.voted_at_tops::<R>(votes);
+        let mut certificates = voted(&tally.acks);
+        certificates.retain(|payload| !R::PREPARED_ONLY || tally.prepares.contains(payload));
+        let stored = voted(&tally.stores);
+        Evidence {
+            wished,
+            candidates: shown.candidates.list,
+            sealed: shown.sealed,
+            tops: shown.tops.list,
+            certificates,
+            stored,
+            prepares: tally.prepares,
+        }
+    }
+
+    /// Whether the statements contradict each other, which ends every turn with refusal 7.
+    pub fn conflict(&self) -> bool {
+        // Sorted by size, a list of views is a chain exactly if each lies within the next.
+        let fork = self.candidates.windows(2).any(|pair| !pair[0].within(pair[1]));
+        fork || self.certificates.len() > 1 || self.greatest().is_none()
+    }
+
+    /// The sealed history that holds every other, if the sealed histories form a chain.
+    pub fn greatest(&self) -> Option<&History> {
+        let chain = self.sealed.windows(2).all(|pair| pair[1].holds(&pair[0]));
+        self.sealed.last().filter(|_| chain)
+    }
+
+    pub fn certificate(&self) -> Option<u64> {
+        self.certificates.first().copied()
+    }
+
+    /// Whether a report by `origin` counts.
+    pub fn counts(&self, origin: u8, report: &Report) -> bool {
+        self.counts_by::<Document>(origin, report)
+    }
+
+    pub(crate) fn counts_by<R: Rules>(&self, origin: u8, report: &Report) -> bool {
+        let grounded = match report.binding {
+            Binding::Unbound => true,
+            Binding::Bound(payload) => self.prepares.contains(&payload),
+            Binding::Barred => self.prepares.iter().any(|payload| *payload != self.prepares[0]),
+        };
+        (grounded || !R::PREPARED_ONLY)
+            && report.at.has_member(origin)
+            && report.view.within(self.wished)
+            && report.history.views().iter().all(|view| self.candidates.contains(view))
+            && report.kept.is_none_or(|payload| self.certificates.contains(&payload))
+    }
+}
+
+/// Whether the signers make up a quorum of `at`.
+pub(crate) fn is_quorum<R: Rules>(at: View, signers: Set) -> bool {
+    let needed = if R::FULL_QUORUM { at.quorum() } else { at.quorum().map(|_| 1) };
+    needed.is_some_and(|needed| signers.count_ones() >= needed)
+}
+
+/// The signers of each different vote, a vote being a view it is cast at and what it is for.
+struct Votes {
+    groups: Vec<Group>,
+    index: Index,
+}
+
+struct Group {
+    at: View,
+    choice: u64,
+    signers: Set,
+}
+
+impl Votes {
+    fn with_room(votes: usize) -> Votes {
+        Votes { groups: Vec::new(), index: Index::for_keys(votes) }
+    }
+
+    fn cast<R: Rules>(&mut self, origin: u8, at: View, choice: u64) {
+        if R::MEMBERS_ONLY && !at.has_member(origin) {
+            return;
+        }
+        let groups = &mut self.groups;
+        let same = |place: usize| groups[place].at == at && groups[place].choice == choice;
+        match self.index.find(hash_of(&(at, choice)), same) {
+            Ok(place) => groups[place].signers |= alone(origin),
+            Err(slot) => {
+                self.index.put(slot, groups.len());
+                groups.push(Group { at, choice, signers: alone(origin) });
+            }
+        }
+    }
+
+    fn quorums<R: Rules>(&self) -> impl Iterator<Item = &Group> {
+        self.groups.iter().filter(|group| is_quorum::<R>(group.at, group.signers))
+    }
+}
+
+/// The different histories that were voted for; a vote names one by its place.
+struct Histories<'a> {
+    list: Vec<&'a History>,
+    index: Index,
+}
+
+impl<'a> Histories<'a> {
+    fn number(&mut self, history: &'a History) -> u64 {
+        let place = match self.index.find(hash_of(history), |place| self.list[place] == history) {
+            Ok(place) => place,
+            Err(slot) => {
+                self.index.put(slot, self.list.len());
+                self.list.push(history);
+                self.list.len() - 1
+            }
+        };
+        place as u64
+    }
+}
+
+/// The statements of a list, grouped in one pass.
+struct Tally<'a> {
+    joins: Set,
+    leaves: Set,
+    prepares: Vec<u64>,
+    views: Votes,
+    histories: Votes,
+    acks: Votes,
+    stores: Votes,
+    named: Histories<'a>,
+}
+
+impl<'a> Tally<'a> {
+    fn count<R: Rules>(sender: u8, statements: &'a [Statement]) -> Tally<'a> {
+        let room = statements.len();
+        let mut tally = Tally {
+            joins: 0,
+            leaves: 0,
+            prepares: Vec::new(),
+            views: Votes::with_room(room),
+            histories: Votes::with_room(room),
+            acks: Votes::with_room(room),
+            stores: Votes::with_room(room),
+            named: Histories { list: Vec::new(), index: Index::for_keys(room) },
+        };
+        for Statement { origin, body } in statements {
+            match body {
+                Body::Join => tally.joins |= alone(*origin),
+                Body::Leave => tally.leaves |= alone(*origin),
+                Body::AgreeView { at, view } => tally.views.cast::<R>(*origin, *at, view.bits().into()),
+                Body::AgreeHistory { at, history } => {
+                    let number = tally.named.number(history);
+                    tally.histories.cast::<R>(*origin, *at, number);
+                }
+                Body::Report(_) => {}
+                Body::Prepare { payload } if *origin == sender => tally.prepares.push(*payload),
+                Body::Prepare { .. } => {}
+                Body::Ack { at, payload } => tally.acks.cast::<R>(*origin, *at, *payload),
+                Body::Store { at, payload } => tally.stores.cast::<R>(*origin, *at, *payload),
+            }
+        }
+        tally
+    }
+}
+
+/// A list of different views that is quick to search.
+struct Views {
+    list: Vec<View>,
+    index: Index,
+}
+
+impl Views {
+    fn holding(view: View, room: usize) -> Views {
+        let mut views = Views { list: Vec::new(), index: Index::for_keys(room) };
+        views.insert(view);
+        views
+    }
+
+    fn seek(&self, view: View) -> Result<usize, usize> {
+        self.index.find(hash_of(&view), |place| self.list[place] == view)
+    }
+
+    fn contains(&self, view: View) -> bool {
+        self.seek(view).is_ok()
+    }
+
+    fn insert(&mut self, view: View) {
+        if let Err(slot) = self.seek(view) {
+            self.index.put(slot, self.list.len());
+            self.list.push(view);
+        }
+    }
+}
+
+/// A quorum of `at` agreed on a choice, which is a view or a history with its greatest view.
+struct Agreed<T> {
+    at: View,
+    choice: T,
+    size: u32,
+}
+
+/// The candidates and sealed histories, found from the smallest views upwards.
+struct Shown {
+    candidates: Views,
+    tops: Views,
+    sealed: Vec<History>,
+}
+
+impl Shown {
+    /// Settles all candidates of a size before the histories with a top of that size, and smaller sizes first:
+    /// each of them rests only on strictly smaller tops, and a history only on candidates up to its own top.
+    fn settle<R: Rules>(initial: View, wished: View, tally: &Tally) -> Shown {
+        let chosen = chosen_views::<R>(tally);
+        let agreed = agreed_histories::<R>(tally);
+        let mut shown = Shown {
+            candidates: Views::holding(initial, chosen.len() + 1),
+            tops: Views::holding(initial, agreed.len() + 1),
+            sealed: History::new(&[initial]).into_iter().collect(),
+        };
+        let mut last = None;
+        let mut waiting = chosen.iter().peekable();
+        for vote in &agreed {
+            while let Some(choice) = waiting.next_if(|choice| choice.size <= vote.size) {
+                shown.choose(choice, wished);
+            }
+            // Votes for one history stand together, so a history that is sealed already is the last one sealed.
+            if last != Some(vote.choice) && shown.is_sealed(vote, initial) {
+                last = Some(vote.choice);
+                shown.sealed.push(*vote.choice);
+                shown.tops.insert(vote.choice.top());
+            }
+        }
+        waiting.for_each(|choice| shown.choose(choice, wished));
+        shown.sealed.sort_by_key(|history| history.views().len());
+        shown
+    }
+
+    fn choose(&mut self, vote: &Agreed<View>, wished: View) {
+        let view = vote.choice;
+        if view.has_members() && view.within(wished) && vote.at.strictly_within(view) && self.tops.contains(vote.at) {
+            self.candidates.insert(view);
+        }
+    }
+
+    fn is_sealed(&self, vote: &Agreed<&History>, initial: View) -> bool {
+        vote.choice.first() == initial
+            && vote.choice.below_top().contains(&vote.at)
+            && self.tops.contains(vote.at)
+            && vote.choice.views().iter().all(|view| self.candidates.contains(*view))
+    }
+
+    /// The choices that a quorum of a sealed top made, each once.
+    fn voted_at_tops<R: Rules>(&self, votes: &Votes) -> Vec<u64> {
+        let at_tops = votes.quorums::<R>().filter(|group| self.tops.contains(group.at));
+        let mut choices: Vec<u64> = at_tops.map(|group| group.choice).collect();
+        choices.sort_unstable();
+        choices.dedup();
+        choices
+    }
+}
+
+fn chosen_views<R: Rules>(tally: &Tally) -> Vec<Agreed<View>> {
+    let agreed = |group: &Group| {
+        let choice = View::from_bits(group.choice as u32);
+        Agreed { at: group.at, choice, size: choice.size() }
+    };
+    let mut chosen: Vec<_> = tally.views.quorums::<R>().map(agreed).collect();
+    chosen.sort_unstable_by_key(|vote| (vote.size, vote.choice));
+    chosen
+}
+
+fn agreed_histories<'a, R: Rules>(tally: &Tally<'a>) -> Vec<Agreed<&'a History>> {
+    let mut votes: Vec<&Group> = tally.histories.quorums::<R>().collect();
+    let history = |group: &Group| tally.named.list[group.choice as usize];
+    votes.sort_unstable_by_key(|group| (history(group).top().size(), group.choice));
+    let agreed = |group: &&Group| {
+        let choice = history(group);
+        Agreed { at: group.at, choice, size: choice.top().size() }
+    };
+    votes.iter().map(agreed).collect()
+}

@@ -1,0 +1,21 @@
+//! The ring notices engine for one controller, and the bench that runs sixteen from a schedule.
+//!
+//! Data flows one way: a schedule line, a statement, a record, what the record shows, a turn, a row.
+
+pub mod bench;
+pub mod controller;
+pub mod evidence;
+mod index;
+pub mod record;
+pub mod rules;
+pub mod statement;
+pub mod text;
+pub mod view;
+
+pub use bench::{Bench, Outcome, Row};
+pub use controller::{Answer, Controller, Refusal};
+pub use evidence::Evidence;
+pub use record::Record;
+pub use rules::{Document, Rules};
+pub use statement::{Binding, Body, Fields, Report, Statement};
+pub use view::{History, Set, View};

@@ -1,0 +1,29 @@
+//! Which rules an engine follows.
+
+/// The rules that a deliberately broken engine may drop, so that a checker can be shown to notice.
+///
+/// Every constant is `true` for the engine of the scope document; being constants they cost nothing.
+pub trait Rules {
+    /// Only signatures of members of the top count.
+    const MEMBERS_ONLY: bool = true;
+    /// A quorum is n - floor((n - 1) / 3) members, not one member.
+    const FULL_QUORUM: bool = true;
+    /// A certificate and a report's binding need the sender's prepare.
+    const PREPARED_ONLY: bool = true;
+    /// Entering needs reports on each older view, not on the newest alone.
+    const EVERY_OLDER_VIEW: bool = true;
+    /// Entering takes over the bindings of the counted reports.
+    const BINDING_CARRIED: bool = true;
+    /// A report names the payload of the certificate.
+    const CERTIFICATE_REPORTED: bool = true;
+    /// A controller that is bound acknowledges nothing else, and one that is barred nothing.
+    const BINDING_KEPT: bool = true;
+    /// A delivery happens once.
+    const DELIVERED_ONCE: bool = true;
+}
+
+/// The rules as the scope document states them.
+#[derive(Clone, Copy, Debug)]
+pub struct Document;
+
+impl Rules for Document {}
