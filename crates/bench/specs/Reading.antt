@@ -10,10 +10,12 @@ use lib.ListN.{length, take, drop}
 use Rattle.protocol.specs.Statement.{Stmt}
 use Rattle.text.specs.Text.{decText, hexText}
 use Rattle.statements.specs.declared.Part.{Part}
+use Rattle.statements.specs.Meaning.{stmtOf}
 use Rattle.bench.specs.declared.line.Line as held
 use Rattle.bench.specs.declared.line.Line.the-variants as is
 use Rattle.bench.specs.declared.line.Parsed.{Parsed}
 use Rattle.bench.specs.declared.line.Parsed.the-variants.{Readable, Unreadable}
+use Rattle.bench.specs.declared.line.ReadLine.{ReadLine}
 use Rattle.bench.specs.declared.line.Verb.{Verb}
 use Rattle.bench.specs.declared.line.Verb.the-variants.{Setup, Join, Leave, Send, Give, All, Turn, Lie, Unknown}
 use Rattle.bench.specs.Line.{Line, setup, join, leave, send, give, all, turn, lie, noStatement, setupWord, joinWord, leaveWord, sendWord, giveWord, allWord, turnWord, lieWord, ended, Reads, lines}
@@ -37,6 +39,20 @@ lineIs Unreadable s = none
 -- The line T reads so, whatever statement stands beside it.
 pub record Understood (T : List ℕ) (p : Parsed) : Type 0 where
   pub reads : (s : Stmt) → Reads (ended T) (lineIs p s)
+
+-- The line T reads so, and the next one begins at `next`.
+pub record BodyOf (T : List ℕ) (next : ℕ) (r : ReadLine) : Type 0 where
+  pub reads : Reads (ended T) (lineIs (r .parsed) (stmtOf (r .statement)))
+  pub next-is : r .next ≡ next
+  pub short : r .statement .history .len ≤ 16
+
+-- READING A LINE: r is what the first line of S reads as, and S goes on at r .next.
+pub record LineOf (S : List ℕ) (r : ReadLine) : Type 0 where
+  pub moves : 0 < length S → 0 < r .next
+  pub within : r .next ≤ length S
+  pub first : 0 < length S → lines S ≡ take (r .next) S ∷ lines (drop (r .next) S)
+  pub reads : Reads (take (r .next) S) (lineIs (r .parsed) (stmtOf (r .statement)))
+  pub short : r .statement .history .len ≤ 16
 
 -- ---- the line's end and its first word
 
@@ -119,3 +135,6 @@ pub record SetBy (T : List ℕ) : Type 0 where
 pub record CommandBy (T : List ℕ) (v : Verb) : Type 0 where
   pub word : v ≡ verbOf T
   pub command : v ≡ Lie → ⊥
+
+pub record LieBy (T : List ℕ) : Type 0 where
+  pub word : Lie ≡ verbOf T

@@ -1,10 +1,14 @@
 // The lines of a schedule. A line is read from the part of the schedule that begins with it; its end is looked for once, and its fields
 // within it.
 ghost use mathlib.Core.Path.{_≡_};
-ghost use Prim.Native.Nat.{_<_};
-ghost use Rattle.bench.specs.Reading.{bodyLength, startsWith, verbOf, LastAt, SetAt, NamedBy, NumberedBy, SetBy, CommandBy, Understood};
+ghost use Prim.Native.Nat.{_≤_};
+ghost use Rattle.bench.specs.Reading.{bodyLength, startsWith, verbOf, LastAt, SetAt, NamedBy, NumberedBy, SetBy, CommandBy, LieBy, Understood, BodyOf, LineOf};
+use statements::Binding;
 use statements::Part;
+use statements::Statement;
 use text::Read;
+use views::History;
+use views::View;
 
 // A lie's statement stands beside the line, since an enum holds no array.
 pub enum Line {
@@ -22,6 +26,13 @@ pub enum Line {
 pub enum Parsed {
     Readable(Line),
     Unreadable,
+}
+
+// What a line was read as, and where the next one begins.
+pub struct ReadLine {
+    pub parsed: Parsed,
+    pub statement: Statement,
+    pub next: usize,
 }
 
 // The word that a line begins with.
@@ -183,7 +194,11 @@ fn read_setup(line: &[u8]) -> Parsed
     if !faulty.ok {
         return Parsed::Unreadable;
     }
-    Parsed::Readable(Line::Setup(members.value as u16, sender.value as u8, faulty.value as u16))
+    Parsed::Readable(Line::Setup(
+        members.value as u16,
+        sender.value as u8,
+        faulty.value as u16,
+    ))
 }
 
 // Every line but a lie.
@@ -201,5 +216,84 @@ fn read_command(line: &[u8], verb: Verb) -> Parsed
         Verb::Turn => read_named(line, verb, 4),
         Verb::Lie => Parsed::Unreadable,
         Verb::Unknown => Parsed::Unreadable,
+    }
+}
+
+// What stands beside a line that is no lie.
+fn no_statement() -> Statement
+    ensures { λ r. ⌜ r .history .len ≤ 16 ⌝ }
+{
+    let none = View { joined: 0, left: 0 };
+    Statement {
+        kind: 0,
+        origin: 0,
+        at: none,
+        view: none,
+        binding: Binding::Unbound,
+        payload: 0,
+        stored: false,
+        kept: 0,
+        history: History {
+            views: [none; 16],
+            len: 0,
+        },
+    }
+}
+
+// All after the comma is to be the text of a statement that keeps the field rules.
+fn read_lie(line: &[u8], next: usize) -> ReadLine
+    requires { ⌜ LieBy (now line) ⌝ }
+    ensures { λ r. ⌜ BodyOf (now (line .entry)) next r ⌝ }
+{
+    if text::comma_at(line, 3) {
+        let r = statements::read(&line[4..]);
+        let st = r.statement;
+        if r.ok & statements::keeps_field_rules(st) {
+            return ReadLine {
+                parsed: Parsed::Readable(Line::Lie),
+                statement: st,
+                next: next,
+            };
+        }
+        return ReadLine {
+            parsed: Parsed::Readable(Line::NoStatement),
+            statement: st,
+            next: next,
+        };
+    }
+    ReadLine {
+        parsed: Parsed::Unreadable,
+        statement: no_statement(),
+        next: next,
+    }
+}
+
+// A line without its newline.
+fn read_body(line: &[u8], next: usize) -> ReadLine
+    ensures { λ r. ⌜ BodyOf (now (line .entry)) next r ⌝ }
+{
+    let verb = verb_of(line);
+    if let Verb::Lie = verb {
+        return read_lie(line, next);
+    }
+    ReadLine {
+        parsed: read_command(line, verb),
+        statement: no_statement(),
+        next: next,
+    }
+}
+
+// The line that s begins with. A last line without a newline is unreadable.
+pub fn read_line(s: &[u8]) -> ReadLine
+    ensures { λ r. ⌜ LineOf (now (s .entry)) r ⌝ }
+{
+    let end = line_end(s);
+    if end < s.len() {
+        return read_body(&s[..end], end + 1);
+    }
+    ReadLine {
+        parsed: Parsed::Unreadable,
+        statement: no_statement(),
+        next: s.len(),
     }
 }
