@@ -5,3 +5,4 @@ pub mod Commands
 pub mod Fits
 pub mod Lies
 pub mod Whole
+pub mod Rows

@@ -1,2 +1,3 @@
 // The bench: a schedule to its rows.
 pub mod line;
+pub mod row;
