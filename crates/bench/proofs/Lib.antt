@@ -6,3 +6,4 @@ pub mod Fits
 pub mod Lies
 pub mod Whole
 pub mod Rows
+pub mod One

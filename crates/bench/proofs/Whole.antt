@@ -69,7 +69,7 @@ lines-last (c ∷ S) h k = go (eqb c 10) refl S refl (lines-last S)
     go false e (x ∷ R) q ih = rw e (ap (before c) (ih (omega (arith, ap length q)) (let j = simp e at k in omega arith)))
 
 -- ---- a line that is written so ends with a newline
-written-ended : (S : List ℕ) (l : Line) → Written l S → (t : List ℕ) × (S ≡ ended t)
+pub written-ended : (S : List ℕ) (l : Line) → Written l S → (t : List ℕ) × (S ≡ ended t)
 written-ended S (setup m s f) w = (parted (setupWord ∷ hexText 4 m ∷ decText s ∷ hexText 4 f ∷ []), w .3)
 written-ended S (join k) w = (parted (joinWord ∷ decText k ∷ []), w .1)
 written-ended S (leave k) w = (parted (leaveWord ∷ decText k ∷ []), w .1)

@@ -89,7 +89,7 @@ OfVerb Turn P = (k : ℕ) → P (turn k)
 OfVerb Lie P = ((s : Stmt) → P (lie s)) × P noStatement
 OfVerb Unknown P = Unit {0}
 
-of-verb : (l : Line) (P : Line → Type 0) → OfVerb (verbIs l) P → P l
+pub of-verb : (l : Line) (P : Line → Type 0) → OfVerb (verbIs l) P → P l
 of-verb (setup m s f) P o = o m s f
 of-verb (join k) P o = o k
 of-verb (leave k) P o = o k

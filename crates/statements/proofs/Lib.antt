@@ -6,3 +6,4 @@ pub mod Written
 pub mod FieldLaws
 pub mod Laws
 pub mod Example
+pub mod One
