@@ -3,6 +3,7 @@ mod add;
 mod calls;
 mod keep;
 mod perform;
+mod turn;
 
 pub use calls::refuse;
 use pool::Record;
