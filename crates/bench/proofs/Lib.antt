@@ -5,4 +5,5 @@ pub mod Commands
 pub mod Lies
 pub mod Whole
 pub mod Rows
+pub mod Seats
 pub mod One

@@ -4,3 +4,4 @@ pub mod Bench
 pub mod Rows
 pub mod Reading
 pub mod Writing
+pub mod Seats

@@ -1,3 +1,5 @@
 // The bench: a schedule to its rows.
 pub mod line;
 pub mod row;
+pub mod seat;
+pub mod state;

@@ -1,0 +1,103 @@
+use borrow.Author.Needs.{needs}
+use Rattle.bench.proofs.state.lie.Statement.{statement}
+use Rattle.bench.proofs.state.lie.Tie as tie
+use Rattle.bench.proofs.state.lie.Reads as reads
+use Rattle.bench.proofs.state.lie.Lts as lts
+use Rattle.bench.proofs.state.refused.Reads as refused-reads
+use Rattle.pool.proofs.append.Reads as append-reads
+use Rattle.pool.proofs.find.Reads as find-reads
+use Rattle.views.proofs.View.has_member.Reads as has-member-reads
+
+-- src/state.rt:117:15
+cast-who : tie.Need-cast-who
+cast-who c = search needs
+
+-- src/state.rt:119:9
+refused-requires : tie.Need-refused-requires
+refused-requires c κs = search needs
+
+-- src/state.rt:119:9
+returns : tie.Need-returns
+returns c = ?
+
+-- src/state.rt:125:9
+has-member-requires : tie.Need-has-member-requires
+has-member-requires c κs = search needs
+
+-- src/state.rt:126:9
+refused-requires-2 : tie.Need-refused-requires-2
+refused-requires-2 c κs = search needs
+
+-- src/state.rt:126:9
+returns-2 : tie.Need-returns-2
+returns-2 c = ?
+
+-- src/state.rt:128:9
+find-requires : tie.Need-find-requires
+find-requires c κs = search needs
+
+-- src/state.rt:130:35
+enum-told : tie.Need-enum-told
+enum-told c = search needs
+
+-- src/state.rt:130:9
+refused-requires-3 : tie.Need-refused-requires-3
+refused-requires-3 c κs = search needs
+
+-- src/state.rt:130:9
+returns-3 : tie.Need-returns-3
+returns-3 c = ?
+
+enum-told-2 : tie.Need-enum-told-2
+enum-told-2 c = search needs
+
+-- src/state.rt:132:9
+append-requires : tie.Need-append-requires
+append-requires c κs = search needs
+
+-- src/state.rt:133:20
+enum-known-placed : tie.Need-enum-known-placed
+enum-known-placed c = search needs
+
+-- src/state.rt:134:35
+enum-told-3 : tie.Need-enum-told-3
+enum-told-3 c = search needs
+
+-- src/state.rt:134:9
+refused-requires-4 : tie.Need-refused-requires-4
+refused-requires-4 c κs = search needs
+
+-- src/state.rt:134:9
+returns-4 : tie.Need-returns-4
+returns-4 c = ?
+
+-- src/state.rt:139:17
+cast-t19 : tie.Need-cast-t19
+cast-t19 c = search needs
+
+-- src/state.rt:113:1
+returns-5 : tie.Need-returns-5
+returns-5 c = ?
+
+pub lie-spec : {M : Type 1} → statement M
+lie-spec =
+    tie.close
+    (tie.spec
+    cast-who
+    refused-requires
+    returns
+    has-member-requires
+    refused-requires-2
+    returns-2
+    find-requires
+    enum-told
+    refused-requires-3
+    returns-3
+    enum-told-2
+    append-requires
+    enum-known-placed
+    enum-told-3
+    refused-requires-4
+    returns-4
+    cast-t19
+    returns-5)

@@ -1,0 +1,25 @@
+use borrow.Author.Needs.{needs}
+use Rattle.bench.proofs.state.no_statement.Statement.{statement}
+use Rattle.bench.proofs.state.no_statement.Tie as tie
+use Rattle.bench.proofs.state.no_statement.Reads as reads
+use Rattle.bench.proofs.state.no_statement.Lts as lts
+use Rattle.bench.proofs.state.refused.Reads as refused-reads
+
+-- src/state.rt:152:9
+refused-requires : tie.Need-refused-requires
+refused-requires c κs = search needs
+
+-- src/state.rt:152:9
+returns : tie.Need-returns
+returns c = ?
+
+-- src/state.rt:154:5
+refused-requires-2 : tie.Need-refused-requires-2
+refused-requires-2 c κs = search needs
+
+-- src/state.rt:147:1
+returns-2 : tie.Need-returns-2
+returns-2 c = ?
+
+pub no-statement-spec : {M : Type 1} → statement M
+no-statement-spec = tie.close (tie.spec refused-requires returns refused-requires-2 returns-2)

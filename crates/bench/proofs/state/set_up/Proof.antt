@@ -1,0 +1,57 @@
+use borrow.Author.Needs.{needs}
+use Rattle.bench.proofs.state.set_up.Statement.{statement}
+use Rattle.bench.proofs.state.set_up.Tie as tie
+use Rattle.bench.proofs.state.set_up.Reads as reads
+use Rattle.bench.proofs.state.set_up.Lts as lts
+use Rattle.bench.proofs.state.refused.Reads as refused-reads
+use Rattle.bench.proofs.state.size.Reads as size-reads
+
+-- src/state.rt:85:5
+size-requires : tie.Need-size-requires
+size-requires c κs = search needs
+
+-- src/state.rt:87:9
+refused-requires : tie.Need-refused-requires
+refused-requires c κs = search needs
+
+-- src/state.rt:87:9
+returns : tie.Need-returns
+returns c = ?
+
+-- src/state.rt:91:9
+refused-requires-2 : tie.Need-refused-requires-2
+refused-requires-2 c κs = search needs
+
+-- src/state.rt:91:9
+returns-2 : tie.Need-returns-2
+returns-2 c = ?
+
+-- src/state.rt:94:9
+refused-requires-3 : tie.Need-refused-requires-3
+refused-requires-3 c κs = search needs
+
+-- src/state.rt:94:9
+returns-3 : tie.Need-returns-3
+returns-3 c = ?
+
+-- src/state.rt:96:5
+element-write-words : tie.Need-element-write-words
+element-write-words c = search needs
+
+-- src/state.rt:81:1
+returns-4 : tie.Need-returns-4
+returns-4 c = ?
+
+pub set-up-spec : {M : Type 1} → statement M
+set-up-spec =
+    tie.close
+    (tie.spec
+    size-requires
+    refused-requires
+    returns
+    refused-requires-2
+    returns-2
+    refused-requires-3
+    returns-3
+    element-write-words
+    returns-4)

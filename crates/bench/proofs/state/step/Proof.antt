@@ -1,0 +1,227 @@
+use Rattle.bench.proofs.state.step.Statement.{statement}
+use Rattle.bench.proofs.state.step.Tie as tie
+use Rattle.bench.proofs.state.step.Reads as reads
+use Rattle.bench.proofs.state.step.Lts as lts
+use Rattle.bench.proofs.seat.all.Reads as all-reads
+use Rattle.bench.proofs.seat.give.Reads as give-reads
+use Rattle.bench.proofs.seat.noted.Reads as noted-reads
+use Rattle.bench.proofs.seat.turned.Reads as turned-reads
+use Rattle.bench.proofs.state.lie.Reads as lie-reads
+use Rattle.bench.proofs.state.no_statement.Reads as no-statement-reads
+use Rattle.bench.proofs.state.refused.Reads as refused-reads
+use Rattle.bench.proofs.state.seated.Reads as seated-reads
+use Rattle.bench.proofs.state.set_up.Reads as set-up-reads
+use Rattle.engine.proofs.Controller.join.Reads as join-reads
+use Rattle.engine.proofs.Controller.leave.Reads as leave-reads
+use Rattle.engine.proofs.Controller.send.Reads as send-reads
+use Rattle.engine.proofs.Controller.turn.Reads as turn-reads
+
+-- src/state.rt:162:26
+enum-known-parsed : tie.Need-enum-known-parsed
+enum-known-parsed c = ?
+
+-- src/state.rt:163:34
+enum-told : tie.Need-enum-told
+enum-told c = ?
+
+-- src/state.rt:163:9
+refused-requires : tie.Need-refused-requires
+refused-requires c κs = ?
+
+-- src/state.rt:163:9
+returns : tie.Need-returns
+returns c = ?
+
+-- src/state.rt:166:21
+enum-known-line : tie.Need-enum-known-line
+enum-known-line c = ?
+
+-- src/state.rt:166:49
+set-up-requires : tie.Need-set-up-requires
+set-up-requires c κs = ?
+
+-- src/state.rt:167:20
+enum-known-line-2 : tie.Need-enum-known-line-2
+enum-known-line-2 c = ?
+
+-- src/state.rt:167:51
+join-requires : tie.Need-join-requires
+join-requires c κs = ?
+
+-- src/state.rt:167:39
+noted-requires : tie.Need-noted-requires
+noted-requires c κs = ?
+
+-- src/state.rt:167:26
+seated-requires : tie.Need-seated-requires
+seated-requires c κs = ?
+
+-- src/state.rt:168:21
+enum-known-line-3 : tie.Need-enum-known-line-3
+enum-known-line-3 c = ?
+
+-- src/state.rt:168:52
+leave-requires : tie.Need-leave-requires
+leave-requires c κs = ?
+
+-- src/state.rt:168:40
+noted-requires-2 : tie.Need-noted-requires-2
+noted-requires-2 c κs = ?
+
+-- src/state.rt:168:27
+seated-requires-2 : tie.Need-seated-requires-2
+seated-requires-2 c κs = ?
+
+-- src/state.rt:169:20
+enum-known-line-4 : tie.Need-enum-known-line-4
+enum-known-line-4 c = ?
+
+-- src/state.rt:169:54
+send-requires : tie.Need-send-requires
+send-requires c κs = ?
+
+-- src/state.rt:169:42
+noted-requires-3 : tie.Need-noted-requires-3
+noted-requires-3 c κs = ?
+
+-- src/state.rt:169:29
+seated-requires-3 : tie.Need-seated-requires-3
+seated-requires-3 c κs = ?
+
+-- src/state.rt:170:20
+enum-known-line-5 : tie.Need-enum-known-line-5
+enum-known-line-5 c = ?
+
+-- src/state.rt:170:42
+give-requires : tie.Need-give-requires
+give-requires c κs = ?
+
+-- src/state.rt:170:29
+seated-requires-4 : tie.Need-seated-requires-4
+seated-requires-4 c κs = ?
+
+-- src/state.rt:171:19
+enum-known-line-6 : tie.Need-enum-known-line-6
+enum-known-line-6 c = ?
+
+-- src/state.rt:171:38
+all-requires : tie.Need-all-requires
+all-requires c κs = ?
+
+-- src/state.rt:171:25
+seated-requires-5 : tie.Need-seated-requires-5
+seated-requires-5 c κs = ?
+
+-- src/state.rt:172:20
+enum-known-line-7 : tie.Need-enum-known-line-7
+enum-known-line-7 c = ?
+
+-- src/state.rt:172:52
+turn-requires : tie.Need-turn-requires
+turn-requires c κs = ?
+
+-- src/state.rt:172:39
+turned-requires : tie.Need-turned-requires
+turned-requires c κs = ?
+
+-- src/state.rt:172:26
+seated-requires-6 : tie.Need-seated-requires-6
+seated-requires-6 c κs = ?
+
+-- src/state.rt:173:29
+enum-told-2 : tie.Need-enum-told-2
+enum-told-2 c = ?
+
+-- src/state.rt:173:22
+lie-requires : tie.Need-lie-requires
+lie-requires c κs = ?
+
+-- src/state.rt:174:46
+enum-told-3 : tie.Need-enum-told-3
+enum-told-3 c = ?
+
+-- src/state.rt:174:30
+no-statement-requires : tie.Need-no-statement-requires
+no-statement-requires c κs = ?
+
+-- src/state.rt:158:1
+returns-2 : tie.Need-returns-2
+returns-2 c = ?
+
+-- src/state.rt:158:1
+returns-3 : tie.Need-returns-3
+returns-3 c = ?
+
+-- src/state.rt:158:1
+returns-4 : tie.Need-returns-4
+returns-4 c = ?
+
+-- src/state.rt:158:1
+returns-5 : tie.Need-returns-5
+returns-5 c = ?
+
+-- src/state.rt:158:1
+returns-6 : tie.Need-returns-6
+returns-6 c = ?
+
+-- src/state.rt:158:1
+returns-7 : tie.Need-returns-7
+returns-7 c = ?
+
+-- src/state.rt:158:1
+returns-8 : tie.Need-returns-8
+returns-8 c = ?
+
+-- src/state.rt:158:1
+returns-9 : tie.Need-returns-9
+returns-9 c = ?
+
+-- src/state.rt:158:1
+returns-10 : tie.Need-returns-10
+returns-10 c = ?
+
+pub step-spec : {M : Type 1} → statement M
+step-spec =
+    tie.close
+    (tie.spec
+    enum-known-parsed
+    enum-told
+    refused-requires
+    returns
+    enum-known-line
+    set-up-requires
+    enum-known-line-2
+    join-requires
+    noted-requires
+    seated-requires
+    enum-known-line-3
+    leave-requires
+    noted-requires-2
+    seated-requires-2
+    enum-known-line-4
+    send-requires
+    noted-requires-3
+    seated-requires-3
+    enum-known-line-5
+    give-requires
+    seated-requires-4
+    enum-known-line-6
+    all-requires
+    seated-requires-5
+    enum-known-line-7
+    turn-requires
+    turned-requires
+    seated-requires-6
+    enum-told-2
+    lie-requires
+    enum-told-3
+    no-statement-requires
+    returns-2
+    returns-3
+    returns-4
+    returns-5
+    returns-6
+    returns-7
+    returns-8
+    returns-9
+    returns-10)

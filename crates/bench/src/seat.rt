@@ -1,0 +1,204 @@
+// What a line does to the controller that it names.
+ghost use mathlib.Core.Path.{_≡_};
+ghost use Rattle.engine.specs.Meaning.{AllIn};
+ghost use Rattle.pool.specs.Pool.{poolLen};
+ghost use Rattle.bench.specs.Line.{Line};
+ghost use Rattle.bench.specs.Seats.{Distinct, Sound, listed, Marks, Filled, Seated, numberIs};
+use engine::Answer;
+use engine::Controller;
+use engine::Outcome;
+use engine::Refusal;
+use pool::POOL_WORDS;
+use pool::Record;
+
+// The answer, the number that its row may need, and the controller after it.
+pub struct Replied {
+    pub answer: Answer,
+    pub number: u64,
+    pub controller: Controller,
+}
+
+// A record with what it lacked of the pool, and how many statements that were.
+pub struct Missing {
+    pub statements: Record,
+    pub count: usize,
+}
+
+pub fn refused(c: Controller, r: Refusal) -> Replied
+    ensures { λ o. ⌜ (o .answer ≡ Answer.Refused r) × (o .number ≡ 0) × (o .controller ≡ c) ⌝ }
+{
+    Replied {
+        answer: Answer::Refused(r),
+        number: 0,
+        controller: c,
+    }
+}
+
+pub fn taken(c: Controller, n: u64) -> Replied
+    ensures { λ o. ⌜ (o .answer ≡ Answer.Taken) × (o .number ≡ n) × (o .controller ≡ c) ⌝ }
+{
+    Replied {
+        answer: Answer::Taken,
+        number: n,
+        controller: c,
+    }
+}
+
+// A request's row has no number of its own.
+pub fn noted(o: Outcome) -> Replied
+    ensures { λ r. ⌜ (r .answer ≡ o .answer) × (r .number ≡ 0) × (r .controller ≡ o .controller) ⌝ }
+{
+    let a = o.answer;
+    let c = o.controller;
+    Replied {
+        answer: a,
+        number: 0,
+        controller: c,
+    }
+}
+
+fn number_of(a: Answer) -> u64
+    ensures { λ r. ⌜ r ≡ numberIs a ⌝ }
+{
+    match a {
+        Answer::Taken => 0,
+        Answer::Signed(n) => n as u64,
+        Answer::Entered(_) => 0,
+        Answer::Delivered(_) => 0,
+        Answer::Left => 0,
+        Answer::Quiet => 0,
+        Answer::Refused(_) => 0,
+    }
+}
+
+// A turn that signs has the statement's number in its row.
+pub fn turned(o: Outcome) -> Replied
+    ensures { λ r. ⌜ (r .answer ≡ o .answer) × (r .number ≡ numberIs (o .answer)) × (r .controller ≡ o .controller) ⌝ }
+{
+    let a = o.answer;
+    let c = o.controller;
+    Replied {
+        answer: a,
+        number: number_of(a),
+        controller: c,
+    }
+}
+
+// Whether a record has the number n. The pool's statements differ, so that it has the statement just where it has the number.
+fn has_number(rec: Record, n: u16) -> bool
+    ensures { λ r. ⌜ r ≡ listed rec n ⌝ }
+{
+    let end = pool::limit(rec.len);
+    let ids = rec.ids;
+    let mut i = 0usize;
+    while i < end {
+        if ids[i] == n {
+            return true;
+        }
+        i += 1;
+    }
+    false
+}
+
+fn index(id: u16) -> usize
+    ensures { λ r. ⌜ r ≡ id ⌝ }
+{
+    id as usize
+}
+
+// Which numbers a record has.
+fn marks_of(rec: Record) -> [bool; 512]
+    ensures { λ r. ⌜ Marks rec r ⌝ }
+{
+    let end = pool::limit(rec.len);
+    let ids = rec.ids;
+    let mut marks = [false; 512];
+    let mut i = 0usize;
+    while i < end {
+        let id = index(ids[i]);
+        if id >= 512 {
+            i += 1;
+            continue;
+        }
+        marks[id] = true;
+        i += 1;
+    }
+    marks
+}
+
+// The record with every statement below n that it lacks, in rising number.
+fn fill(words: &[u64; POOL_WORDS], rec: Record, marks: [bool; 512], n: usize) -> Missing
+    requires { ⌜ Distinct (now words) × AllIn (now words) rec × Marks rec marks × (n ≡ poolLen (now words)) ⌝ }
+    ensures { λ r. ⌜ Filled (now (words .entry)) rec n r ⌝ }
+{
+    let mut more = rec;
+    let mut count = 0usize;
+    let mut i = 0usize;
+    while i < n {
+        if marks[i] {
+            i += 1;
+            continue;
+        }
+        let next = pool::push(more, i as u16);
+        more = next;
+        count += 1;
+        i += 1;
+    }
+    Missing {
+        statements: more,
+        count: count,
+    }
+}
+
+// Statement n goes to the end of k's record.
+pub fn give(c: Controller, words: &[u64; POOL_WORDS], ready: bool, k: u8, n: u64) -> Replied
+    requires { ⌜ Sound (now words) c ⌝ }
+    ensures { λ r. ⌜ Seated (now (words .entry)) ready c k (Line.give k n) r (now (words .entry)) ⌝ }
+{
+    if !ready {
+        return refused(c, Refusal::OutOfPlace);
+    }
+    if n >= pool::pool_len(words) as u64 {
+        return refused(c, Refusal::OutOfPlace);
+    }
+    let statements = c.statements;
+    if has_number(statements, n as u16) {
+        return refused(c, Refusal::Repeated);
+    }
+    if statements.len >= 512 {
+        return refused(c, Refusal::Full);
+    }
+    let more = pool::push(statements, n as u16);
+    taken(
+        Controller {
+            statements: more,
+            ..c
+        },
+        0,
+    )
+}
+
+// Every statement that k's record lacks goes to its end.
+pub fn all(c: Controller, words: &[u64; POOL_WORDS], ready: bool, k: u8) -> Replied
+    requires { ⌜ Sound (now words) c ⌝ }
+    ensures { λ r. ⌜ Seated (now (words .entry)) ready c k (Line.all k) r (now (words .entry)) ⌝ }
+{
+    if !ready {
+        return refused(c, Refusal::OutOfPlace);
+    }
+    let statements = c.statements;
+    let had = pool::limit(statements.len);
+    let marks = marks_of(statements);
+    let m = fill(words, statements, marks, pool::pool_len(words));
+    if had + m.count > 512 {
+        return refused(c, Refusal::Full);
+    }
+    let more = m.statements;
+    taken(
+        Controller {
+            statements: more,
+            ..c
+        },
+        m.count as u64,
+    )
+}
