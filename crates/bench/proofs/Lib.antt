@@ -6,4 +6,5 @@ pub mod Lies
 pub mod Whole
 pub mod Rows
 pub mod Seats
+pub mod States
 pub mod One

@@ -190,7 +190,7 @@ replied : (k : ℕ) (ready : Bool) (faulty : ℕ) {a a′ : controller.Answer} {
         (record { reply = record { who = k; answer = a′; number = n′ }; bench = record { isSetUp = ready; faulty = faulty; seats = X′; pool = P′ } })
 replied k ready faulty e f g h = cc
 
-grows-same : (W : List ℕ) → Grows W W
+pub grows-same : (W : List ℕ) → Grows W W
 grows-same W = record { len = omega arith; same = λ n l. refl }
 
 module _ (W : List ℕ) (ready : Bool) (c : Controller) (k : ℕ) (l : Line) (r : Replied) where
@@ -257,12 +257,25 @@ pub pool-most : (W : List ℕ) → poolLen W ≤ 512
 unfolding poolLen
 pool-most W = omega arith
 
+filter-most : {A : Type 0} (p : A → Bool) (l : List A) → length (filter p l) ≤ length l
+unfolding filter
+filter-most p [] = omega arith
+filter-most p (a ∷ l) = go (p a) (filter-most p l)
+  where
+    go : (b : Bool) → length (filter p l) ≤ length l → length (if b then a ∷ filter p l else filter p l) ≤ suc (length l)
+    go true h = omega arith
+    go false h = omega arith
+
+pub fill-most : {W : List ℕ} {from : Record} {n : ℕ} {m : Missing} → Filled W from n m → m .count ≤ n
+unfolding lacking
+fill-most {W} {from} {n} {m} f = omega (arith, f .count, filter-most (λ s. not (any (sameStmt s) (recordOf W (from .ids) (from .len)))) (table n (stmtAt W)), table-length n (stmtAt W))
+
 pub fill-end : (W : List ℕ) (from : Record) (i n count : ℕ) (more : Record) → i ≡ n → Filled W from i (made more count) → Filled W from n (made more count)
 fill-end W from i n count more e f = subst (λ m. Filled W from m (made more count)) e f
 
 -- ---- give
 
-pool-size : (W : List ℕ) → length (poolIs W) ≡ poolLen W
+pub pool-size : (W : List ℕ) → length (poolIs W) ≡ poolLen W
 unfolding poolIs
 pool-size W = table-length (poolLen W) (stmtAt W)
 

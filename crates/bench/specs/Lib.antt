@@ -5,3 +5,4 @@ pub mod Rows
 pub mod Reading
 pub mod Writing
 pub mod Seats
+pub mod Running

@@ -4,7 +4,7 @@ use mathlib.Core.Path.{_≡_}
 use mathlib.Core.Bool.{_||_}
 use mathlib.Core.List.{List, [], _∷_, _++_}
 use mathlib.Core.Option.{Option}
-use Prim.Native.Nat.{ℕ, suc}
+use Prim.Native.Nat.{ℕ, suc, _≤_}
 use lib.Dec.{eqb, ltb}
 use lib.ListN.{length}
 use Rattle.protocol.specs.Lists.{if_then_else_}
@@ -45,8 +45,8 @@ rowsFrom n b (l ∷ L) = rowText n (step b l .reply) ++ rowsFrom (suc n) (step b
 abbrev pub refusedRow : List ℕ
 refusedRow = rowText 0 (record { who = nobody; answer = refused outOfPlace; number = 0 })
 
--- out is what is printed for the schedule.
+-- out is what is printed for the schedule. A schedule that is too long is not read.
 pub record Printed (schedule out : List ℕ) : Type 0 where
   pub reading : List (Option Line)
-  pub reads : ReadAll (lines schedule) reading
+  pub reads : length schedule ≤ 65536 → ReadAll (lines schedule) reading
   pub prints : out ≡ headerText ++ (if eqb (length schedule) 0 || ltb 65536 (length schedule) then refusedRow else rowsFrom 1 newBench reading)

@@ -1,5 +1,6 @@
 // The bench: a schedule to its rows.
 pub mod line;
 pub mod row;
+pub mod run;
 pub mod seat;
 pub mod state;

@@ -43,7 +43,7 @@ same-length c = length-set (c .before .before .put-value .last .0) (c .before .b
 
 -- src/row.rt:66:1
 returns : tie.Need-returns
-returns c = (omega (arith, row-size (c .before .before .before .before .before .before .before .before .before .before .before .before .before .before .before .before .before .args .n) (c .before .before .before .before .before .before .before .before .before .before .before .before .before .before .before .before .before .args .who) (c .before .before .before .before .before .before .before .before .before .before .before .before .before .before .before .before .before .args .word) (c .before .before .before .before .before .before .before .before .before .before .before .before .before .before .before .before .before .args .value), c .before .before .before .before .before .before .before .before .before .before .before .before .before .before .write-dec .ensures .0, c .before .before .before .before .before .before .before .before .before .before .put-number .ensures .0, c .before .before .before .before .before .before .put-word .ensures .0, c .before .before .put-value .ensures .0), rw (c .before .before .put-value .ensures .1) (rw (c .before .before .before .before .before .before .put-word .ensures .1) (rw (c .before .before .before .before .before .before .before .before .before .before .put-number .ensures .1) (rw (c .before .before .before .before .before .before .before .before .before .before .before .before .before .before .write-dec .ensures .1) (row-runs (c .before .before .before .before .before .before .before .before .before .before .before .before .before .before .before .before .before .args .n) (c .before .before .before .before .before .before .before .before .before .before .before .before .before .before .before .before .before .args .who) (c .before .before .before .before .before .before .before .before .before .before .before .before .before .before .before .before .before .args .word) (c .before .before .before .before .before .before .before .before .before .before .before .before .before .before .before .before .before .args .value) (c .before .before .before .before .before .before .before .before .before .before .before .before .before .before .before .before .before .args .out .now) (c .before .before .before .before .before .before .before .before .before .before .before .before .before .before .before .before .before .args .at) _ _ _ _ (c .before .before .before .before .before .before .before .before .before .before .before .before .before .before .write-dec .ensures .0) (c .before .before .before .before .before .before .before .before .before .before .put-number .ensures .0) (c .before .before .before .before .before .before .put-word .ensures .0) (c .before .before .put-value .ensures .0))))))
+returns c = (omega (arith, row-size (c .before .before .before .before .before .before .before .before .before .before .before .before .before .before .before .before .before .args .n) (c .before .before .before .before .before .before .before .before .before .before .before .before .before .before .before .before .before .args .who) (c .before .before .before .before .before .before .before .before .before .before .before .before .before .before .before .before .before .args .word) (c .before .before .before .before .before .before .before .before .before .before .before .before .before .before .before .before .before .args .value), c .before .before .before .before .before .before .before .before .before .before .before .before .before .before .write-dec .ensures .0, c .before .before .before .before .before .before .before .before .before .before .put-number .ensures .0, c .before .before .before .before .before .before .put-word .ensures .0, c .before .before .put-value .ensures .0), rw (c .before .before .put-value .ensures .1) (rw (c .before .before .before .before .before .before .put-word .ensures .1) (rw (c .before .before .before .before .before .before .before .before .before .before .put-number .ensures .1) (rw (c .before .before .before .before .before .before .before .before .before .before .before .before .before .before .write-dec .ensures .1) (row-runs (c .before .before .before .before .before .before .before .before .before .before .before .before .before .before .before .before .before .args .n) (c .before .before .before .before .before .before .before .before .before .before .before .before .before .before .before .before .before .args .who) (c .before .before .before .before .before .before .before .before .before .before .before .before .before .before .before .before .before .args .word) (c .before .before .before .before .before .before .before .before .before .before .before .before .before .before .before .before .before .args .value) (c .before .before .before .before .before .before .before .before .before .before .before .before .before .before .before .before .before .args .out .now) (c .before .before .before .before .before .before .before .before .before .before .before .before .before .before .before .before .before .args .at) _ _ _ _ (c .before .before .before .before .before .before .before .before .before .before .before .before .before .before .write-dec .ensures .0) (c .before .before .before .before .before .before .before .before .before .before .put-number .ensures .0) (c .before .before .before .before .before .before .put-word .ensures .0) (c .before .before .put-value .ensures .0))))), omega (arith, row-size (c .before .before .before .before .before .before .before .before .before .before .before .before .before .before .before .before .before .args .n) (c .before .before .before .before .before .before .before .before .before .before .before .before .before .before .before .before .before .args .who) (c .before .before .before .before .before .before .before .before .before .before .before .before .before .before .before .before .before .args .word) (c .before .before .before .before .before .before .before .before .before .before .before .before .before .before .before .before .before .args .value), c .before .before .before .before .before .before .before .before .before .before .before .before .before .before .before .before .before .pre .0, line-most (c .before .before .before .before .before .before .before .before .before .before .before .before .before .before .before .before .before .args .n) (c .before .before .before .before .before .before .before .before .before .before .before .before .before .before .before .before .before .pre .1), who-most (c .before .before .before .before .before .before .before .before .before .before .before .before .before .before .before .before .before .args .who) (c .before .before .before .before .before .before .before .before .before .before .before .before .before .before .before .before .before .pre .2), word-most (c .before .before .before .before .before .before .before .before .before .before .before .before .before .before .before .before .before .args .word), c .before .before .before .before .before .before .before .before .before .before .before .before .before .before .write-dec .ensures .0, c .before .before .before .before .before .before .before .before .before .before .before .before .before .before .write-dec .kept, c .before .before .before .before .before .before .before .before .before .before .put-number .ensures .0, c .before .before .before .before .before .before .before .before .before .before .put-number .kept, c .before .before .before .before .before .before .put-word .ensures .0, c .before .before .before .before .before .before .put-word .kept, c .before .before .put-value .ensures .0, c .before .before .put-value .kept, c .before .before .put-value .ensures .2))
 
 pub put-row-spec : {M : Type 1} → statement M
 put-row-spec =

@@ -3,7 +3,7 @@ use native.Mathlib.Omega.{arith}
 use mathlib.Core.Path.{_≡_, refl, sym, _∙_}
 use Prim.Native.Nat.{_-_, _≤_}
 use lib.ListN.{getD}
-use Rattle.bench.proofs.Seats.{MarksTo, marks-first, marks-next, marks-skip, marks-are}
+use Rattle.bench.proofs.Seats.{MarksTo, marks-first, marks-stored, marks-skip, marks-are}
 use Rattle.bench.proofs.seat.marks_of.Statement.{statement}
 use Rattle.bench.proofs.seat.marks_of.Tie as tie
 use Rattle.bench.proofs.seat.marks_of.Reads as reads

@@ -1,4 +1,8 @@
 use borrow.Author.Needs.{needs}
+use native.Mathlib.Omega.{arith}
+use mathlib.Core.Path.{_≡_, refl, sym, _∙_}
+use borrow.Author.Tests.{not-true, not-false}
+use Rattle.bench.proofs.States.{no-statement-early, no-statement-bad}
 use Rattle.bench.proofs.state.no_statement.Statement.{statement}
 use Rattle.bench.proofs.state.no_statement.Tie as tie
 use Rattle.bench.proofs.state.no_statement.Reads as reads
@@ -11,7 +15,7 @@ refused-requires c κs = search needs
 
 -- src/state.rt:152:9
 returns : tie.Need-returns
-returns c = ?
+returns c = no-statement-early _ _ _ _ (c .before .before .before .pre) (c .refused .ensures) (not-true _ (c .before .if1 .taken))
 
 -- src/state.rt:154:5
 refused-requires-2 : tie.Need-refused-requires-2
@@ -19,7 +23,7 @@ refused-requires-2 c κs = search needs
 
 -- src/state.rt:147:1
 returns-2 : tie.Need-returns-2
-returns-2 c = ?
+returns-2 c = no-statement-bad _ _ _ _ (c .before .before .before .pre) (c .refused2 .ensures) (not-false _ (c .before .if1 .left))
 
 pub no-statement-spec : {M : Type 1} → statement M
 no-statement-spec = tie.close (tie.spec refused-requires returns refused-requires-2 returns-2)

@@ -1,0 +1,301 @@
+-- What a line comes to: on one controller, on the pool, or on all.
+-- Assumes nothing.
+use mathlib.Core.Path.{_≡_, refl, sym, ap, ap₂, subst, _∙_}
+use mathlib.Core.Bool.{Bool, true, false, not, _&&_, _||_}
+use mathlib.Core.List.{List, [], _∷_, _++_}
+use mathlib.Core.Option.{Option, some, none}
+use Prim.Native.Nat.{ℕ, zero, suc, _+_, _^_, _≤_, _<_, min}
+use native.Mathlib.Decide.{decLt}
+use native.Mathlib.Omega.{arith}
+use lib.Dec.{T, eqb, leb, ltb}
+use lib.ListN.{length, getD, set}
+use lib.Seq.{getD-set-same, set-getD}
+use borrow.Author.Tests.{lt-ltb, le-ltb, le-leb, lt-leb}
+use Rattle.protocol.specs.Sets.{bit}
+use Rattle.protocol.specs.Lists.{if_then_else_, any}
+use Rattle.protocol.specs.View.{controllers, member}
+use Rattle.protocol.specs.Statement.{Stmt, sameStmt}
+use Rattle.protocol.specs.Controller as controller
+use Rattle.protocol.specs.Call.{setupAllowed, started}
+use Rattle.protocol.proofs.Bits.{bit-zero}
+use Rattle.protocol.proofs.Found.{none≢some}
+use Rattle.views.specs.Table.{table}
+use Rattle.views.proofs.Tables.{table-cong}
+use Rattle.statements.specs.declared.Statement.{Statement}
+use Rattle.statements.specs.Meaning.{stmtOf}
+use Rattle.pool.specs.declared.Found.the-variants as found
+use Rattle.pool.specs.declared.Placed.{Placed as Answered}
+use Rattle.pool.specs.declared.Placed.the-variants as placed
+use Rattle.pool.specs.Pool.{stmtAt, poolLen, recordOf}
+use Rattle.pool.specs.Changes as memory
+use Rattle.pool.proofs.Searches.{found-at, found-none, pool-grown}
+use Rattle.engine.specs.declared.Controller.{Controller}
+use Rattle.engine.specs.declared.Refusal.{Refusal}
+use Rattle.engine.specs.declared.Refusal.the-variants as refusal
+use Rattle.engine.specs.declared.Answer.the-variants.{Taken, Refused}
+use Rattle.engine.specs.Meaning.{controllerIs, recordIs, poolIs, Whole, AllIn, answerIs, refusalIs}
+use Rattle.engine.proofs.Pools.{Located, there, absent, in-pool, grown-pool}
+use Rattle.bench.specs.declared.seat.Replied.{Replied}
+use Rattle.bench.specs.declared.line.Parsed.{Parsed}
+use Rattle.bench.specs.declared.state.Setting.{Setting}
+use Rattle.bench.specs.declared.state.Stepped.{Stepped}
+use Rattle.bench.specs.Line.{Line, setup, lie, noStatement}
+use Rattle.bench.specs.Reading.{lineIs}
+use Rattle.bench.specs.Bench as bench
+use Rattle.bench.specs.Bench.{Seat, emptySeat, Bench, step}
+use Rattle.bench.specs.Seats.{seatIs, benchOf, Distinct, Sound, Grows, Seated, SeatedAs, RefusedAs, Advanced, Fit, seatOf}
+use Rattle.bench.proofs.Seats.{grows-same, one-grows, one-distinct, pool-size}
+
+-- the parts of what a line leaves
+stepped : {w w′ : ℕ} {a a′ : controller.Answer} {n n′ : ℕ} {g g′ : Bool} {f f′ : ℕ} {X X′ : List Seat} {P P′ : List Stmt} → w ≡ w′ → a ≡ a′ → n ≡ n′ → g ≡ g′ → f ≡ f′ → X ≡ X′ → P ≡ P′
+    → _≡_ {A = bench.Stepped} (record { reply = record { who = w; answer = a; number = n }; bench = record { isSetUp = g; faulty = f; seats = X; pool = P } })
+        (record { reply = record { who = w′; answer = a′; number = n′ }; bench = record { isSetUp = g′; faulty = f′; seats = X′; pool = P′ } })
+stepped e f g h i j k = cc
+
+if-false : {A : Type 0} (b : Bool) (x y : A) → b ≡ false → y ≡ (if b then x else y)
+if-false b x y e = rw e
+
+if-true : {A : Type 0} (b : Bool) (x y : A) → b ≡ true → x ≡ (if b then x else y)
+if-true b x y e = rw e
+
+-- a line that was answered on its controller
+pub advance-seated : {W W′ : List ℕ} {g : Setting} {c : Controller} {k : ℕ} {l : Line} {r : Replied} {s : Stepped} → k < 16 → Seated W (g .ready) c k l r W′ → SeatedAs g k r s → Advanced W g c k (some l) s W′
+advance-seated {W} {W′} {g} {c} {k} {l} {r} {s} b m e = record {
+  steps = λ X x. m .steps (g .faulty) X x ∙ stepped (sym (e .who)) (sym (ap (answerIs W′) (e .answer))) (sym (e .number)) (sym (ap (λ (t : Setting). t .ready) (e .setting))) (sym (ap (λ (t : Setting). t .faulty) (e .setting)))
+      (ap (λ t. set X k (seatIs W′ t)) (sym (e .controller)) ∙ if-false (s .fresh) (table controllers (λ j. record { controller = started j (s .setting .members) (s .setting .sender); statements = [] })) (set X k (seatIs W′ (s .controller))) (e .fresh)) refl;
+  who = omega (arith, e .who);
+  sound = λ h. subst (Sound W′) (sym (e .controller)) (m .sound);
+  grows = λ h. m .grows;
+  begun = λ h. absurd (subst T (sym h ∙ e .fresh) tt);
+}
+
+-- a line that was refused
+pub advance-refused : {W : List ℕ} {g : Setting} {c : Controller} {k : ℕ} {o : Option Line} (who : ℕ) (q : Refusal) {s : Stepped} → who ≤ 16 → Sound W c → RefusedAs c g who q s
+    → ((X : List Seat) → getD X k emptySeat ≡ seatIs W c → step (benchOf (g .ready) (g .faulty) X W) o ≡ bench.refuse (benchOf (g .ready) (g .faulty) X W) who (refusalIs q)) → Advanced W g c k o s W
+unfolding answerIs
+advance-refused {W} {g} {c} {k} {o} who q {s} b m e h = record {
+  steps = λ X x. h X x ∙ stepped (sym (e .who-is)) (sym (ap (answerIs W) (e .answer))) (sym (e .number)) (sym (ap (λ (t : Setting). t .ready) (e .setting))) (sym (ap (λ (t : Setting). t .faulty) (e .setting)))
+      (sym (ap (λ t. set X k (seatIs W t)) (e .controller) ∙ ap (λ t. set X k t) (sym x) ∙ set-getD X k emptySeat) ∙ if-false (s .fresh) (table controllers (λ j. record { controller = started j (s .setting .members) (s .setting .sender); statements = [] })) (set X k (seatIs W (s .controller))) (e .fresh)) refl;
+  who = omega (arith, e .who-is);
+  sound = λ t. subst (Sound W) (sym (e .controller)) m;
+  grows = λ t. grows-same W;
+  begun = λ t. absurd (subst T (sym t ∙ e .fresh) tt);
+}
+
+-- ---- unreadable lines, and lies that are no statement
+
+module _ (W : List ℕ) (g : Setting) (c : Controller) (s : Stepped) (m : Sound W c) where
+  pub unreadable : RefusedAs c g 16 refusal.OutOfPlace s → Advanced W g c 0 none s W
+  unfolding step
+  unreadable e = advance-refused 16 refusal.OutOfPlace (omega arith) m e (λ X x. refl)
+
+  pub no-statement-early : RefusedAs c g 16 refusal.OutOfPlace s → g .ready ≡ false → Advanced W g c 0 (some noStatement) s W
+  unfolding step
+  no-statement-early e q = advance-refused 16 refusal.OutOfPlace (omega arith) m e (λ X x. go (g .ready) q (benchOf (g .ready) (g .faulty) X W))
+    where
+      go : (b : Bool) → b ≡ false → (d : Bench) → (if b then bench.refuse d 16 controller.badStatement else bench.refuse d 16 controller.outOfPlace) ≡ bench.refuse d 16 controller.outOfPlace
+      go b e d = rw e
+
+  pub no-statement-bad : RefusedAs c g 16 refusal.BadStatement s → g .ready ≡ true → Advanced W g c 0 (some noStatement) s W
+  unfolding step
+  no-statement-bad e q = advance-refused 16 refusal.BadStatement (omega arith) m e (λ X x. go (g .ready) q (benchOf (g .ready) (g .faulty) X W))
+    where
+      go : (b : Bool) → b ≡ true → (d : Bench) → (if b then bench.refuse d 16 controller.badStatement else bench.refuse d 16 controller.outOfPlace) ≡ bench.refuse d 16 controller.badStatement
+      go b e d = rw e
+
+-- ---- a setup
+
+module _ (members sender faulty : ℕ) where
+  -- the tests, over plain values
+  abbrev settled : Bench → Bool → Bool → Bool → bench.Stepped
+  settled b ready allowed near =
+      if ready || not allowed then bench.refuse b (if near then sender else 16) controller.badSetup
+      else record {
+        reply = record { who = sender; answer = controller.taken; number = 0 };
+        bench = record { isSetUp = true; faulty = faulty; seats = table controllers (λ k. record { controller = started k members sender; statements = [] }); pool = [] };
+      }
+
+  setup-is : (b : Bench) {ready allowed near : Bool} → b .isSetUp ≡ ready → setupAllowed 0 members sender ≡ allowed → ltb sender 16 ≡ near → step b (some (setup members sender faulty)) ≡ settled b ready allowed near
+  unfolding step bench.setUp
+  setup-is b {ready} {allowed} {near} e f h = ap (λ t. settled b t (setupAllowed 0 members sender) (ltb sender 16)) e ∙ ap (λ t. settled b ready t (ltb sender 16)) f ∙ ap (λ t. settled b ready allowed t) h
+
+  far : 16 ≤ sender → setupAllowed 0 members sender ≡ false
+  unfolding setupAllowed
+  far l = rw (le-ltb sender 16 l) (and-last (ltb 0 members && ltb members (2 ^ 16) && ltb 0 16))
+    where
+      and-last : (b : Bool) → (b && false) ≡ false
+      and-last true = refl
+      and-last false = refl
+
+  nobody-in : members ≡ 0 → setupAllowed 0 members sender ≡ false
+  unfolding setupAllowed
+  nobody-in e = rw (le-ltb 0 members (omega arith))
+
+  allowed-is : (members ≡ 0 → ⊥) → members < 65536 → sender < 16 → setupAllowed 0 members sender ≡ true
+  unfolding setupAllowed
+  allowed-is n m l = rw (lt-ltb 0 members (omega arith), lt-ltb members (2 ^ 16) m, lt-ltb sender 16 l)
+
+  module _ (W : List ℕ) (g : Setting) (c : Controller) (s : Stepped) (m : Sound W c) where
+    or-both : (b : Bool) → (b || true) ≡ true
+    or-both true = refl
+    or-both false = refl
+
+    refuses : (who : ℕ) (near : Bool) → who ≡ (if near then sender else 16) → who ≤ 16 → RefusedAs c g who refusal.BadSetup s → ltb sender 16 ≡ near → (g .ready || not (setupAllowed 0 members sender)) ≡ true
+        → Advanced W g c 0 (some (setup members sender faulty)) s W
+    refuses who near w b e h o = advance-refused who refusal.BadSetup b m e (λ X x. setup-is (benchOf (g .ready) (g .faulty) X W) refl refl h
+        ∙ (let d : Bench = benchOf (g .ready) (g .faulty) X W in rw o (ap (λ t. bench.refuse d t controller.badSetup) (sym w))))
+
+    pub setup-far : RefusedAs c g 16 refusal.BadSetup s → 16 ≤ sender → Advanced W g c 0 (some (setup members sender faulty)) s W
+    setup-far e l = refuses 16 false refl (omega arith) e (le-ltb sender 16 l) (ap (λ t. g .ready || not t) (far l) ∙ or-both (g .ready))
+
+    pub setup-again : RefusedAs c g sender refusal.BadSetup s → sender < 16 → g .ready ≡ true → Advanced W g c 0 (some (setup members sender faulty)) s W
+    setup-again e l q = refuses sender true refl (omega arith) e (lt-ltb sender 16 l) (ap (λ t. t || not (setupAllowed 0 members sender)) q)
+
+    pub setup-empty : RefusedAs c g sender refusal.BadSetup s → sender < 16 → members ≡ 0 → Advanced W g c 0 (some (setup members sender faulty)) s W
+    setup-empty e l q = refuses sender true refl (omega arith) e (lt-ltb sender 16 l) (ap (λ t. g .ready || not t) (nobody-in q) ∙ or-both (g .ready))
+
+  emptied : (W : List ℕ) → length W ≡ 16385 → poolLen (set W 16384 0) ≡ 0
+  unfolding poolLen
+  emptied W l = let e : getD (set W 16384 0) 16384 0 ≡ 0 = getD-set-same W 16384 0 0 (omega arith) in omega arith
+
+  no-pool : (W : List ℕ) → poolLen W ≡ 0 → [] ≡ poolIs W
+  unfolding poolIs table
+  no-pool W e = sym (ap (λ n. table n (stmtAt W)) e)
+
+  pub setup-taken : (W : List ℕ) (g : Setting) (c : Controller) → length W ≡ 16385 → sender < 16 → g .ready ≡ false → (members ≡ 0 → ⊥) → members < 65536
+      → Advanced W g c 0 (some (setup members sender faulty))
+          (record { who = sender; answer = Taken; number = 0; controller = c; setting = record { ready = true; faulty = faulty; members = members; sender = sender }; fresh = true }) (set W 16384 0)
+  unfolding answerIs
+  setup-taken W g c n l q a b = record {
+    steps = λ X x. setup-is (benchOf (g .ready) (g .faulty) X W) q (allowed-is a b l) refl ∙ stepped refl refl refl refl refl refl (no-pool (set W 16384 0) (emptied W n));
+    who = omega arith;
+    sound = λ t. absurd (subst T t tt);
+    grows = λ t. absurd (subst T t tt);
+    begun = λ t. (emptied W n, allowed-is a b l);
+  }
+
+-- ---- what a pool that grows leaves as it was
+
+module _ {W W′ : List ℕ} (g : Grows W W′) (c : Controller) (w : Whole W c) where
+  pub record-kept : recordIs W′ c ≡ recordIs W c
+  unfolding recordIs recordOf Whole
+  record-kept = table-cong (min (c .statements .len) 512) (λ i. stmtAt W′ (getD (c .statements .ids) i 0)) (λ i. stmtAt W (getD (c .statements .ids) i 0)) (λ i h. g .same _ (w i h))
+
+  pub whole-kept : Whole W′ c
+  unfolding Whole
+  whole-kept i h = let a = w i h in omega (arith, g .len)
+
+  pub seat-kept : seatIs W′ c ≡ seatIs W c
+  seat-kept = ap (λ t. record { controller = controllerIs c; statements = t }) record-kept
+
+-- ---- a lie
+
+abbrev told : Bench → Stmt → Bool → Bool → Bool → Bool → bench.Stepped
+told b s ready marked again full =
+    if ready then (if not marked then bench.refuse b (s .origin) controller.outOfPlace
+    else if again then bench.refuse b (s .origin) controller.repeated
+    else if full then bench.refuse b (s .origin) controller.full
+    else record {
+      reply = record { who = s .origin; answer = controller.taken; number = length (b .pool) };
+      bench = record { isSetUp = b .isSetUp; faulty = b .faulty; seats = b .seats; pool = b .pool ++ (s ∷ []) };
+    })
+    else bench.refuse b (s .origin) controller.outOfPlace
+
+lie-is : (b : Bench) (s : Stmt) {ready marked again full : Bool} → b .isSetUp ≡ ready → bit (b .faulty) (s .origin) ≡ marked → any (sameStmt s) (b .pool) ≡ again → leb 512 (length (b .pool)) ≡ full
+    → step b (some (lie s)) ≡ told b s ready marked again full
+unfolding step bench.lieOf
+lie-is b s {ready} {marked} {again} {full} e f h i =
+    ap (λ t. told b s t (bit (b .faulty) (s .origin)) (any (sameStmt s) (b .pool)) (leb 512 (length (b .pool)))) e
+    ∙ ap (λ t. told b s ready t (any (sameStmt s) (b .pool)) (leb 512 (length (b .pool)))) f
+    ∙ ap (λ t. told b s ready marked t (leb 512 (length (b .pool)))) h
+    ∙ ap (λ t. told b s ready marked again t) i
+
+pub marked-is : (f k : ℕ) (r : Bool) → r ≡ member (record { joined = f; left = 0 }) k → bit f k ≡ r
+marked-is f k r e = sym (e ∙ ap (λ t. bit f k && not t) (bit-zero k) ∙ and-true (bit f k))
+  where
+    and-true : (b : Bool) → (b && true) ≡ b
+    and-true true = refl
+    and-true false = refl
+
+module _ (W : List ℕ) (s : Stmt) where
+  present-in : (i : ℕ) → memory.numberOf W s ≡ some i → any (sameStmt s) (poolIs W) ≡ true
+  unfolding poolIs
+  present-in i e = go (in-pool W s)
+    where
+      go : Located s (stmtAt W) (poolLen W) (memory.numberOf W s) → any (sameStmt s) (table (poolLen W) (stmtAt W)) ≡ true
+      go (there j q l h m y) = y
+      go (absent q y) = absurd (none≢some (sym q ∙ e))
+
+  absent-in : memory.numberOf W s ≡ none → any (sameStmt s) (poolIs W) ≡ false
+  unfolding poolIs
+  absent-in e = go (in-pool W s)
+    where
+      go : Located s (stmtAt W) (poolLen W) (memory.numberOf W s) → any (sameStmt s) (table (poolLen W) (stmtAt W)) ≡ false
+      go (there j q l h m y) = absurd (none≢some (sym e ∙ q))
+      go (absent q y) = y
+
+full≢at : {n : ℕ} → placed.Full ≡ placed.At n → ⊥
+full≢at e = let z : _≡_ {A = ℕ} 0 1 = cc in omega arith
+
+at-injective : {m n : ℕ} → placed.At m ≡ placed.At n → m ≡ n
+at-injective e = cc
+
+module _ (W : List ℕ) (g : Setting) (c : Controller) (st : Statement) (s : Stepped) (m : Sound W c) (near : st .origin < 16) where
+  pub lie-early : RefusedAs c g (st .origin) refusal.OutOfPlace s → g .ready ≡ false → Advanced W g c 0 (some (lie (stmtOf st))) s W
+  unfolding stmtOf
+  lie-early e q = advance-refused (st .origin) refusal.OutOfPlace (omega arith) m e (λ X x. lie-is (benchOf (g .ready) (g .faulty) X W) (stmtOf st) q refl refl refl)
+
+  module _ (q : g .ready ≡ true) where
+    pub lie-unmarked : RefusedAs c g (st .origin) refusal.OutOfPlace s → bit (g .faulty) (st .origin) ≡ false → Advanced W g c 0 (some (lie (stmtOf st))) s W
+    unfolding stmtOf
+    lie-unmarked e b = advance-refused (st .origin) refusal.OutOfPlace (omega arith) m e (λ X x. lie-is (benchOf (g .ready) (g .faulty) X W) (stmtOf st) q b refl refl)
+
+    module _ (b : bit (g .faulty) (st .origin) ≡ true) where
+      pub lie-again : RefusedAs c g (st .origin) refusal.Repeated s → (i : ℕ) → found.At i ≡ memory.foundOf (memory.numberOf W (stmtOf st)) → Advanced W g c 0 (some (lie (stmtOf st))) s W
+      unfolding stmtOf
+      lie-again e i f = advance-refused (st .origin) refusal.Repeated (omega arith) m e (λ X x. lie-is (benchOf (g .ready) (g .faulty) X W) (stmtOf st) q b (present-in W (stmtOf st) i (found-at (memory.numberOf W (stmtOf st)) i f)) refl)
+
+      module _ (W′ : List ℕ) (n : memory.numberOf W (stmtOf st) ≡ none) where
+        pub lie-full : RefusedAs c g (st .origin) refusal.Full s → memory.Appended W W′ st placed.Full → Advanced W g c 0 (some (lie (stmtOf st))) s W′
+        unfolding stmtOf
+        lie-full e a = elim (decLt (poolLen W) 512) [
+          | yes l ↦ absurd (full≢at (a .answer ∙ ap (λ o. memory.placedAt o (poolLen W)) n ∙ sym (if-true (ltb (poolLen W) 512) (placed.At (poolLen W)) placed.Full (lt-ltb (poolLen W) 512 l))))
+          | no l ↦ subst (λ U. Advanced W g c 0 (some (lie (stmtOf st))) s U) (sym (a .full (omega arith)))
+              (advance-refused (st .origin) refusal.Full (omega arith) m e (λ X x. lie-is (benchOf (g .ready) (g .faulty) X W) (stmtOf st) q b (absent-in W (stmtOf st) n) (le-leb 512 (length (poolIs W)) (omega (arith, pool-size W)))))
+        ]
+
+module _ (W W′ : List ℕ) (g : Setting) (c : Controller) (st : Statement) (m : Sound W c) (near : st .origin < 16) (short : st .history .len ≤ 16) (q : g .ready ≡ true) (b : bit (g .faulty) (st .origin) ≡ true) (n : ℕ)
+    (z : memory.numberOf W (stmtOf st) ≡ none) (a : memory.Appended W W′ st (placed.At n)) where
+  room : poolLen W < 512
+  room = elim (decLt (poolLen W) 512) [
+    | yes l ↦ l
+    | no l ↦ absurd (full≢at (sym (a .answer ∙ ap (λ o. memory.placedAt o (poolLen W)) z ∙ sym (if-false (ltb (poolLen W) 512) (placed.At (poolLen W)) placed.Full (le-ltb (poolLen W) 512 (omega arith))))))
+  ]
+
+  placed-at : n ≡ poolLen W
+  placed-at = at-injective (a .answer ∙ ap (λ o. memory.placedAt o (poolLen W)) z ∙ sym (if-true (ltb (poolLen W) 512) (placed.At (poolLen W)) placed.Full (lt-ltb (poolLen W) 512 room)))
+
+  longer : poolIs W′ ≡ poolIs W ++ (stmtOf st ∷ [])
+  longer = grown-pool W W′ st short (a .new z room) room
+
+  pub lie-taken : Advanced W g c 0 (some (lie (stmtOf st))) (record { who = st .origin; answer = Taken; number = n; controller = c; setting = g; fresh = false }) W′
+  unfolding stmtOf answerIs
+  lie-taken = record {
+    steps = λ X x. lie-is (benchOf (g .ready) (g .faulty) X W) (stmtOf st) q b (absent-in W (stmtOf st) z) (lt-leb 512 (length (poolIs W)) (omega (arith, pool-size W, room)))
+        ∙ stepped refl refl (pool-size W ∙ sym placed-at) refl refl (sym (ap (λ t. set X 0 t) (seat-kept (one-grows W W′ (stmtOf st) longer) c (m .whole) ∙ sym x) ∙ set-getD X 0 emptySeat)) (sym longer);
+    who = omega arith;
+    sound = λ t. record { distinct = one-distinct W W′ (stmtOf st) longer (absent-in W (stmtOf st) z) (m .distinct); whole = whole-kept (one-grows W W′ (stmtOf st) longer) c (m .whole) };
+    grows = λ t. one-grows W W′ (stmtOf st) longer;
+    begun = λ t. absurd (subst T (sym t) tt);
+  }
+
+pub appended : {W W′ : List ℕ} {st : Statement} {p q : Answered} → memory.Appended W W′ st p → p ≡ q → memory.Appended W W′ st q
+appended {W} {W′} {st} a e = subst (memory.Appended W W′ st) e a
+
+-- ---- the line that was read
+
+pub at-line : {W W′ : List ℕ} {g : Setting} {c : Controller} {r : Stepped} (st : Statement) {p q : Parsed} → p ≡ q → Advanced W g c (seatOf q) (lineIs q (stmtOf st)) r W′ → Advanced W g c (seatOf p) (lineIs p (stmtOf st)) r W′
+at-line {W} {W′} {g} {c} {r} st e a = subst (λ p. Advanced W g c (seatOf p) (lineIs p (stmtOf st)) r W′) (sym e) a
+
+pub fit-at : {p q : Parsed} {st : Statement} → Fit p st → p ≡ q → seatOf q < 16
+fit-at f e = subst (λ p. seatOf p < 16) e (f .seat)

@@ -1,0 +1,169 @@
+// A schedule to its rows.
+ghost use mathlib.Core.Path.{_≡_};
+ghost use mathlib.Core.Bool.{true};
+ghost use Prim.Native.Nat.{_+_, _<_, _≤_};
+ghost use lib.ListN.{length, take};
+ghost use lib.Seq.{sets};
+ghost use Rattle.protocol.specs.Controller.{refusalNumber};
+ghost use Rattle.protocol.specs.Call.{setupAllowed};
+ghost use Rattle.engine.specs.Meaning.{refusalIs};
+ghost use Rattle.bench.specs.Rows.{Printed};
+ghost use Rattle.bench.specs.Seats.{seatOf, wordOf, valueOf};
+ghost use Rattle.bench.specs.Running.{rowIs, Started, Ran};
+use crate::line;
+use crate::line::Line;
+use crate::line::Parsed;
+use crate::row;
+use crate::row::Value;
+use crate::row::Word;
+use crate::state;
+use crate::state::Setting;
+use crate::state::Stepped;
+use engine::Answer;
+use engine::Controller;
+use engine::Refusal;
+use pool::POOL_WORDS;
+
+fn word_of(a: Answer) -> Word
+    ensures { λ r. ⌜ r ≡ wordOf a ⌝ }
+{
+    match a {
+        Answer::Taken => Word::Taken,
+        Answer::Signed(_) => Word::Signed,
+        Answer::Entered(_) => Word::Entered,
+        Answer::Delivered(_) => Word::Delivered,
+        Answer::Left => Word::Left,
+        Answer::Quiet => Word::Quiet,
+        Answer::Refused(_) => Word::Refused,
+    }
+}
+
+fn refusal_number(r: Refusal) -> u64
+    ensures { λ n. ⌜ n ≡ refusalNumber (refusalIs r) ⌝ }
+{
+    match r {
+        Refusal::BadSetup => 1,
+        Refusal::BadStatement => 2,
+        Refusal::Repeated => 3,
+        Refusal::Full => 4,
+        Refusal::BadRequest => 5,
+        Refusal::ManyCandidates => 6,
+        Refusal::Conflict => 7,
+        Refusal::OutOfPlace => 8,
+    }
+}
+
+fn value_of(a: Answer, n: u64) -> Value
+    ensures { λ r. ⌜ r ≡ valueOf a n ⌝ }
+{
+    match a {
+        Answer::Taken => Value::Number(n),
+        Answer::Signed(_) => Value::Number(n),
+        Answer::Entered(v) => Value::View(v),
+        Answer::Delivered(m) => Value::Number(m),
+        Answer::Left => Value::Number(0),
+        Answer::Quiet => Value::Number(0),
+        Answer::Refused(r) => Value::Number(refusal_number(r)),
+    }
+}
+
+// The row of line n.
+fn put_step(rows: &mut [u8], at: usize, n: u64, s: Stepped) -> usize
+    requires { ⌜ (at + 40 ≤ length (now rows)) × (n < 100000) × (s .who ≤ 16) ⌝ }
+    ensures { λ r. ⌜ (r ≡ at + length (rowIs n s)) × (now (rows .exit) ≡ sets (now (rows .entry)) at (rowIs n s)) × (length (rowIs n s) ≤ 40) ⌝ }
+{
+    let a = s.answer;
+    row::put_row(rows, at, n, s.who, word_of(a), value_of(a, s.number))
+}
+
+// The seat of the controller that a line names; the first where it names none.
+fn seat_of(parsed: Parsed) -> usize
+    ensures { λ r. ⌜ r ≡ seatOf parsed ⌝ }
+{
+    let Parsed::Readable(line) = parsed else {
+        return 0;
+    };
+    match line {
+        Line::Setup(_, _, _) => 0,
+        Line::Join(k) => k as usize,
+        Line::Leave(k) => k as usize,
+        Line::Send(k, _) => k as usize,
+        Line::Give(k, _) => k as usize,
+        Line::All(k) => k as usize,
+        Line::Turn(k) => k as usize,
+        Line::Lie => 0,
+        Line::NoStatement => 0,
+    }
+}
+
+// Sixteen controllers that have just started.
+fn start_all(members: u16, sender: u8) -> [Controller; 16]
+    requires { ⌜ setupAllowed 0 members sender ≡ true ⌝ }
+    ensures { λ r. ⌜ Started members sender r ⌝ }
+{
+    let c = Controller::new();
+    let mut seats = [c; 16];
+    let mut k = 0usize;
+    while k < 16 {
+        let o = c.setup(k as u8, members, sender);
+        let d = o.controller;
+        seats[k] = d;
+        k += 1;
+    }
+    seats
+}
+
+// The rows of a schedule's lines, after the header.
+fn run_lines(schedule: &[u8], rows: &mut [u8]) -> usize
+    requires { ⌜ (length (now schedule) ≤ 65536) × (2621504 ≤ length (now rows)) ⌝ }
+    ensures { λ r. ⌜ Ran (now (schedule .entry)) (now (rows .entry)) (now (rows .exit)) r ⌝ }
+{
+    let c = Controller::new();
+    let mut seats = [c; 16];
+    let mut words = [0u64; POOL_WORDS];
+    let mut setting = Setting {
+        ready: false,
+        faulty: 0,
+        members: 0,
+        sender: 0,
+    };
+    let mut at = 0usize;
+    let mut n = 1u64;
+    let mut out = 22usize;
+    while at < schedule.len() {
+        let read = line::read_line(&schedule[at..]);
+        let parsed = read.parsed;
+        let st = read.statement;
+        let k = seat_of(parsed);
+        let named = seats[k];
+        let s = state::step(named, &mut words, setting, parsed, st);
+        out = put_step(rows, out, n, s);
+        let g = s.setting;
+        setting = g;
+        at += read.next;
+        n += 1;
+        if s.fresh {
+            let all = start_all(g.members, g.sender);
+            seats = all;
+            continue;
+        }
+        let d = s.controller;
+        seats[k] = d;
+    }
+    out
+}
+
+// Writes the rows of a schedule, and answers how many bytes they have. No schedule has more than 65,536 lines, and no row more than 40 bytes.
+pub fn run_rows(schedule: &[u8], rows: &mut [u8]) -> usize
+    requires { ⌜ 2621504 ≤ length (now rows) ⌝ }
+    ensures { λ r. ⌜ Printed (now (schedule .entry)) (take r (now (rows .exit))) ⌝ }
+{
+    let at = row::put_header(rows);
+    if schedule.len() == 0 {
+        return row::put_row(rows, at, 0, 16, Word::Refused, Value::Number(8));
+    }
+    if schedule.len() > 65536 {
+        return row::put_row(rows, at, 0, 16, Word::Refused, Value::Number(8));
+    }
+    run_lines(schedule, rows)
+}
