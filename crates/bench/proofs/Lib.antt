@@ -7,4 +7,5 @@ pub mod Whole
 pub mod Rows
 pub mod Seats
 pub mod States
+pub mod Starts
 pub mod One

@@ -7,15 +7,20 @@ use native.Mathlib.Omega.{arith}
 use mathlib.Core.Path.{_≡_, refl, sym, ap, subst, _∙_}
 use mathlib.Core.List.{List, [], _∷_, _++_}
 use mathlib.Core.Option.{Option, some, none}
-use lib.Dec.{T}
-use lib.ListN.{drop}
+use mathlib.Core.Bool.{Bool, true, false, _||_}
+use native.Mathlib.Decide.{decLt}
+use lib.Dec.{T, eqb, ltb}
+use lib.ListN.{length, drop}
+use borrow.Author.Tests.{lt-ltb}
+use Rattle.protocol.specs.Lists.{if_then_else_}
 use Rattle.protocol.specs.Statement.{Stmt, fieldRules}
 use Rattle.text.specs.Text.{decText, hexText}
 use Rattle.text.proofs.Laws.{dec-same, hex-same}
 use Rattle.statements.specs.Text.{parted, text}
 use Rattle.statements.proofs.One.{text-same}
 use Rattle.bench.specs.Line.{Line, setup, join, leave, send, give, all, turn, lie, noStatement, setupWord, joinWord, leaveWord, sendWord, giveWord, allWord, turnWord, lieWord, ended, Written, Reads, lines, ReadAll}
-use Rattle.bench.specs.Rows.{Printed}
+use Rattle.bench.specs.Bench.{newBench}
+use Rattle.bench.specs.Rows.{headerText, refusedRow, rowsFrom, Printed}
 use Rattle.bench.proofs.Words.{verbIs, written-verb, OfVerb, of-verb}
 use Rattle.bench.proofs.Commands.{follows}
 use Rattle.statements.proofs.Fits.{keeps-fits}
@@ -84,8 +89,16 @@ pub read-all-one : (L : List (List ℕ)) (a b : List (Option Line)) → ReadAll 
 read-all-one [] [] [] p q = refl
 read-all-one (S ∷ L) (a ∷ A) (b ∷ B) p q = ap (λ (x : Option Line). x ∷ A) (reads-one S a b (p .0) (q .0)) ∙ ap (λ (X : List (Option Line)). b ∷ X) (read-all-one L A B (p .1) (q .1))
 
+either-long : {A : Type 0} (a b : Bool) (x y : A) → b ≡ true → (if a || b then x else y) ≡ x
+either-long true b x y e = refl
+either-long false b x y e = rw e
+
 -- FOR A SCHEDULE ONE TEXT IS PRINTED
 pub printed-one : (schedule out out′ : List ℕ) → Printed schedule out → Printed schedule out′ → out ≡ out′
-printed-one schedule out out′ p q =
-    let same : p .reading ≡ q .reading = read-all-one (lines schedule) (p .reading) (q .reading) (p .reads) (q .reads) in
-    p .prints ∙ rw same (sym (q .prints))
+printed-one schedule out out′ p q = elim (decLt 65536 (length schedule)) [
+  | yes l ↦ (let long : ltb 65536 (length schedule) ≡ true = lt-ltb 65536 (length schedule) l in
+      p .prints ∙ ap (λ t. headerText ++ t) (either-long (eqb (length schedule) 0) (ltb 65536 (length schedule)) refusedRow (rowsFrom 1 newBench (p .reading)) long
+      ∙ sym (either-long (eqb (length schedule) 0) (ltb 65536 (length schedule)) refusedRow (rowsFrom 1 newBench (q .reading)) long)) ∙ sym (q .prints))
+  | no l ↦ (let same : p .reading ≡ q .reading = read-all-one (lines schedule) (p .reading) (q .reading) (p .reads (omega arith)) (q .reads (omega arith)) in
+      p .prints ∙ rw same (sym (q .prints)))
+]

@@ -5,7 +5,7 @@
 use Prim.Native.Nat.{ℕ, _+_, _^_, _<_, _≤_}
 use native.Mathlib.Omega.{arith}
 use native.Mathlib.Numerals.{add-one}
-use mathlib.Core.Path.{_≡_, refl, sym, ap, _∙_}
+use mathlib.Core.Path.{_≡_, refl, sym, ap, ap₂, subst, _∙_}
 use mathlib.Core.List.{List, [], _∷_, _++_, append-assoc}
 use lib.ListN.{length, take, getD, set, length-append}
 use lib.Seq.{sets, take-suc, length-take-le}
@@ -21,6 +21,9 @@ use Rattle.bench.specs.declared.row.Word.{Word}
 use Rattle.bench.specs.declared.row.Word.the-variants.{Taken, Signed, Entered, Delivered, Left, Quiet, Refused}
 use Rattle.bench.specs.declared.row.Value.{Value}
 use Rattle.bench.specs.declared.row.Value.the-variants.{Number, View}
+use Rattle.bench.specs.declared.state.Stepped.{Stepped}
+use Rattle.bench.specs.Seats.{wordOf, valueOf}
+use Rattle.bench.specs.Running.{rowIs}
 use Rattle.bench.specs.Bench.{Reply}
 use Rattle.bench.specs.Rows.{wordText, valueText, rowText}
 use Rattle.bench.specs.Writing.{wordFor, wordIs, valueIs, shownText, rowOf, Shows}
@@ -100,3 +103,12 @@ word-for (refused r) = refl
 pub shown : (n : ℕ) {r : Reply} {who : ℕ} {w : Word} {v : Value} → Shows r who w v → rowOf n who w v ≡ rowText n r
 unfolding rowOf rowText
 shown n {r} {who} {w} {v} s = rw (← s .named, ← s .word, ← s .value, word-for (r .answer))
+
+-- a line's row, as it is put
+pub row-put : (s : Stepped) (n at : ℕ) (R : List ℕ) {R′ : List ℕ} {r : ℕ} {w : Word} {v : Value} → w ≡ wordOf (s .answer) → v ≡ valueOf (s .answer) (s .number)
+    → (r ≡ at + length (rowOf n (s .who) w v)) × (R′ ≡ sets R at (rowOf n (s .who) w v)) × (length (rowOf n (s .who) w v) ≤ 40)
+    → (r ≡ at + length (rowIs n s)) × (R′ ≡ sets R at (rowIs n s)) × (length (rowIs n s) ≤ 40)
+unfolding rowIs
+row-put s n at R {R′} {r} {w} {v} e f h =
+    let q : rowOf n (s .who) w v ≡ rowOf n (s .who) (wordOf (s .answer)) (valueOf (s .answer) (s .number)) = ap₂ (rowOf n (s .who)) e f in
+    subst (λ t. (r ≡ at + length t) × (R′ ≡ sets R at t) × (length t ≤ 40)) q h
