@@ -8,4 +8,5 @@ pub mod Rows
 pub mod Seats
 pub mod States
 pub mod Starts
+pub mod Runs
 pub mod One

@@ -187,7 +187,7 @@ module _ (W : List ℕ) (from : Record) where
 
 replied : (k : ℕ) (ready : Bool) (faulty : ℕ) {a a′ : controller.Answer} {n n′ : ℕ} {X X′ : List Seat} {P P′ : List Stmt} → a ≡ a′ → n ≡ n′ → X ≡ X′ → P ≡ P′
     → _≡_ {A = Stepped} (record { reply = record { who = k; answer = a; number = n }; bench = record { isSetUp = ready; faulty = faulty; seats = X; pool = P } })
-        (record { reply = record { who = k; answer = a′; number = n′ }; bench = record { isSetUp = ready; faulty = faulty; seats = X′; pool = P′ } })
+    (record { reply = record { who = k; answer = a′; number = n′ }; bench = record { isSetUp = ready; faulty = faulty; seats = X′; pool = P′ } })
 replied k ready faulty e f g h = cc
 
 pub grows-same : (W : List ℕ) → Grows W W
@@ -205,7 +205,7 @@ module _ (W : List ℕ) (ready : Bool) (c : Controller) (k : ℕ) (l : Line) (r 
 
   pub seat-taken : (n : ℕ) (d : Controller) → (r .answer ≡ Taken) × (r .number ≡ n) × (r .controller ≡ d) → Sound W d
       → ((faulty : ℕ) (X : List Seat) → getD X k emptySeat ≡ seatIs W c
-          → step (benchOf ready faulty X W) (some l) ≡ record { reply = record { who = k; answer = controller.taken; number = n }; bench = benchOf ready faulty (set X k (seatIs W d)) W })
+      → step (benchOf ready faulty X W) (some l) ≡ record { reply = record { who = k; answer = controller.taken; number = n }; bench = benchOf ready faulty (set X k (seatIs W d)) W })
       → Seated W ready c k l r W
   unfolding answerIs
   seat-taken n d e s h = record {
@@ -343,7 +343,7 @@ module _ (W : List ℕ) (ready : Bool) (c : Controller) (k n : ℕ) (r : Replied
             ];
           })
           (λ faulty X x. opened faulty X x (known l) (in-record false l h) (lt-leb 512 (length (recordIs W c)) (omega (arith, record-long)))
-              ∙ replied k ready faulty refl refl (ap (λ t. set X k (record { controller = controllerIs c; statements = t })) (ap (λ t. recordIs W c ++ (t ∷ [])) (pool-at W n l) ∙ sym (p .means W ∙ rw (lt-ltb (min (c .statements .len) 512) 512 (omega arith))))) refl)
+          ∙ replied k ready faulty refl refl (ap (λ t. set X k (record { controller = controllerIs c; statements = t })) (ap (λ t. recordIs W c ++ (t ∷ [])) (pool-at W n l) ∙ sym (p .means W ∙ rw (lt-ltb (min (c .statements .len) 512) 512 (omega arith))))) refl)
 
 -- ---- all
 
@@ -388,7 +388,7 @@ module _ (W : List ℕ) (ready : Bool) (c : Controller) (k : ℕ) (r : Replied) 
     unfolding recordIs Whole controllerIs
     all-taken e l = seat-taken W ready c k (all k) r (m .count) (withStatements c (m .statements)) e (record { distinct = s .distinct; whole = f .within })
         (λ faulty X x. spreads faulty X x (le-ltb 512 (min (c .statements .len) 512 + m .count) l)
-            ∙ replied k ready faulty refl (sym (f .count)) (ap (λ t. set X k (record { controller = controllerIs c; statements = t })) (sym (f .means l))) refl)
+        ∙ replied k ready faulty refl (sym (f .count)) (ap (λ t. set X k (record { controller = controllerIs c; statements = t })) (sym (f .means l))) refl)
 
 -- ---- a pool with one statement more
 
@@ -426,16 +426,18 @@ module _ (W W′ : List ℕ) (s : Stmt) (e : poolIs W′ ≡ poolIs W ++ (s ∷ 
         go true h = absurd (subst T (sym (passes says-same-stmt (sym (says-same-stmt .sound (subst T (sym h) tt)))) ∙ not-there n l) tt)
 
     pub one-distinct : Distinct W′
-    one-distinct = record { tells = λ i j li lj. elim (decLt i (poolLen W)) [
-      | yes a ↦ elim (decLt j (poolLen W)) [
-        | yes b ↦ ap₂ sameStmt (as-before i a) (as-before j b) ∙ d .tells i j a b
-        | no b ↦ (let q : j ≡ poolLen W = omega (arith, one-longer) in ap₂ sameStmt (as-before i a) (ap (stmtAt W′) q ∙ at-the-end) ∙ not-there-back i a ∙ sym (ne-eqb i j (λ h. omega arith)))
-      ]
-      | no a ↦ (let q : i ≡ poolLen W = omega (arith, one-longer) in elim (decLt j (poolLen W)) [
-        | yes b ↦ ap₂ sameStmt (ap (stmtAt W′) q ∙ at-the-end) (as-before j b) ∙ not-there j b ∙ sym (ne-eqb i j (λ h. omega arith))
-        | no b ↦ (let p : j ≡ poolLen W = omega (arith, one-longer) in ap₂ sameStmt (ap (stmtAt W′) q ∙ at-the-end) (ap (stmtAt W′) p ∙ at-the-end) ∙ passes says-same-stmt refl ∙ sym (eq-eqb i j (q ∙ sym p)))
-      ])
-    ] }
+    one-distinct = record {
+      tells = λ i j li lj. elim (decLt i (poolLen W)) [
+        | yes a ↦ elim (decLt j (poolLen W)) [
+          | yes b ↦ ap₂ sameStmt (as-before i a) (as-before j b) ∙ d .tells i j a b
+          | no b ↦ (let q : j ≡ poolLen W = omega (arith, one-longer) in ap₂ sameStmt (as-before i a) (ap (stmtAt W′) q ∙ at-the-end) ∙ not-there-back i a ∙ sym (ne-eqb i j (λ h. omega arith)))
+        ]
+        | no a ↦ (let q : i ≡ poolLen W = omega (arith, one-longer) in elim (decLt j (poolLen W)) [
+          | yes b ↦ ap₂ sameStmt (ap (stmtAt W′) q ∙ at-the-end) (as-before j b) ∙ not-there j b ∙ sym (ne-eqb i j (λ h. omega arith))
+          | no b ↦ (let p : j ≡ poolLen W = omega (arith, one-longer) in ap₂ sameStmt (ap (stmtAt W′) q ∙ at-the-end) (ap (stmtAt W′) p ∙ at-the-end) ∙ passes says-same-stmt refl ∙ sym (eq-eqb i j (q ∙ sym p)))
+        ])
+      ];
+    }
 
 -- ---- a turn
 
@@ -535,7 +537,7 @@ module _ (W W′ : List ℕ) (ready : Bool) (c : Controller) (k : ℕ) (ro : Out
         ap (λ (t : Seat). bench.afterTurn (benchOf ready faulty X W) k (turnOf (t .controller) (t .statements) (hasRoom (poolIs W))) (turnOf (t .controller) (t .statements) (hasRoom (poolIs W)) .answer)) x
         ∙ after-turn (benchOf ready faulty X W) k outcome (outcome .answer)
         ∙ replied k ready faulty (sym (m .answer) ∙ sym (ap (answerIs W′) (e .0))) (number-then W W′ (ro .answer) (outcome .answer) (m .answer) (m .number) ∙ sym (e .1))
-            (ap (λ t. set X k t) (seat-of m (s .whole) ∙ sym (ap (seatIs W′) (e .2)))) (sym (pool-then W W′ (outcome .answer) (m .pool)));
+        (ap (λ t. set X k t) (seat-of m (s .whole) ∙ sym (ap (seatIs W′) (e .2)))) (sym (pool-then W W′ (outcome .answer) (m .pool)));
     sound = record { distinct = turn-keeps W W′ (outcome .answer) (pool-then W W′ (outcome .answer) (m .pool)) (s .distinct) .0; whole = subst (Whole W′) (sym (e .2)) (m .statements (s .whole) .1) };
     grows = turn-keeps W W′ (outcome .answer) (pool-then W W′ (outcome .answer) (m .pool)) (s .distinct) .1;
   }

@@ -49,7 +49,7 @@ use Rattle.bench.proofs.Seats.{grows-same, one-grows, one-distinct, poo
 -- the parts of what a line leaves
 stepped : {w w′ : ℕ} {a a′ : controller.Answer} {n n′ : ℕ} {g g′ : Bool} {f f′ : ℕ} {X X′ : List Seat} {P P′ : List Stmt} → w ≡ w′ → a ≡ a′ → n ≡ n′ → g ≡ g′ → f ≡ f′ → X ≡ X′ → P ≡ P′
     → _≡_ {A = bench.Stepped} (record { reply = record { who = w; answer = a; number = n }; bench = record { isSetUp = g; faulty = f; seats = X; pool = P } })
-        (record { reply = record { who = w′; answer = a′; number = n′ }; bench = record { isSetUp = g′; faulty = f′; seats = X′; pool = P′ } })
+    (record { reply = record { who = w′; answer = a′; number = n′ }; bench = record { isSetUp = g′; faulty = f′; seats = X′; pool = P′ } })
 stepped e f g h i j k = cc
 
 if-false : {A : Type 0} (b : Bool) (x y : A) → b ≡ false → y ≡ (if b then x else y)
@@ -105,6 +105,10 @@ module _ (W : List ℕ) (g : Setting) (c : Controller) (s : Stepped) (m : Sound 
 
 -- ---- a setup
 
+pub no-pool : (W : List ℕ) → poolLen W ≡ 0 → [] ≡ poolIs W
+unfolding poolIs table
+no-pool W e = sym (ap (λ n. table n (stmtAt W)) e)
+
 module _ (members sender faulty : ℕ) where
   -- the tests, over plain values
   abbrev settled : Bench → Bool → Bool → Bool → bench.Stepped
@@ -158,13 +162,9 @@ module _ (members sender faulty : ℕ) where
   unfolding poolLen
   emptied W l = let e : getD (set W 16384 0) 16384 0 ≡ 0 = getD-set-same W 16384 0 0 (omega arith) in omega arith
 
-  no-pool : (W : List ℕ) → poolLen W ≡ 0 → [] ≡ poolIs W
-  unfolding poolIs table
-  no-pool W e = sym (ap (λ n. table n (stmtAt W)) e)
-
   pub setup-taken : (W : List ℕ) (g : Setting) (c : Controller) → length W ≡ 16385 → sender < 16 → g .ready ≡ false → (members ≡ 0 → ⊥) → members < 65536
       → Advanced W g c 0 (some (setup members sender faulty))
-          (record { who = sender; answer = Taken; number = 0; controller = c; setting = record { ready = true; faulty = faulty; members = members; sender = sender }; fresh = true }) (set W 16384 0)
+      (record { who = sender; answer = Taken; number = 0; controller = c; setting = record { ready = true; faulty = faulty; members = members; sender = sender }; fresh = true }) (set W 16384 0)
   unfolding answerIs
   setup-taken W g c n l q a b = record {
     steps = λ X x. setup-is (benchOf (g .ready) (g .faulty) X W) q (allowed-is a b l) refl ∙ stepped refl refl refl refl refl refl (no-pool (set W 16384 0) (emptied W n));

@@ -158,12 +158,12 @@ pub fn run_rows(schedule: &[u8], rows: &mut [u8]) -> usize
     requires { ⌜ 2621504 ≤ length (now rows) ⌝ }
     ensures { λ r. ⌜ Printed (now (schedule .entry)) (take r (now (rows .exit))) ⌝ }
 {
-    let at = row::put_header(rows);
+    row::put_header(rows);
     if schedule.len() == 0 {
-        return row::put_row(rows, at, 0, 16, Word::Refused, Value::Number(8));
+        return row::put_row(rows, 22, 0, 16, Word::Refused, Value::Number(8));
     }
     if schedule.len() > 65536 {
-        return row::put_row(rows, at, 0, 16, Word::Refused, Value::Number(8));
+        return row::put_row(rows, 22, 0, 16, Word::Refused, Value::Number(8));
     }
     run_lines(schedule, rows)
 }

@@ -78,7 +78,14 @@ fn size(words: &[u64; POOL_WORDS]) -> usize
 }
 
 // A setup that is taken starts every controller on an empty pool.
-fn set_up(c: Controller, words: &mut [u64; POOL_WORDS], g: Setting, members: u16, sender: u8, faulty: u16) -> Stepped
+fn set_up(
+    c: Controller,
+    words: &mut [u64; POOL_WORDS],
+    g: Setting,
+    members: u16,
+    sender: u8,
+    faulty: u16,
+) -> Stepped
     requires { ⌜ Sound (now words) c ⌝ }
     ensures { λ r. ⌜ Advanced (now (words .entry)) g c 0 (some (lines.setup members sender faulty)) r (now (words .exit)) ⌝ }
 {
@@ -155,7 +162,13 @@ fn no_statement(c: Controller, words: &[u64; POOL_WORDS], g: Setting) -> Stepped
 }
 
 // What a line does; c is the controller that it names, or any other where it names none.
-pub fn step(c: Controller, words: &mut [u64; POOL_WORDS], g: Setting, parsed: Parsed, st: Statement) -> Stepped
+pub fn step(
+    c: Controller,
+    words: &mut [u64; POOL_WORDS],
+    g: Setting,
+    parsed: Parsed,
+    st: Statement,
+) -> Stepped
     requires { ⌜ Sound (now words) c × Fit parsed st ⌝ }
     ensures { λ r. ⌜ Advanced (now (words .entry)) g c (seatOf parsed) (lineIs parsed (stmtOf st)) r (now (words .exit)) ⌝ }
 {

@@ -3,7 +3,6 @@ ghost use Rattle.protocol.specs.Pool.{hasRoom};
 ghost use Rattle.protocol.specs.Turn as protocol;
 ghost use Rattle.engine.specs.Meaning.{controllerIs, recordIs, poolIs};
 ghost use Rattle.engine.specs.Promise.{Turns};
-
 use crate::Controller;
 use crate::Outcome;
 use crate::Refusal;

@@ -1,3 +1,10 @@
+use borrow.Author.Needs.{needs}
+use native.Mathlib.Omega.{arith}
+use mathlib.Core.Path.{_≡_, refl, sym, ap, _∙_}
+use Prim.Native.Nat.{_-_, _≤_}
+use lib.ListN.{length}
+use Rattle.bench.specs.Running.{benchIs, Kept, Going}
+use Rattle.bench.proofs.Runs.{kept-first, going-first, part-read, fits, named-at, next-within, next-moves, going-room, going-long, going-end, goes-on, left-one, left-all, kept-one, kept-all}
 use Rattle.bench.proofs.run.run_lines.Statement.{statement}
 use Rattle.bench.proofs.run.run_lines.Tie as tie
 use Rattle.bench.proofs.run.run_lines.Reads as reads
@@ -10,98 +17,98 @@ use Rattle.bench.proofs.state.step.Reads as step-reads
 use Rattle.engine.proofs.Controller.new.Reads as new-reads
 
 abbrev Inv-loop : tie.InvT-loop
-Inv-loop schedule rows₀ seats₀ words₀ setting₀ at₀ n₀ out₀ rows seats words setting at n out = ?
+Inv-loop schedule rows₀ seats₀ words₀ setting₀ at₀ n₀ out₀ rows seats words setting at n out = Kept words seats × Going schedule at n (benchIs setting words seats) rows₀ rows out
 
 abbrev μ-loop : tie.MeasureT-loop
-μ-loop schedule rows₀ seats₀ words₀ setting₀ at₀ n₀ out₀ rows seats words setting at n out = ?
+μ-loop schedule rows₀ seats₀ words₀ setting₀ at₀ n₀ out₀ rows seats words setting at n out = length schedule - at
 
 -- src/run.rt:121:9
 new-requires : tie.Need-new-requires Inv-loop μ-loop
-new-requires c κs = ?
+new-requires c κs = search needs
 
 -- src/run.rt:133:5
 loop-holds : tie.Need-loop-holds Inv-loop μ-loop
-loop-holds c = ?
+loop-holds c = (kept-first _ (c .new .ensures) 16 16385 refl refl, going-first _ (c .new .ensures) 16 16385 refl refl _ _)
 
 -- src/run.rt:134:36
 sub-read-line : tie.Need-sub-read-line Inv-loop μ-loop
-sub-read-line c = ?
+sub-read-line c = omega (arith, c .before .loop .inv .1 .within)
 
 -- src/run.rt:134:36
 part-read-line-start : tie.Need-part-read-line-start Inv-loop μ-loop
-part-read-line-start c = ?
+part-read-line-start c = omega (arith, c .before .loop .inv .1 .within)
 
 -- src/run.rt:134:36
 part-read-line-end : tie.Need-part-read-line-end Inv-loop μ-loop
-part-read-line-end c = ?
+part-read-line-end c = omega (arith, c .before .loop .inv .1 .within)
 
 -- src/run.rt:134:13
 read-line-requires : tie.Need-read-line-requires Inv-loop μ-loop
-read-line-requires c κs = ?
+read-line-requires c κs = search needs
 
 -- src/run.rt:137:13
 seat-of-requires : tie.Need-seat-of-requires Inv-loop μ-loop
-seat-of-requires c κs = ?
+seat-of-requires c κs = search needs
 
 -- src/run.rt:138:21
 mul-named : tie.Need-mul-named Inv-loop μ-loop
-mul-named c = ?
+mul-named c = (omega (arith, c .seat-of .ensures, (fits _ (c .before .before .read-line .result .statement) ((part-read (c .before .before .before .before .before .before .before .before .before .args .schedule .now) (c .before .before .before .before .before .loop .at) _ (c .before .before .read-line .ensures)) .short) (c .before .before .read-line .result .parsed) ((part-read (c .before .before .before .before .before .before .before .before .before .args .schedule .now) (c .before .before .before .before .before .loop .at) _ (c .before .before .read-line .ensures)) .reads)) .seat))
 
 -- src/run.rt:138:21
 array-copy-out-named : tie.Need-array-copy-out-named Inv-loop μ-loop
-array-copy-out-named c = ?
+array-copy-out-named c = (omega (arith, c .seat-of .ensures, (fits _ (c .before .before .read-line .result .statement) ((part-read (c .before .before .before .before .before .before .before .before .before .args .schedule .now) (c .before .before .before .before .before .loop .at) _ (c .before .before .read-line .ensures)) .short) (c .before .before .read-line .result .parsed) ((part-read (c .before .before .before .before .before .before .before .before .before .args .schedule .now) (c .before .before .before .before .before .loop .at) _ (c .before .before .read-line .ensures)) .reads)) .seat))
 
 -- src/run.rt:139:13
 step-requires : tie.Need-step-requires Inv-loop μ-loop
-step-requires c κs = ?
+step-requires c κs = (record { distinct = c .before .before .before .before .before .before .before .loop .inv .0 .distinct; whole = c .before .before .before .before .before .before .before .loop .inv .0 .whole _ (omega (arith, c .before .before .seat-of .ensures, (fits _ (c .before .before .before .before .read-line .result .statement) ((part-read (c .before .before .before .before .before .before .before .before .before .before .before .args .schedule .now) (c .before .before .before .before .before .before .before .loop .at) _ (c .before .before .before .before .read-line .ensures)) .short) (c .before .before .before .before .read-line .result .parsed) ((part-read (c .before .before .before .before .before .before .before .before .before .before .before .args .schedule .now) (c .before .before .before .before .before .before .before .loop .at) _ (c .before .before .before .before .read-line .ensures)) .reads)) .seat)) }, (fits _ (c .before .before .before .before .read-line .result .statement) ((part-read (c .before .before .before .before .before .before .before .before .before .before .before .args .schedule .now) (c .before .before .before .before .before .before .before .loop .at) _ (c .before .before .before .before .read-line .ensures)) .short) (c .before .before .before .before .read-line .result .parsed) ((part-read (c .before .before .before .before .before .before .before .before .before .before .before .args .schedule .now) (c .before .before .before .before .before .before .before .loop .at) _ (c .before .before .before .before .read-line .ensures)) .reads)))
 
 -- src/run.rt:140:9
 put-step-requires : tie.Need-put-step-requires Inv-loop μ-loop
-put-step-requires c κs = ?
+put-step-requires c κs = (going-room (c .before .before .before .before .before .before .before .before .before .loop .inv .1) (c .before .before .before .before .before .before .before .before .before .before .before .before .before .pre .0) (c .before .before .before .before .before .before .before .before .loop-test .taken) (c .before .before .before .before .before .before .before .before .before .before .before .before .before .pre .1) .0, going-room (c .before .before .before .before .before .before .before .before .before .loop .inv .1) (c .before .before .before .before .before .before .before .before .before .before .before .before .before .pre .0) (c .before .before .before .before .before .before .before .before .loop-test .taken) (c .before .before .before .before .before .before .before .before .before .before .before .before .before .pre .1) .1, c .before .step .ensures .who)
 
 -- src/run.rt:143:9
 add-at : tie.Need-add-at Inv-loop μ-loop
-add-at c = ?
+add-at c = omega (arith, c .before .before .before .before .before .before .before .before .before .before .before .before .before .before .before .before .before .before .pre .0, next-within (c .before .before .before .before .before .before .before .before .before .before .before .before .before .before .before .before .before .before .args .schedule .now) (c .before .before .before .before .before .before .before .before .before .before .before .before .before .before .loop .at) (part-read (c .before .before .before .before .before .before .before .before .before .before .before .before .before .before .before .before .before .before .args .schedule .now) (c .before .before .before .before .before .before .before .before .before .before .before .before .before .before .loop .at) _ (c .before .before .before .before .before .before .before .before .before .before .before .read-line .ensures)) (c .before .before .before .before .before .before .before .before .before .before .before .before .before .before .loop .inv .1 .within))
 
 -- src/run.rt:144:9
 add-n : tie.Need-add-n Inv-loop μ-loop
-add-n c = ?
+add-n c = omega (arith, c .before .before .before .before .before .before .before .before .before .before .before .before .before .before .before .before .before .before .pre .0, c .before .before .before .before .before .before .before .before .before .before .before .before .before .before .loop .inv .1 .number, c .before .before .before .before .before .before .before .before .before .before .before .before .before .before .loop .inv .1 .within)
 
 -- src/run.rt:146:17
 start-all-requires : tie.Need-start-all-requires Inv-loop μ-loop
-start-all-requires c κs = ?
+start-all-requires c κs = c .before .before .before .before .before .before .before .step .ensures .begun (c .if1 .taken) .1
 
 -- src/run.rt:133:5
 loop-less : tie.Need-loop-less Inv-loop μ-loop
-loop-less c = ?
+loop-less c = omega (arith, next-within (c .before .before .before .before .before .before .before .before .before .before .before .before .before .before .before .before .before .before .before .before .args .schedule .now) (c .before .before .before .before .before .before .before .before .before .before .before .before .before .before .before .before .loop .at) (part-read (c .before .before .before .before .before .before .before .before .before .before .before .before .before .before .before .before .before .before .before .before .args .schedule .now) (c .before .before .before .before .before .before .before .before .before .before .before .before .before .before .before .before .loop .at) _ (c .before .before .before .before .before .before .before .before .before .before .before .before .before .read-line .ensures)) (c .before .before .before .before .before .before .before .before .before .before .before .before .before .before .before .before .loop .inv .1 .within), next-moves (c .before .before .before .before .before .before .before .before .before .before .before .before .before .before .before .before .before .before .before .before .args .schedule .now) (c .before .before .before .before .before .before .before .before .before .before .before .before .before .before .before .before .loop .at) (part-read (c .before .before .before .before .before .before .before .before .before .before .before .before .before .before .before .before .before .before .before .before .args .schedule .now) (c .before .before .before .before .before .before .before .before .before .before .before .before .before .before .before .before .loop .at) _ (c .before .before .before .before .before .before .before .before .before .before .before .before .before .read-line .ensures)) (c .before .before .before .before .before .before .before .before .before .before .before .before .before .before .before .loop-test .taken))
 
 -- src/run.rt:133:5
 loop-again : tie.Need-loop-again Inv-loop μ-loop
-loop-again c = ?
+loop-again c = (kept-all _ _ _ _ _ _ _ (omega (arith, c .before .before .before .before .before .before .before .before .before .before .before .seat-of .ensures, (fits _ (c .before .before .before .before .before .before .before .before .before .before .before .before .before .read-line .result .statement) ((part-read (c .before .before .before .before .before .before .before .before .before .before .before .before .before .before .before .before .before .before .before .before .args .schedule .now) (c .before .before .before .before .before .before .before .before .before .before .before .before .before .before .before .before .loop .at) _ (c .before .before .before .before .before .before .before .before .before .before .before .before .before .read-line .ensures)) .short) (c .before .before .before .before .before .before .before .before .before .before .before .before .before .read-line .result .parsed) ((part-read (c .before .before .before .before .before .before .before .before .before .before .before .before .before .before .before .before .before .before .before .before .args .schedule .now) (c .before .before .before .before .before .before .before .before .before .before .before .before .before .before .before .before .loop .at) _ (c .before .before .before .before .before .before .before .before .before .before .before .before .before .read-line .ensures)) .reads)) .seat)) (c .before .before .before .before .before .before .before .before .before .before .before .before .before .before .before .before .loop .inv .0) (named-at (c .before .before .before .before .before .before .before .before .before .before .before .seat-of .ensures) (c .before .before .before .before .before .before .before .before .step .ensures)) (c .before .if1 .taken) _ (c .start-all .ensures), goes-on _ _ _ _ _ _ _ _ (c .before .before .before .before .before .before .before .before .before .before .before .before .before .before .before .before .loop .inv .1) (c .before .before .before .before .before .before .before .before .before .before .before .before .before .read-line .result) (part-read (c .before .before .before .before .before .before .before .before .before .before .before .before .before .before .before .before .before .before .before .before .args .schedule .now) (c .before .before .before .before .before .before .before .before .before .before .before .before .before .before .before .before .loop .at) _ (c .before .before .before .before .before .before .before .before .before .before .before .before .before .read-line .ensures)) (c .before .before .before .before .before .before .before .before .before .before .before .before .before .before .before .loop-test .taken) _ (c .before .before .before .before .before .before .before .before .step .result) (left-all _ _ _ _ _ _ _ (omega (arith, c .before .before .before .before .before .before .before .before .before .before .before .seat-of .ensures, (fits _ (c .before .before .before .before .before .before .before .before .before .before .before .before .before .read-line .result .statement) ((part-read (c .before .before .before .before .before .before .before .before .before .before .before .before .before .before .before .before .before .before .before .before .args .schedule .now) (c .before .before .before .before .before .before .before .before .before .before .before .before .before .before .before .before .loop .at) _ (c .before .before .before .before .before .before .before .before .before .before .before .before .before .read-line .ensures)) .short) (c .before .before .before .before .before .before .before .before .before .before .before .before .before .read-line .result .parsed) ((part-read (c .before .before .before .before .before .before .before .before .before .before .before .before .before .before .before .before .before .before .before .before .args .schedule .now) (c .before .before .before .before .before .before .before .before .before .before .before .before .before .before .before .before .loop .at) _ (c .before .before .before .before .before .before .before .before .before .before .before .before .before .read-line .ensures)) .reads)) .seat)) (c .before .before .before .before .before .before .before .before .before .before .before .before .before .before .before .before .loop .inv .0) (named-at (c .before .before .before .before .before .before .before .before .before .before .before .seat-of .ensures) (c .before .before .before .before .before .before .before .before .step .ensures)) (c .before .if1 .taken) _ (c .start-all .ensures)) _ _ (c .before .before .before .before .before .before .put-step .ensures))
 
 -- src/run.rt:151:9
 mul-seats : tie.Need-mul-seats Inv-loop μ-loop
-mul-seats c = ?
+mul-seats c = (omega (arith, c .before .before .before .before .before .before .before .before .before .before .before .seat-of .ensures, (fits _ (c .before .before .before .before .before .before .before .before .before .before .before .before .before .read-line .result .statement) ((part-read (c .before .before .before .before .before .before .before .before .before .before .before .before .before .before .before .before .before .before .before .before .args .schedule .now) (c .before .before .before .before .before .before .before .before .before .before .before .before .before .before .before .before .loop .at) _ (c .before .before .before .before .before .before .before .before .before .before .before .before .before .read-line .ensures)) .short) (c .before .before .before .before .before .before .before .before .before .before .before .before .before .read-line .result .parsed) ((part-read (c .before .before .before .before .before .before .before .before .before .before .before .before .before .before .before .before .before .before .before .before .args .schedule .now) (c .before .before .before .before .before .before .before .before .before .before .before .before .before .before .before .before .loop .at) _ (c .before .before .before .before .before .before .before .before .before .before .before .before .before .read-line .ensures)) .reads)) .seat))
 
 -- src/run.rt:151:9
 array-set-from-seats : tie.Need-array-set-from-seats Inv-loop μ-loop
-array-set-from-seats c = ?
+array-set-from-seats c = (omega (arith, c .before .before .before .before .before .before .before .before .before .before .before .seat-of .ensures, (fits _ (c .before .before .before .before .before .before .before .before .before .before .before .before .before .read-line .result .statement) ((part-read (c .before .before .before .before .before .before .before .before .before .before .before .before .before .before .before .before .before .before .before .before .args .schedule .now) (c .before .before .before .before .before .before .before .before .before .before .before .before .before .before .before .before .loop .at) _ (c .before .before .before .before .before .before .before .before .before .before .before .before .before .read-line .ensures)) .short) (c .before .before .before .before .before .before .before .before .before .before .before .before .before .read-line .result .parsed) ((part-read (c .before .before .before .before .before .before .before .before .before .before .before .before .before .before .before .before .before .before .before .before .args .schedule .now) (c .before .before .before .before .before .before .before .before .before .before .before .before .before .before .before .before .loop .at) _ (c .before .before .before .before .before .before .before .before .before .before .before .before .before .read-line .ensures)) .reads)) .seat))
 
 -- src/run.rt:133:5
 loop-less-2 : tie.Need-loop-less-2 Inv-loop μ-loop
-loop-less-2 c = ?
+loop-less-2 c = omega (arith, next-within (c .before .before .before .before .before .before .before .before .before .before .before .before .before .before .before .before .before .before .before .before .args .schedule .now) (c .before .before .before .before .before .before .before .before .before .before .before .before .before .before .before .before .loop .at) (part-read (c .before .before .before .before .before .before .before .before .before .before .before .before .before .before .before .before .before .before .before .before .args .schedule .now) (c .before .before .before .before .before .before .before .before .before .before .before .before .before .before .before .before .loop .at) _ (c .before .before .before .before .before .before .before .before .before .before .before .before .before .read-line .ensures)) (c .before .before .before .before .before .before .before .before .before .before .before .before .before .before .before .before .loop .inv .1 .within), next-moves (c .before .before .before .before .before .before .before .before .before .before .before .before .before .before .before .before .before .before .before .before .args .schedule .now) (c .before .before .before .before .before .before .before .before .before .before .before .before .before .before .before .before .loop .at) (part-read (c .before .before .before .before .before .before .before .before .before .before .before .before .before .before .before .before .before .before .before .before .args .schedule .now) (c .before .before .before .before .before .before .before .before .before .before .before .before .before .before .before .before .loop .at) _ (c .before .before .before .before .before .before .before .before .before .before .before .before .before .read-line .ensures)) (c .before .before .before .before .before .before .before .before .before .before .before .before .before .before .before .loop-test .taken))
 
 -- src/run.rt:133:5
 loop-again-2 : tie.Need-loop-again-2 Inv-loop μ-loop
-loop-again-2 c = ?
+loop-again-2 c = (kept-one _ _ _ _ _ _ _ (omega (arith, c .before .before .before .before .before .before .before .before .before .before .before .seat-of .ensures, (fits _ (c .before .before .before .before .before .before .before .before .before .before .before .before .before .read-line .result .statement) ((part-read (c .before .before .before .before .before .before .before .before .before .before .before .before .before .before .before .before .before .before .before .before .args .schedule .now) (c .before .before .before .before .before .before .before .before .before .before .before .before .before .before .before .before .loop .at) _ (c .before .before .before .before .before .before .before .before .before .before .before .before .before .read-line .ensures)) .short) (c .before .before .before .before .before .before .before .before .before .before .before .before .before .read-line .result .parsed) ((part-read (c .before .before .before .before .before .before .before .before .before .before .before .before .before .before .before .before .before .before .before .before .args .schedule .now) (c .before .before .before .before .before .before .before .before .before .before .before .before .before .before .before .before .loop .at) _ (c .before .before .before .before .before .before .before .before .before .before .before .before .before .read-line .ensures)) .reads)) .seat)) (c .before .before .before .before .before .before .before .before .before .before .before .before .before .before .before .before .loop .inv .0) (named-at (c .before .before .before .before .before .before .before .before .before .before .before .seat-of .ensures) (c .before .before .before .before .before .before .before .before .step .ensures)) (c .before .if1 .left), goes-on _ _ _ _ _ _ _ _ (c .before .before .before .before .before .before .before .before .before .before .before .before .before .before .before .before .loop .inv .1) (c .before .before .before .before .before .before .before .before .before .before .before .before .before .read-line .result) (part-read (c .before .before .before .before .before .before .before .before .before .before .before .before .before .before .before .before .before .before .before .before .args .schedule .now) (c .before .before .before .before .before .before .before .before .before .before .before .before .before .before .before .before .loop .at) _ (c .before .before .before .before .before .before .before .before .before .before .before .before .before .read-line .ensures)) (c .before .before .before .before .before .before .before .before .before .before .before .before .before .before .before .loop-test .taken) _ (c .before .before .before .before .before .before .before .before .step .result) (left-one _ _ _ _ _ _ _ (omega (arith, c .before .before .before .before .before .before .before .before .before .before .before .seat-of .ensures, (fits _ (c .before .before .before .before .before .before .before .before .before .before .before .before .before .read-line .result .statement) ((part-read (c .before .before .before .before .before .before .before .before .before .before .before .before .before .before .before .before .before .before .before .before .args .schedule .now) (c .before .before .before .before .before .before .before .before .before .before .before .before .before .before .before .before .loop .at) _ (c .before .before .before .before .before .before .before .before .before .before .before .before .before .read-line .ensures)) .short) (c .before .before .before .before .before .before .before .before .before .before .before .before .before .read-line .result .parsed) ((part-read (c .before .before .before .before .before .before .before .before .before .before .before .before .before .before .before .before .before .before .before .before .args .schedule .now) (c .before .before .before .before .before .before .before .before .before .before .before .before .before .before .before .before .loop .at) _ (c .before .before .before .before .before .before .before .before .before .before .before .before .before .read-line .ensures)) .reads)) .seat)) (c .before .before .before .before .before .before .before .before .before .before .before .before .before .before .before .before .loop .inv .0) (named-at (c .before .before .before .before .before .before .before .before .before .before .before .seat-of .ensures) (c .before .before .before .before .before .before .before .before .step .ensures)) (c .before .if1 .left)) _ _ (c .before .before .before .before .before .before .put-step .ensures))
 
 -- src/run.rt:117:1
 same-length : tie.Need-same-length Inv-loop μ-loop
-same-length c = ?
+same-length c = going-long (c .before .loop .inv .1)
 
 -- src/run.rt:117:1
 returns : tie.Need-returns Inv-loop μ-loop
-returns c = ?
+returns c = going-end (c .before .loop .inv .1) (omega arith) (c .before .before .before .before .before .pre .0)
 
 pub run-lines-spec : {M : Type 1} → statement M
 run-lines-spec =

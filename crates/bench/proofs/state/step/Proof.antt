@@ -124,7 +124,7 @@ enum-known-line-7 c = search needs
 
 -- src/state.rt:172:52
 turn-requires : tie.Need-turn-requires
-turn-requires c κs = ?
+turn-requires c κs = search needs
 
 -- src/state.rt:172:39
 turned-requires : tie.Need-turned-requires

@@ -1,0 +1,307 @@
+-- A schedule's run, line by line.
+-- Assumes nothing.
+use mathlib.Core.Path.{_≡_, refl, sym, ap, ap₂, subst, _∙_}
+use mathlib.Core.Bool.{Bool, true, false, not, _||_}
+use mathlib.Core.List.{List, [], _∷_, _++_, append-assoc, append-nil}
+use mathlib.Core.Option.{Option, some, none}
+use Prim.Native.Nat.{ℕ, zero, suc, _+_, _-_, _*_, _≤_, _<_, min}
+use native.Mathlib.Decide.{decLt, ℕ-discrete}
+use native.Mathlib.Numerals.{add-one}
+use native.Mathlib.Omega.{arith}
+use lib.Dec.{T, eqb, ltb, ltb→lt}
+use Rattle.protocol.proofs.Rules.{and-first, and-second}
+use lib.ListN.{length, getD, set, take, drop, replicate, length-replicate, getD-replicate, length-set, length-drop, length-append, drop-of-length-le}
+use lib.Seq.{sets, length-sets, getD-set-same, getD-set-other, ext-getD, drop-drop, take-all, sets-eq, take-append-seam}
+use borrow.Author.Tests.{lt-ltb, le-ltb, eq-eqb, ne-eqb}
+use Rattle.protocol.specs.Lists.{if_then_else_}
+use Rattle.protocol.specs.View.{controllers}
+use Rattle.protocol.specs.Statement.{fieldRules}
+use Rattle.protocol.specs.Controller as controller
+use Rattle.protocol.specs.Call.{setupAllowed, started}
+use Rattle.text.proofs.Stores.{sets-append}
+use Rattle.views.specs.Table.{table}
+use Rattle.views.proofs.Tables.{table-length, table-at, table-cong}
+use Rattle.statements.specs.declared.Statement.{Statement}
+use Rattle.statements.specs.Meaning.{stmtOf}
+use Rattle.pool.specs.Pool.{stmtAt, poolLen, recordOf}
+use Rattle.engine.specs.declared.Controller.{Controller}
+use Rattle.engine.specs.declared.Answer.{Answer}
+use Rattle.engine.specs.declared.Answer.the-variants.{Taken, Signed, Entered, Delivered, Left, Quiet, Refused}
+use Rattle.engine.specs.Meaning.{controllerIs, recordIs, poolIs, Whole, AllIn, answerIs}
+use Rattle.bench.specs.declared.line.Line.{Line as Held}
+use Rattle.bench.specs.declared.line.Line.the-variants as is
+use Rattle.bench.specs.declared.line.Parsed.{Parsed}
+use Rattle.bench.specs.declared.line.Parsed.the-variants.{Readable, Unreadable}
+use Rattle.bench.specs.declared.line.ReadLine.{ReadLine}
+use Rattle.bench.specs.declared.row.Word.the-variants as word
+use Rattle.bench.specs.declared.row.Value.the-variants as value
+use Rattle.bench.specs.declared.state.Setting.{Setting}
+use Rattle.bench.specs.declared.state.Stepped.{Stepped}
+use Rattle.bench.specs.Line.{Line, lines, Reads, ReadAll}
+use Rattle.bench.specs.Reading.{lineIs, LineOf}
+use Rattle.bench.specs.Bench as bench
+use Rattle.bench.specs.Bench.{Seat, emptySeat, Bench, newBench, step}
+use Rattle.bench.specs.Rows.{rowText, headerText, rowsFrom, refusedRow, Printed}
+use Rattle.bench.specs.Writing.{wordFor, valueIs, rowOf, Shows}
+use Rattle.bench.specs.Seats.{blank, seatIs, benchOf, Distinct, Sound, Grows, Fit, seatOf, seatsAfter, replyIs, Advanced, wordOf, valueOf}
+use Rattle.bench.specs.Running.{rowIs, seatsIs, benchIs, Kept, Started, Reading, Going, Ran}
+use Rattle.bench.proofs.Rows.{shown}
+use Rattle.bench.proofs.States.{seat-kept, whole-kept, no-pool}
+
+-- ---- a row is that of the reply
+
+shows : (W : List ℕ) (a : Answer) (n : ℕ) → (wordFor (answerIs W a) ≡ wordOf a) × (controller.answerValue n (answerIs W a) ≡ valueIs (valueOf a n))
+unfolding answerIs
+shows W Taken n = (refl, refl)
+shows W (Signed i) n = (refl, refl)
+shows W (Entered v) n = (refl, refl)
+shows W (Delivered m) n = (refl, refl)
+shows W Left n = (refl, refl)
+shows W Quiet n = (refl, refl)
+shows W (Refused r) n = (refl, refl)
+
+row-is : (W : List ℕ) (n : ℕ) (s : Stepped) → rowIs n s ≡ rowText n (replyIs W s)
+unfolding rowIs
+row-is W n s = shown n (record { named = refl; word = shows W (s .answer) (s .number) .0; value = shows W (s .answer) (s .number) .1 })
+
+-- ---- what was read fits
+
+module _ (S : List ℕ) (st : Statement) (short : st .history .len ≤ 16) where
+  fit-seat : (p : Parsed) → Reads S (lineIs p (stmtOf st)) → seatOf p < 16
+  fit-seat (Readable (is.Setup m s f)) r = omega arith
+  fit-seat (Readable (is.Join k)) r = r .0
+  fit-seat (Readable (is.Leave k)) r = r .0
+  fit-seat (Readable (is.Send k m)) r = r .0
+  fit-seat (Readable (is.Give k n)) r = r .0
+  fit-seat (Readable (is.All k)) r = r .0
+  fit-seat (Readable (is.Turn k)) r = r .0
+  fit-seat (Readable is.Lie) r = omega arith
+  fit-seat (Readable is.NoStatement) r = omega arith
+  fit-seat Unreadable r = omega arith
+
+  fit-origin : T (fieldRules 16 (stmtOf st)) → st .origin < 16
+  unfolding fieldRules stmtOf
+  fit-origin r = let a : T (ltb (st .origin) 16) = search (and-first, and-second) in ltb→lt (st .origin) 16 a
+
+  pub fits : (p : Parsed) → Reads S (lineIs p (stmtOf st)) → Fit p st
+  fits p r = record { seat = fit-seat p r; origin = λ e. fit-origin (subst (λ q. Reads S (lineIs q (stmtOf st))) e r .0); short = short }
+
+-- ---- the seats after a line
+
+module _ (W W′ : List ℕ) (cs : List Controller) (k : ℕ) (d : Controller) (h : k < 16) (m : Kept W cs) (g : Grows W W′) where
+  seats-set : set (seatsIs W cs) k (seatIs W′ d) ≡ seatsIs W′ (set cs k d)
+  unfolding seatsIs
+  seats-set = ext-getD emptySeat (set (table 16 (λ j. seatIs W (getD cs j blank))) k (seatIs W′ d)) (table 16 (λ j. seatIs W′ (getD (set cs k d) j blank)))
+      (length-set (table 16 (λ j. seatIs W (getD cs j blank))) k (seatIs W′ d) ∙ table-length 16 (λ j. seatIs W (getD cs j blank)) ∙ sym (table-length 16 (λ j. seatIs W′ (getD (set cs k d) j blank))))
+      (λ i l. let b : i < 16 = omega (arith, length-set (table 16 (λ j. seatIs W (getD cs j blank))) k (seatIs W′ d), table-length 16 (λ j. seatIs W (getD cs j blank))) in
+      elim (ℕ-discrete i k) [
+        | yes e ↦ ap (λ j. getD (set (table 16 (λ j. seatIs W (getD cs j blank))) k (seatIs W′ d)) j emptySeat) e
+            ∙ getD-set-same (table 16 (λ j. seatIs W (getD cs j blank))) k (seatIs W′ d) emptySeat (omega (arith, table-length 16 (λ j. seatIs W (getD cs j blank))))
+            ∙ sym (table-at 16 (λ j. seatIs W′ (getD (set cs k d) j blank)) emptySeat i b ∙ ap (seatIs W′) (ap (λ j. getD (set cs k d) j blank) e ∙ getD-set-same cs k d blank (omega (arith, m .long))))
+        | no e ↦ getD-set-other (table 16 (λ j. seatIs W (getD cs j blank))) k i (seatIs W′ d) emptySeat e
+            ∙ table-at 16 (λ j. seatIs W (getD cs j blank)) emptySeat i b ∙ sym (seat-kept g (getD cs i blank) (m .whole i b))
+            ∙ sym (table-at 16 (λ j. seatIs W′ (getD (set cs k d) j blank)) emptySeat i b ∙ ap (seatIs W′) (getD-set-other cs k i d blank e))
+      ])
+
+  pub kept-set : Sound W′ d → Kept W′ (set cs k d)
+  kept-set s = record {
+    distinct = s .distinct;
+    long = length-set cs k d ∙ m .long;
+    whole = λ i l. elim (ℕ-discrete i k) [
+      | yes e ↦ subst (Whole W′) (sym (ap (λ j. getD (set cs k d) j blank) e ∙ getD-set-same cs k d blank (omega (arith, m .long)))) (s .whole)
+      | no e ↦ subst (Whole W′) (sym (getD-set-other cs k i d blank e)) (whole-kept g (getD cs i blank) (m .whole i l))
+    ];
+  }
+
+seat-there : (W : List ℕ) (cs : List Controller) (k : ℕ) → k < 16 → getD (seatsIs W cs) k emptySeat ≡ seatIs W (getD cs k blank)
+unfolding seatsIs
+seat-there W cs k l = table-at 16 (λ j. seatIs W (getD cs j blank)) emptySeat k l
+
+pub kept-start : (W : List ℕ) (cs : List Controller) (members sender : ℕ) → poolLen W ≡ 0 → Started members sender cs → Kept W cs
+kept-start W cs members sender e s = record { distinct = record { tells = λ i j a b. absurd (omega arith) }; long = s .long; whole = λ k l. s .each k l W .1 }
+
+seats-started : (W : List ℕ) (cs : List Controller) (members sender : ℕ) → Started members sender cs → table controllers (λ j. record { controller = started j members sender; statements = [] }) ≡ seatsIs W cs
+unfolding seatsIs
+seats-started W cs members sender s = table-cong 16 (λ j. record { controller = started j members sender; statements = [] }) (λ j. seatIs W (getD cs j blank)) (λ i l. sym (s .each i l W .0))
+
+pick-false : {A : Type 0} (b : Bool) (x y : A) → b ≡ false → (if b then x else y) ≡ y
+pick-false b x y e = rw e
+
+pick-true : {A : Type 0} (b : Bool) (x y : A) → b ≡ true → (if b then x else y) ≡ x
+pick-true b x y e = rw e
+
+-- what a line leaves is the bench in memory
+module _ (W W′ : List ℕ) (g : Setting) (cs : List Controller) (k : ℕ) (l : Option Line) (s : Stepped) (h : k < 16) (m : Kept W cs) (a : Advanced W g (getD cs k blank) k l s W′) where
+  abbrev Left′ : List Controller → Type 0
+  Left′ cs′ = step (benchIs g W cs) l ≡ record { reply = replyIs W′ s; bench = benchIs (s .setting) W′ cs′ }
+
+  went : step (benchIs g W cs) l ≡ record { reply = replyIs W′ s; bench = benchOf (s .setting .ready) (s .setting .faulty) (seatsAfter s W′ k (seatsIs W cs)) W′ }
+  went = a .steps (seatsIs W cs) (seat-there W cs k h)
+
+  pub left-one : s .fresh ≡ false → Left′ (set cs k (s .controller))
+  left-one e = went ∙ ap (λ X. record { reply = replyIs W′ s; bench = benchOf (s .setting .ready) (s .setting .faulty) X W′ })
+      (pick-false (s .fresh) (table controllers (λ j. record { controller = started j (s .setting .members) (s .setting .sender); statements = [] })) (set (seatsIs W cs) k (seatIs W′ (s .controller))) e
+      ∙ seats-set W W′ cs k (s .controller) h m (a .grows e))
+
+  pub left-all : s .fresh ≡ true → (cs′ : List Controller) → Started (s .setting .members) (s .setting .sender) cs′ → Left′ cs′
+  left-all e cs′ t = went ∙ ap (λ X. record { reply = replyIs W′ s; bench = benchOf (s .setting .ready) (s .setting .faulty) X W′ })
+      (pick-true (s .fresh) (table controllers (λ j. record { controller = started j (s .setting .members) (s .setting .sender); statements = [] })) (set (seatsIs W cs) k (seatIs W′ (s .controller))) e
+      ∙ seats-started W′ cs′ (s .setting .members) (s .setting .sender) t)
+
+  pub kept-one : s .fresh ≡ false → Kept W′ (set cs k (s .controller))
+  kept-one e = kept-set W W′ cs k (s .controller) h m (a .grows e) (a .sound e)
+
+  pub kept-all : s .fresh ≡ true → (cs′ : List Controller) → Started (s .setting .members) (s .setting .sender) cs′ → Kept W′ cs′
+  kept-all e cs′ t = kept-start W′ cs′ (s .setting .members) (s .setting .sender) (a .begun e .0) t
+
+-- ---- one line more
+
+module _ (S : List ℕ) (at n : ℕ) (b b′ : Bench) (R R′ : List ℕ) (out : ℕ) (going : Going S at n b R R′ out) (r : ReadLine) (of : LineOf (drop at S) r) (more : at < length S) (W′ : List ℕ) (s : Stepped)
+    (left : step b (lineIs (r .parsed) (stmtOf (r .statement))) ≡ record { reply = replyIs W′ s; bench = b′ }) (R″ : List ℕ) (out′ : ℕ)
+    (put : (out′ ≡ out + length (rowIs n s)) × (R″ ≡ sets R′ out (rowIs n s)) × (length (rowIs n s) ≤ 40)) where
+  abbrev this : Option Line
+  this = lineIs (r .parsed) (stmtOf (r .statement))
+
+  some-left : 0 < length (drop at S)
+  some-left = omega (arith, length-drop at S)
+
+  rest-of : (L : List (Option Line)) → ReadAll (lines (drop (at + r .next) S)) L → Reading S (going .printed ++ rowIs n s) (rowsFrom (n + 1) b′ L)
+  unfolding rowsFrom
+  rest-of L q =
+      let q′ : ReadAll (lines (drop (r .next) (drop at S))) L = subst (λ t. ReadAll (lines t) L) (sym (drop-drop (r .next) at S)) q in
+      let all : ReadAll (lines (drop at S)) (this ∷ L) = subst (λ t. ReadAll t (this ∷ L)) (sym (of .first some-left)) (of .reads, q′) in
+      let whole : Reading S (going .printed) (rowsFrom n b (this ∷ L)) = going .rest (this ∷ L) all in
+      record {
+        reading = whole .reading;
+        reads = whole .reads;
+        rows = whole .rows
+            ∙ ap (λ (t : bench.Stepped). going .printed ++ (rowText n (t .reply) ++ rowsFrom (suc n) (t .bench) L)) left
+            ∙ ap (λ t. going .printed ++ (t ++ rowsFrom (suc n) b′ L)) (sym (row-is W′ n s))
+            ∙ sym (append-assoc (going .printed) (rowIs n s) (rowsFrom (suc n) b′ L))
+            ∙ ap (λ t. (going .printed ++ rowIs n s) ++ rowsFrom t b′ L) (sym (add-one n));
+      }
+
+  pub goes-on : Going S (at + r .next) (n + 1) b′ R R″ out′
+  goes-on = record {
+    printed = going .printed ++ rowIs n s;
+    rows = put .1 ∙ ap₂ (λ t o. sets t o (rowIs n s)) (going .rows) (going .end) ∙ sym (sets-append (going .printed) (rowIs n s) R 22);
+    end = omega (arith, put .0, going .end, length-append (going .printed) (rowIs n s));
+    small = omega (arith, put .2, going .small, length-append (going .printed) (rowIs n s), of .moves some-left);
+    number = omega (arith, going .number, of .moves some-left);
+    within = omega (arith, of .within, length-drop at S, going .within);
+    rest = rest-of;
+  }
+
+-- what the next line needs of the rows
+pub going-room : {S : List ℕ} {at n : ℕ} {b : Bench} {R R′ : List ℕ} {out : ℕ} → Going S at n b R R′ out → length S ≤ 65536 → at < length S → 2621504 ≤ length R → (out + 40 ≤ length R′) × (n < 100000)
+going-room {R = R} g s m l = (omega (arith, g .end, g .small, ap length (g .rows), length-sets R 22 (g .printed)), omega (arith, g .number))
+
+pub going-long : {S : List ℕ} {at n : ℕ} {b : Bench} {R R′ : List ℕ} {out : ℕ} → Going S at n b R R′ out → length R′ ≡ length R
+going-long {R = R} g = ap length (g .rows) ∙ length-sets R 22 (g .printed)
+
+pub part-read : (S : List ℕ) (at : ℕ) (r : ReadLine) → LineOf (take (length S - at) (drop at S)) r → LineOf (drop at S) r
+part-read S at r of = rw (take-all (length S - at) (drop at S) (omega (arith, length-drop at S))) at of
+
+-- ---- the start and the end
+
+pub going-end : {S : List ℕ} {at n : ℕ} {b : Bench} {R R′ : List ℕ} {out : ℕ} → Going S at n b R R′ out → length S ≤ at → length S ≤ 65536 → Ran S R R′ out
+unfolding rowsFrom lines
+going-end {S} {at} {n} {b} {R} {R′} {out} g e l = record {
+  printed = g .printed;
+  rows = g .rows;
+  end = g .end;
+  small = omega (arith, g .small, g .within);
+  ran = g .rest [] (subst (λ t. ReadAll (lines t) []) (sym (drop-of-length-le S e)) tt);
+}
+
+module _ (c : Controller) (fresh : (controllerIs c ≡ controller.notSetUp) × (c .statements .len ≡ 0)) (m w : ℕ) (e : m ≡ 16) (f : w ≡ 16385) where
+  empty-pool : poolLen (replicate w 0) ≡ 0
+  unfolding poolLen
+  empty-pool = let z : _≡_ {A = ℕ} (getD (replicate w 0) 16384 0) 0 = getD-replicate w 16384 0 0 (omega arith) in omega arith
+
+  each-is : (k : ℕ) → k < 16 → getD (replicate m c) k blank ≡ c
+  each-is k l = getD-replicate m k c blank (omega arith)
+
+  no-record : (W : List ℕ) → recordIs W c ≡ []
+  unfolding recordIs recordOf table
+  no-record W = ap (λ n. recordOf W (c .statements .ids) n) (fresh .1)
+
+  no-whole : (W : List ℕ) → Whole W c
+  unfolding Whole
+  no-whole W i l = absurd (omega (arith, fresh .1))
+
+  pub kept-first : Kept (replicate w 0) (replicate m c)
+  kept-first = record {
+    distinct = record { tells = λ i j a b. absurd (omega (arith, empty-pool)) };
+    long = length-replicate m c ∙ e;
+    whole = λ k l. subst (Whole (replicate w 0)) (sym (each-is k l)) (no-whole (replicate w 0));
+  }
+
+  bench-first : benchOf false 0 (seatsIs (replicate w 0) (replicate m c)) (replicate w 0) ≡ newBench
+  unfolding seatsIs
+  bench-first = ap₂ (λ X P. record { isSetUp = false; faulty = 0; seats = X; pool = P })
+      (table-cong 16 (λ k. seatIs (replicate w 0) (getD (replicate m c) k blank)) (λ k. emptySeat) (λ k l. ap (seatIs (replicate w 0)) (each-is k l) ∙ ap₂ (λ x y. record { controller = x; statements = y }) (fresh .0) (no-record (replicate w 0))))
+      (sym (no-pool (replicate w 0) empty-pool))
+
+  pub going-first : (S R : List ℕ) → Going S 0 1 (benchOf false 0 (seatsIs (replicate w 0) (replicate m c)) (replicate w 0)) R R 22
+  going-first S R = record {
+    printed = [];
+    rows = refl;
+    end = refl;
+    small = omega arith;
+    number = omega arith;
+    within = omega arith;
+    rest = λ L q. record { reading = L; reads = q; rows = ap (λ b. rowsFrom 1 b L) (sym bench-first) };
+  }
+
+-- ---- what the loop asks of the line that was read
+
+pub named-at : {W W′ : List ℕ} {g : Setting} {c : Controller} {k k′ : ℕ} {l : Option Line} {s : Stepped} → k ≡ k′ → Advanced W g c k′ l s W′ → Advanced W g c k l s W′
+named-at {W} {W′} {g} {c} {k} {k′} {l} {s} e a = subst (λ j. Advanced W g c j l s W′) (sym e) a
+
+pub next-within : (S : List ℕ) (at : ℕ) {r : ReadLine} → LineOf (drop at S) r → at ≤ length S → at + r .next ≤ length S
+next-within S at of l = omega (arith, of .within, length-drop at S)
+
+pub next-moves : (S : List ℕ) (at : ℕ) {r : ReadLine} → LineOf (drop at S) r → at < length S → 0 < r .next
+next-moves S at of l = of .moves (omega (arith, length-drop at S))
+
+-- ---- the header and what stands after it
+
+take-sets : (R xs : List ℕ) → length xs ≤ length R → take (length xs) (sets R 0 xs) ≡ xs
+take-sets R xs l = ap (take (length xs)) (sets-eq xs R 0 (omega arith)) ∙ take-append-seam xs (drop (0 + length xs) R)
+
+headed : (R R′ R″ xs : List ℕ) (r : ℕ) → 2621504 ≤ length R → R′ ≡ sets R 0 headerText → R″ ≡ sets R′ 22 xs → r ≡ 22 + length xs → length xs ≤ 2621440 → take r R″ ≡ headerText ++ xs
+headed R R′ R″ xs r l e f g m =
+    ap₂ take (g ∙ sym (length-append headerText xs)) (f ∙ ap (λ t. sets t 22 xs) e ∙ sym (sets-append headerText xs R 0))
+    ∙ take-sets R (headerText ++ xs) (omega (arith, length-append headerText xs))
+
+empty-reads : (S : List ℕ) → length S ≡ 0 → ReadAll (lines S) []
+unfolding lines
+empty-reads [] e = tt
+empty-reads (x ∷ S) e = absurd (omega arith)
+
+refused-row : rowOf 0 16 word.Refused (value.Number 8) ≡ refusedRow
+refused-row = shown 0 (record { named = refl; word = refl; value = refl })
+
+module _ (S R R′ R″ : List ℕ) (r : ℕ) (l : 2621504 ≤ length R) (e : R′ ≡ sets R 0 headerText)
+    (put : (r ≡ 22 + length (rowOf 0 16 word.Refused (value.Number 8))) × (R″ ≡ sets R′ 22 (rowOf 0 16 word.Refused (value.Number 8))) × (length (rowOf 0 16 word.Refused (value.Number 8)) ≤ 40)) where
+  refusal : take r R″ ≡ headerText ++ refusedRow
+  refusal = headed R R′ R″ (rowOf 0 16 word.Refused (value.Number 8)) r l e (put .1) (put .0) (omega (arith, put .2)) ∙ ap (λ t. headerText ++ t) refused-row
+
+  pub printed-empty : length S ≡ 0 → Printed S (take r R″)
+  printed-empty z = record { reading = []; reads = λ h. empty-reads S z; prints = refusal ∙ ap (λ t. headerText ++ t) (sym (pick-true (eqb (length S) 0 || ltb 65536 (length S)) refusedRow (rowsFrom 1 newBench []) (ap (λ b. b || ltb 65536 (length S)) (eq-eqb (length S) 0 z)))) }
+
+  or-yes : (b : Bool) → (b || true) ≡ true
+  or-yes true = refl
+  or-yes false = refl
+
+  pub printed-long : 65536 < length S → Printed S (take r R″)
+  printed-long z = record { reading = []; reads = λ h. absurd (omega arith); prints = refusal ∙ ap (λ t. headerText ++ t) (sym (pick-true (eqb (length S) 0 || ltb 65536 (length S)) refusedRow (rowsFrom 1 newBench []) (ap (λ b. eqb (length S) 0 || b) (lt-ltb 65536 (length S) z) ∙ or-yes (eqb (length S) 0)))) }
+
+pub printed-run : (S R R′ R″ : List ℕ) (r : ℕ) → 2621504 ≤ length R → R′ ≡ sets R 0 headerText → Ran S R′ R″ r → (length S ≡ 0 → ⊥) → length S ≤ 65536 → Printed S (take r R″)
+printed-run S R R′ R″ r l e m a b = record {
+  reading = m .ran .reading;
+  reads = λ h. m .ran .reads;
+  prints = headed R R′ R″ (m .printed) r l e (m .rows) (m .end) (m .small)
+      ∙ ap (λ t. headerText ++ t) (sym (m .ran .rows ∙ append-nil (m .printed)) ∙ sym (pick-false (eqb (length S) 0 || ltb 65536 (length S)) refusedRow (rowsFrom 1 newBench (m .ran .reading)) (ap₂ _||_ (ne-eqb (length S) 0 a) (le-ltb 65536 (length S) b))));
+}
