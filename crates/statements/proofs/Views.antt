@@ -15,7 +15,8 @@ use Rattle.views.specs.declared.View as held
 use Rattle.statements.specs.declared.Part.{Part}
 use Rattle.statements.specs.declared.ViewPart.{ViewPart}
 use Rattle.statements.specs.Text.{viewText}
-use Rattle.statements.specs.Meaning.{viewOf, firstViews, FitsView, EachFits}
+use Rattle.views.specs.Held.{viewIs}
+use Rattle.statements.specs.Meaning.{firstViews, FitsView, EachFits}
 use Rattle.statements.specs.Parts.{ViewAt, ViewsAt, tailText}
 use Rattle.statements.proofs.Fields.{view-long}
 
@@ -52,17 +53,17 @@ first-long zero l = refl
 first-long (suc n) [] = ap suc (first-long n [])
 first-long (suc n) (v ∷ l) = ap suc (first-long n l)
 
-pub first-set : (l : List held.View) (i : ℕ) (v : held.View) → i < length l → firstViews (suc i) (set l i v) ≡ firstViews i l ++ (viewOf v ∷ [])
+pub first-set : (l : List held.View) (i : ℕ) (v : held.View) → i < length l → firstViews (suc i) (set l i v) ≡ firstViews i l ++ (viewIs v ∷ [])
 unfolding firstViews
 first-set [] i v h = absurd (omega arith)
 first-set (u ∷ l) zero v h = refl
-first-set (u ∷ l) (suc i) v h = ap (λ (t : List View). viewOf u ∷ t) (first-set l i v (omega arith))
+first-set (u ∷ l) (suc i) v h = ap (λ (t : List View). viewIs u ∷ t) (first-set l i v (omega arith))
 
-pub first-next : (l : List held.View) (i : ℕ) (d : held.View) → i < length l → firstViews (suc i) l ≡ firstViews i l ++ (viewOf (getD l i d) ∷ [])
+pub first-next : (l : List held.View) (i : ℕ) (d : held.View) → i < length l → firstViews (suc i) l ≡ firstViews i l ++ (viewIs (getD l i d) ∷ [])
 unfolding firstViews
 first-next [] i d h = absurd (omega arith)
 first-next (u ∷ l) zero d h = refl
-first-next (u ∷ l) (suc i) d h = ap (λ (t : List View). viewOf u ∷ t) (first-next l i d (omega arith))
+first-next (u ∷ l) (suc i) d h = ap (λ (t : List View). viewIs u ∷ t) (first-next l i d (omega arith))
 
 each-at : (l : List View) (i : ℕ) → EachFits l → i < length l → FitsView (getD l i noView)
 each-at [] i f h = absurd (omega arith)
@@ -89,16 +90,16 @@ module _ (S : List ℕ) (n : ℕ) (ok₀ : Bool) (at₀ : ℕ) where
 
   module _ (views : List held.View) (ok : Bool) (at i : ℕ) (sf : SoFar S n ok₀ at₀ views ok at i) where
     module _ (p : ViewPart) (h : i < n) (few : n ≤ 16) (v : ViewAt S at p) where
-      longer : firstViews (i + 1) (set views i (p .view)) ≡ firstViews i views ++ (viewOf (p .view) ∷ [])
+      longer : firstViews (i + 1) (set views i (p .view)) ≡ firstViews i views ++ (viewIs (p .view) ∷ [])
       longer = ap (λ (k : ℕ). firstViews k (set views i (p .view))) (add-one i) ∙ first-set views i (p .view) (omega (arith, sf .size))
 
       only : p .ok ≡ true → (ok₀ ≡ true) × (drop at₀ S ≡ tailText (firstViews (i + 1) (set views i (p .view))) ++ drop (p .next) S)
       only o =
-          let g = sf .only (ok-before S at 44 (viewText (viewOf (p .view)) ++ drop (p .next) S) ok (v .only o) (sf .stop)) in (
+          let g = sf .only (ok-before S at 44 (viewText (viewIs (p .view)) ++ drop (p .next) S) ok (v .only o) (sf .stop)) in (
             g .0,
             g .1 ∙ ap (λ (t : List ℕ). tailText (firstViews i views) ++ t) (v .only o)
-                ∙ sym (ap (λ (t : List View). tailText t ++ drop (p .next) S) longer ∙ ap (λ (t : List ℕ). t ++ drop (p .next) S) (tail-append (firstViews i views) (viewOf (p .view) ∷ []) ∙ ap (λ (t : List ℕ). tailText (firstViews i views) ++ t) (tail-one (viewOf (p .view))))
-                ∙ append-assoc (tailText (firstViews i views)) (44 ∷ viewText (viewOf (p .view))) (drop (p .next) S)),
+                ∙ sym (ap (λ (t : List View). tailText t ++ drop (p .next) S) longer ∙ ap (λ (t : List ℕ). t ++ drop (p .next) S) (tail-append (firstViews i views) (viewIs (p .view) ∷ []) ∙ ap (λ (t : List ℕ). tailText (firstViews i views) ++ t) (tail-one (viewIs (p .view))))
+                ∙ append-assoc (tailText (firstViews i views)) (44 ∷ viewText (viewIs (p .view))) (drop (p .next) S)),
           )
 
       back : (l : List View) → length l ≡ n → EachFits l → ok₀ ≡ true → drop at₀ S ≡ tailText l → (p .ok ≡ true) × (firstViews (i + 1) (set views i (p .view)) ≡ take (i + 1) l) × (drop (p .next) S ≡ tailText (drop (i + 1) l))
@@ -107,7 +108,7 @@ module _ (S : List ℕ) (n : ℕ) (ok₀ : Bool) (at₀ : ℕ) where
           let here = g .2 ∙ ap tailText (drop-cons l i noView (omega arith)) ∙ tail-cons (getD l i noView) (drop (suc i) l) in
           let w = v .back (getD l i noView) (tailText (drop (suc i) l)) (each-at l i f (omega arith)) here in (
             w .0,
-            longer ∙ ap (λ (t : List View). t ++ (viewOf (p .view) ∷ [])) (g .1) ∙ ap (λ (u : View). take i l ++ (u ∷ [])) (w .1)
+            longer ∙ ap (λ (t : List View). t ++ (viewIs (p .view) ∷ [])) (g .1) ∙ ap (λ (u : View). take i l ++ (u ∷ [])) (w .1)
                 ∙ sym (ap (λ (k : ℕ). take k l) (add-one i) ∙ take-suc l i noView (omega arith)),
             w .2 ∙ ap (λ (k : ℕ). tailText (drop k l)) (sym (add-one i)),
           )
@@ -153,17 +154,17 @@ abbrev pub blank : held.View
 blank = record { joined = 0; left = 0 }
 
 -- the list need not be so long: past its end a view is empty on both sides
-first-then : (l : List held.View) (i : ℕ) → firstViews (suc i) l ≡ firstViews i l ++ (viewOf (getD l i blank) ∷ [])
+pub first-then : (l : List held.View) (i : ℕ) → firstViews (suc i) l ≡ firstViews i l ++ (viewIs (getD l i blank) ∷ [])
 unfolding firstViews
 first-then [] zero = refl
 first-then [] (suc i) = ap (λ (t : List View). noView ∷ t) (first-then [] i)
 first-then (u ∷ l) zero = refl
-first-then (u ∷ l) (suc i) = ap (λ (t : List View). viewOf u ∷ t) (first-then l i)
+first-then (u ∷ l) (suc i) = ap (λ (t : List View). viewIs u ∷ t) (first-then l i)
 
-pub put-next : (out₀ out : List ℕ) (from at i : ℕ) (l : List held.View) → out ≡ sets out₀ from (tailText (firstViews i l)) → at ≡ from + 9 * i → sets out at (44 ∷ viewText (viewOf (getD l i blank))) ≡ sets out₀ from (tailText (firstViews (i + 1) l))
+pub put-next : (out₀ out : List ℕ) (from at i : ℕ) (l : List held.View) → out ≡ sets out₀ from (tailText (firstViews i l)) → at ≡ from + 9 * i → sets out at (44 ∷ viewText (viewIs (getD l i blank))) ≡ sets out₀ from (tailText (firstViews (i + 1) l))
 put-next out₀ out from at i l e p =
     let t : List ℕ = tailText (firstViews i l) in
-    let u : List ℕ = 44 ∷ viewText (viewOf (getD l i blank)) in
+    let u : List ℕ = 44 ∷ viewText (viewIs (getD l i blank)) in
     let place : at ≡ from + length t = p ∙ omega (arith, tail-long (firstViews i l), first-long i l) in
     ap (λ (o : List ℕ). sets o at u) e ∙ ap (λ (k : ℕ). sets (sets out₀ from t) k u) place ∙ sym (sets-append t u out₀ from)
-    ∙ ap (sets out₀ from) (sym (ap (λ (k : ℕ). tailText (firstViews k l)) (add-one i) ∙ ap tailText (first-then l i) ∙ tail-append (firstViews i l) (viewOf (getD l i blank) ∷ []) ∙ ap (λ (x : List ℕ). t ++ x) (tail-one (viewOf (getD l i blank)))))
+    ∙ ap (sets out₀ from) (sym (ap (λ (k : ℕ). tailText (firstViews k l)) (add-one i) ∙ ap tailText (first-then l i) ∙ tail-append (firstViews i l) (viewIs (getD l i blank) ∷ []) ∙ ap (λ (x : List ℕ). t ++ x) (tail-one (viewIs (getD l i blank)))))

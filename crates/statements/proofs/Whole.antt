@@ -21,7 +21,8 @@ use Rattle.statements.specs.declared.Binding.{Binding}
 use Rattle.statements.specs.declared.Statement.{Statement}
 use Rattle.statements.specs.declared.ReadStatement.{ReadStatement}
 use Rattle.statements.specs.Text.{parted, viewText, text}
-use Rattle.statements.specs.Meaning.{viewOf, firstViews, bindingNumber, payloadOf, stmtOf, Fits}
+use Rattle.views.specs.Held.{viewIs}
+use Rattle.statements.specs.Meaning.{firstViews, bindingNumber, payloadOf, stmtOf, Fits}
 use Rattle.statements.specs.Promise.{ReadOf}
 use Rattle.statements.specs.Parts.{Bounded, NumberAt, ViewAt, ViewsAt, tailText, bindingFrom}
 use Rattle.statements.proofs.Views.{ok-before, first-long}
@@ -83,8 +84,8 @@ pub record Chain (S : List ℕ) (first : Read) (kind origin : Part) (at view : V
 pub record Same (t : Stmt) (kind origin : Part) (at view : ViewPart) (binding payload stored kept : Part) (views : ViewsPart) : Type 0 where
   pub kind-is : kind .value ≡ t .kind
   pub origin-is : origin .value ≡ t .origin
-  pub at-is : viewOf (at .view) ≡ t .at
-  pub view-is : viewOf (view .view) ≡ t .view
+  pub at-is : viewIs (at .view) ≡ t .at
+  pub view-is : viewIs (view .view) ≡ t .view
   pub binding-is : binding .value ≡ t .binding
   pub payload-is : payload .value ≡ t .payload
   pub stored-is : stored .value ≡ t .stored
@@ -96,7 +97,7 @@ module _ (S : List ℕ) (first : Read) (kind origin : Part) (at view : ViewPart)
   number-on : (at′ most : ℕ) (p : Part) → NumberAt S at′ most p → p .ok ≡ true → (v : ℕ) (rest : List ℕ) → p .value ≡ v → drop (p .next) S ≡ rest → drop at′ S ≡ 44 ∷ (decText v ++ rest)
   number-on at′ most p n o v rest e d = n .only o ∙ ap (λ (k : ℕ). 44 ∷ (decText k ++ drop (p .next) S)) e ∙ ap (λ (l : List ℕ). 44 ∷ (decText v ++ l)) d
 
-  view-on : (at′ : ℕ) (p : ViewPart) → ViewAt S at′ p → p .ok ≡ true → (v : View) (rest : List ℕ) → viewOf (p .view) ≡ v → drop (p .next) S ≡ rest → drop at′ S ≡ 44 ∷ (viewText v ++ rest)
+  view-on : (at′ : ℕ) (p : ViewPart) → ViewAt S at′ p → p .ok ≡ true → (v : View) (rest : List ℕ) → viewIs (p .view) ≡ v → drop (p .next) S ≡ rest → drop at′ S ≡ 44 ∷ (viewText v ++ rest)
   view-on at′ p n o v rest e d = n .only o ∙ ap (λ (k : View). 44 ∷ (viewText k ++ drop (p .next) S)) e ∙ ap (λ (l : List ℕ). 44 ∷ (viewText v ++ l)) d
 
   -- the part before it was accepted, if a part begins where that ends

@@ -19,7 +19,8 @@ use Rattle.statements.specs.declared.Binding.{Binding}
 use Rattle.statements.specs.declared.Binding.the-variants.{Unbound, Bound, Barred}
 use Rattle.statements.specs.declared.Statement.{Statement}
 use Rattle.statements.specs.Text.{viewText, text}
-use Rattle.statements.specs.Meaning.{viewOf, firstViews, bindingNumber, payloadOf, stmtOf}
+use Rattle.views.specs.Held.{viewIs}
+use Rattle.statements.specs.Meaning.{firstViews, bindingNumber, payloadOf, stmtOf}
 use Rattle.statements.specs.Promise.{hasRoom, writtenCount, written}
 use Rattle.statements.specs.Parts.{tailText, firstText, secondText}
 use Rattle.statements.proofs.Fields.{view-long}
@@ -70,7 +71,7 @@ module _ (s : Statement) where
   unfolding stmtOf
   text-size =
       let l = firstViews (s .history .len) (s .history .views) in
-      let a = firstText (s .kind) (s .origin) (viewOf (s .at)) (viewOf (s .view)) in
+      let a = firstText (s .kind) (s .origin) (viewIs (s .at)) (viewIs (s .view)) in
       let b = secondText (bindingNumber (s .binding)) (payloadOf (s .binding) (s .payload)) (cond (s .stored) 1 0) (s .kept) in
       let n : length l ≡ s .history .len = first-long (s .history .len) (s .history .views) in
       ap length (text-runs (stmtOf s))
@@ -82,7 +83,7 @@ module _ (s : Statement) where
         tail-long l,
         n,
         ap (λ (k : ℕ). length (decText k)) n,
-        first-size (s .kind) (s .origin) (viewOf (s .at)) (viewOf (s .view)),
+        first-size (s .kind) (s .origin) (viewIs (s .at)) (viewIs (s .view)),
         second-size (bindingNumber (s .binding)) (payloadOf (s .binding) (s .payload)) (cond (s .stored) 1 0) (s .kept),
         one-digit (s .binding),
         one-bit (s .stored),
@@ -103,23 +104,23 @@ module _ (s : Statement) where
 
     module _ (b p z : ℕ) (eb : b ≡ bindingNumber (s .binding)) (ep : p ≡ payloadOf (s .binding) (s .payload)) (ez : z ≡ cond (s .stored) 1 0) where
       -- the text in its four runs
-      runs : text (stmtOf s) ≡ firstText (s .kind) (s .origin) (viewOf (s .at)) (viewOf (s .view)) ++ (secondText b p z (s .kept) ++ ((44 ∷ decText (s .history .len)) ++ tailText (firstViews (s .history .len) (s .history .views))))
+      runs : text (stmtOf s) ≡ firstText (s .kind) (s .origin) (viewIs (s .at)) (viewIs (s .view)) ++ (secondText b p z (s .kept) ++ ((44 ∷ decText (s .history .len)) ++ tailText (firstViews (s .history .len) (s .history .views))))
       unfolding stmtOf
       runs =
           let n = first-long (s .history .len) (s .history .views) in
           text-runs (stmtOf s) ∙ rw (← eb, ← ep, ← ez, n)
 
-      pub sizes : length (text (stmtOf s)) ≡ length (firstText (s .kind) (s .origin) (viewOf (s .at)) (viewOf (s .view))) + length (secondText b p z (s .kept)) + 1 + length (decText (s .history .len)) + 9 * s .history .len
+      pub sizes : length (text (stmtOf s)) ≡ length (firstText (s .kind) (s .origin) (viewIs (s .at)) (viewIs (s .view))) + length (secondText b p z (s .kept)) + 1 + length (decText (s .history .len)) + 9 * s .history .len
       sizes =
           let l = firstViews (s .history .len) (s .history .views) in
           let c = (44 ∷ decText (s .history .len)) ++ tailText l in
           ap length runs
-          ∙ omega (arith, length-append (firstText (s .kind) (s .origin) (viewOf (s .at)) (viewOf (s .view))) (secondText b p z (s .kept) ++ c), length-append (secondText b p z (s .kept)) c, length-append (decText (s .history .len)) (tailText l), tail-long l, first-long (s .history .len) (s .history .views))
+          ∙ omega (arith, length-append (firstText (s .kind) (s .origin) (viewIs (s .at)) (viewIs (s .view))) (secondText b p z (s .kept) ++ c), length-append (secondText b p z (s .kept)) c, length-append (decText (s .history .len)) (tailText l), tail-long l, first-long (s .history .len) (s .history .views))
 
-      pub all-runs : (j k l : ℕ) → j ≡ length (firstText (s .kind) (s .origin) (viewOf (s .at)) (viewOf (s .view))) → k ≡ j + length (secondText b p z (s .kept)) → l ≡ k + 1 + length (decText (s .history .len))
-          → sets (sets (sets (sets out 0 (firstText (s .kind) (s .origin) (viewOf (s .at)) (viewOf (s .view)))) j (secondText b p z (s .kept))) k (44 ∷ decText (s .history .len))) l (tailText (firstViews (s .history .len) (s .history .views))) ≡ sets out 0 (text (stmtOf s))
+      pub all-runs : (j k l : ℕ) → j ≡ length (firstText (s .kind) (s .origin) (viewIs (s .at)) (viewIs (s .view))) → k ≡ j + length (secondText b p z (s .kept)) → l ≡ k + 1 + length (decText (s .history .len))
+          → sets (sets (sets (sets out 0 (firstText (s .kind) (s .origin) (viewIs (s .at)) (viewIs (s .view)))) j (secondText b p z (s .kept))) k (44 ∷ decText (s .history .len))) l (tailText (firstViews (s .history .len) (s .history .views))) ≡ sets out 0 (text (stmtOf s))
       all-runs j k l ej ek el =
-          four-runs out 0 j k l (firstText (s .kind) (s .origin) (viewOf (s .at)) (viewOf (s .view))) (secondText b p z (s .kept)) (44 ∷ decText (s .history .len)) (tailText (firstViews (s .history .len) (s .history .views))) (omega arith) ek (omega arith)
+          four-runs out 0 j k l (firstText (s .kind) (s .origin) (viewIs (s .at)) (viewIs (s .view))) (secondText b p z (s .kept)) (44 ∷ decText (s .history .len)) (tailText (firstViews (s .history .len) (s .history .views))) (omega arith) ek (omega arith)
           ∙ ap (sets out 0) (sym runs)
 
 pub bool-byte : (b : Bool) → boolByte b ≡ cond b 1 0

@@ -3,3 +3,4 @@ pub mod Text
 pub mod Meaning
 pub mod Promise
 pub mod Parts
+pub mod Made

@@ -5,20 +5,19 @@ use mathlib.Core.Bool.{cond}
 use mathlib.Core.List.{List, [], _∷_}
 use lib.ListN.{length}
 use Rattle.protocol.specs.View.{View}
-use Rattle.protocol.specs.Statement.{Stmt, noView}
+use Rattle.protocol.specs.Statement.{Stmt, noView, unbound, bound, barred}
+use Rattle.protocol.specs.Statement as statement
 use Rattle.views.specs.declared.View as held
+use Rattle.views.specs.Held.{viewIs}
 use Rattle.statements.specs.declared.Binding.{Binding}
 use Rattle.statements.specs.declared.Binding.the-variants.{Unbound, Bound, Barred}
 use Rattle.statements.specs.declared.Statement.{Statement}
-
-abbrev pub viewOf : held.View → View
-viewOf v = record { joined = v .joined; left = v .left }
 
 -- The first n views. There are n of them, also where the list is shorter, so that a count above 16 stays what it is.
 unfoldable pub firstViews : ℕ → List held.View → List View
 firstViews zero l = []
 firstViews (suc n) [] = noView ∷ firstViews n []
-firstViews (suc n) (v ∷ l) = viewOf v ∷ firstViews n l
+firstViews (suc n) (v ∷ l) = viewIs v ∷ firstViews n l
 
 -- "binding (0 unbound, 1 bound to payload, 2 barred)".
 abbrev pub bindingNumber : Binding → ℕ
@@ -36,8 +35,8 @@ unfoldable pub stmtOf : Statement → Stmt
 stmtOf s = record {
   kind = s .kind;
   origin = s .origin;
-  at = viewOf (s .at);
-  view = viewOf (s .view);
+  at = viewIs (s .at);
+  view = viewIs (s .view);
   binding = bindingNumber (s .binding);
   payload = payloadOf (s .binding) (s .payload);
   stored = cond (s .stored) 1 0;
@@ -65,3 +64,9 @@ pub record Fits (s : Stmt) : Type 0 where
   pub kept : s .kept < 2 ^ 64
   pub count : length (s .views) ≤ 16
   pub views : EachFits (s .views)
+
+-- The binding that a Binding means.
+abbrev pub bindingIs : Binding → statement.Binding
+bindingIs Unbound = unbound
+bindingIs (Bound m) = bound m
+bindingIs Barred = barred

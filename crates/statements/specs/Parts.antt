@@ -17,7 +17,8 @@ use Rattle.statements.specs.declared.ViewsPart.{ViewsPart}
 use Rattle.statements.specs.declared.Binding.{Binding}
 use Rattle.statements.specs.declared.Binding.the-variants.{Unbound, Bound, Barred}
 use Rattle.statements.specs.Text.{viewText}
-use Rattle.statements.specs.Meaning.{viewOf, firstViews, FitsView, EachFits}
+use Rattle.views.specs.Held.{viewIs}
+use Rattle.statements.specs.Meaning.{firstViews, FitsView, EachFits}
 
 -- Views, each with a comma before it.
 unfoldable pub tailText : List View → List ℕ
@@ -38,8 +39,8 @@ pub record NumberAt (S : List ℕ) (at most : ℕ) (p : Part) : Type 0 where
   pub stop : p .ok ≡ false → p .next ≡ length S
 
 pub record ViewAt (S : List ℕ) (at : ℕ) (p : ViewPart) : Type 0 where
-  pub only : p .ok ≡ true → drop at S ≡ 44 ∷ (viewText (viewOf (p .view)) ++ drop (p .next) S)
-  pub back : (v : View) (rest : List ℕ) → FitsView v → drop at S ≡ 44 ∷ (viewText v ++ rest) → (p .ok ≡ true) × (viewOf (p .view) ≡ v) × (drop (p .next) S ≡ rest)
+  pub only : p .ok ≡ true → drop at S ≡ 44 ∷ (viewText (viewIs (p .view)) ++ drop (p .next) S)
+  pub back : (v : View) (rest : List ℕ) → FitsView v → drop at S ≡ 44 ∷ (viewText v ++ rest) → (p .ok ≡ true) × (viewIs (p .view) ≡ v) × (drop (p .next) S ≡ rest)
   pub stop : p .ok ≡ false → p .next ≡ length S
 
 -- All views, to the end of the text, after the count.

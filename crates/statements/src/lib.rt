@@ -7,9 +7,21 @@ ghost use lib.ListN.{length};
 ghost use lib.Seq.{sets};
 ghost use Rattle.text.specs.Text.{decText};
 ghost use Rattle.statements.specs.Text.{viewText, text};
-ghost use Rattle.statements.specs.Meaning.{viewOf, firstViews, bindingNumber, payloadOf, stmtOf};
+ghost use Rattle.views.specs.Held.{viewIs};
+ghost use Rattle.statements.specs.Meaning.{firstViews, bindingNumber, payloadOf, stmtOf};
 ghost use Rattle.statements.specs.Promise.{ReadOf, writtenCount, written};
 ghost use Rattle.statements.specs.Parts.{Bounded, NumberAt, ViewAt, ViewsAt, bindingFrom, firstText, secondText, tailText};
+
+mod make;
+
+pub use make::ack;
+pub use make::agree_history;
+pub use make::agree_view;
+pub use make::join;
+pub use make::leave;
+pub use make::prepare;
+pub use make::report;
+pub use make::store;
 use text::Read;
 use views::History;
 use views::View;
@@ -213,7 +225,7 @@ fn put_number(out: &mut [u8], at: usize, v: u64) -> usize
 
 fn put_view(out: &mut [u8], at: usize, v: View) -> usize
     requires { ⌜ at + 9 ≤ length (now out) ⌝ }
-    ensures { λ r. ⌜ (r ≡ at + 9) × (now (out .exit) ≡ sets (now (out .entry)) at (44 ∷ viewText (viewOf v))) ⌝ }
+    ensures { λ r. ⌜ (r ≡ at + 9) × (now (out .exit) ≡ sets (now (out .entry)) at (44 ∷ viewText (viewIs v))) ⌝ }
 {
     out[at] = 44;
     text::write_hex(out, at + 1, (v.joined as u64) * 65536 + v.left as u64, 8)
@@ -235,8 +247,8 @@ fn put_views(out: &mut [u8], from: usize, h: History) -> usize
 
 // Writes the fields up to the view, from the start.
 fn put_first(out: &mut [u8], kind: u64, origin: u64, at: View, view: View) -> usize
-    requires { ⌜ length (firstText kind origin (viewOf at) (viewOf view)) ≤ length (now out) ⌝ }
-    ensures { λ r. ⌜ (r ≡ length (firstText kind origin (viewOf at) (viewOf view))) × (now (out .exit) ≡ sets (now (out .entry)) 0 (firstText kind origin (viewOf at) (viewOf view))) ⌝ }
+    requires { ⌜ length (firstText kind origin (viewIs at) (viewIs view)) ≤ length (now out) ⌝ }
+    ensures { λ r. ⌜ (r ≡ length (firstText kind origin (viewIs at) (viewIs view))) × (now (out .exit) ≡ sets (now (out .entry)) 0 (firstText kind origin (viewIs at) (viewIs view))) ⌝ }
 {
     let a = text::write_dec(out, 0, kind);
     let b = put_number(out, a, origin);
