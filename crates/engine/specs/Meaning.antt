@@ -5,15 +5,12 @@ use mathlib.Core.Option.{Option, some, none}
 use Prim.Native.Nat.{ℕ, _<_, min}
 use lib.ListN.{getD}
 use Rattle.protocol.specs.View.{controllers}
-use Rattle.protocol.specs.Statement.{Stmt, unbound, bound, barred}
-use Rattle.protocol.specs.Statement as statement
+use Rattle.protocol.specs.Statement.{Stmt}
 use Rattle.protocol.specs.Controller as controller
 use Rattle.protocol.specs.Turn as turn
 use Rattle.views.specs.Table.{table}
 use Rattle.views.specs.Held.{viewIs, viewsIs}
-use Rattle.statements.specs.declared.Binding.{Binding}
-use Rattle.statements.specs.declared.Binding.the-variants.{Unbound, Bound, Barred}
-use Rattle.statements.specs.Meaning.{stmtOf}
+use Rattle.statements.specs.Meaning.{bindingIs, stmtOf}
 use Rattle.pool.specs.Pool.{stmtAt, poolLen, recordOf}
 use Rattle.engine.specs.declared.Controller.{Controller}
 use Rattle.engine.specs.declared.Send.{Send}
@@ -25,11 +22,6 @@ use Rattle.engine.specs.declared.Answer.the-variants.{Taken, Signed, Ent
 use Rattle.engine.specs.declared.Step.{Step}
 use Rattle.engine.specs.declared.Deed.{Deed}
 use Rattle.engine.specs.declared.Deed.the-variants.{Rest, Sign, Bind, Enter, Deliver}
-
-abbrev pub bindingIs : Binding → statement.Binding
-bindingIs Unbound = unbound
-bindingIs (Bound m) = bound m
-bindingIs Barred = barred
 
 abbrev pub sendIs : Send → Option ℕ
 sendIs Nothing = none

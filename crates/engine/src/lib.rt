@@ -1,5 +1,8 @@
 // The engine of one controller: setup, requests, additions and turns, each a value in and a value out, over a pool that is lent.
+mod rules;
+
 use pool::Record;
+pub use rules::Sight;
 use statements::Binding;
 use statements::Statement;
 use views::History;
