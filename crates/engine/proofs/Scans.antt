@@ -21,6 +21,7 @@ use Rattle.views.specs.declared.History.{History}
 use Rattle.views.specs.Table.{table}
 use Rattle.views.specs.View.{viewOf}
 use Rattle.views.specs.Held.{viewIs, heldAt, viewsIs}
+use Rattle.views.proofs.Tables.{any-zero, any-more}
 use Rattle.views.proofs.Held.{views-of, cut-is}
 use Rattle.pool.specs.Pool.{recordOf}
 use Rattle.pool.proofs.Records as records
@@ -129,3 +130,21 @@ module _ {l : List held.View} {W : List ℕ} where
 
   pub slots-whole : (n i : ℕ) → i ≡ n → n ≤ 16 → Slots l W i → viewsIs (record { views = l; len = n }) ≡ viewsOf W n
   slots-whole n i e h s = sym (views-of (record { views = l; len = n }) n (omega arith)) ∙ (rw e at (s .same))
+
+-- ---- the first of the views of words that has p
+
+module _ (p : View → Bool) (W : List ℕ) where
+  pub slots-any-none : any p (viewsOf W 0) ≡ false
+  unfolding viewsOf
+  slots-any-none = any-zero p _
+
+  pub slots-any-more : (i : ℕ) → any p (viewsOf W i) ≡ false → p (viewOf (getD W i 0)) ≡ false → any p (viewsOf W (i + 1)) ≡ false
+  unfolding viewsOf
+  slots-any-more i e g = any-more p _ i e g
+
+  pub slots-found : (n i : ℕ) (v : held.View) → i < n → any p (viewsOf W i) ≡ false → p (viewOf (getD W i 0)) ≡ true → viewIs v ≡ viewOf (getD W i 0) → some (viewIs v) ≡ find p (viewsOf W n)
+  unfolding viewsOf
+  slots-found n i v l e g q = ap some q ∙ sym (find-at p (λ j. viewOf (getD W j 0)) n i l e g)
+
+  pub slots-nothing : (n i : ℕ) → i ≡ n → any p (viewsOf W i) ≡ false → none ≡ find p (viewsOf W n)
+  slots-nothing n i q e = sym (find-nothing p (viewsOf W n) (rw q at e))

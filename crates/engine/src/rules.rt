@@ -1,16 +1,26 @@
 // The ten rules of a turn.
 ghost use mathlib.Core.Path.{_≡_};
-ghost use Prim.Native.Nat.{_≤_};
-ghost use Rattle.protocol.specs.Lists.{any};
+ghost use mathlib.Core.Bool.{not, _&&_, _||_};
+ghost use mathlib.Core.Option.{some, none};
+ghost use Prim.Native.Nat.{_≤_, _<_};
+ghost use Rattle.protocol.specs.Sets.{bit};
+ghost use Rattle.protocol.specs.Lists.{any, find};
+ghost use Rattle.protocol.specs.View.{member};
+ghost use Rattle.protocol.specs.Statement.{sameStmt};
+ghost use Rattle.protocol.specs.Turn as turn;
 ghost use Rattle.views.specs.View.{viewOf};
-ghost use Rattle.views.specs.Held.{viewsIs};
+ghost use Rattle.views.specs.Held.{viewIs, viewsIs};
+ghost use Rattle.statements.specs.Meaning.{bindingIs, stmtOf};
 ghost use Rattle.pool.specs.Pool.{stmtAt, recordOf};
 ghost use Rattle.evidence.specs.Slots.{viewsOf};
 ghost use Rattle.engine.specs.Meaning.{sendIs};
-ghost use Rattle.engine.specs.Rules.{ownKind, ownAt, firstPrepare};
+ghost use Rattle.engine.specs.Rules.{ownKind, ownAt, firstPrepare, reportDue, dueIs, Steps, Does, Enters, Acks, Delivers};
+use crate::Deed;
 use crate::Send;
+use crate::Step;
 use pool::POOL_WORDS;
 use statements::Binding;
+use statements::Statement;
 use views::History;
 use views::View;
 
@@ -23,7 +33,25 @@ pub struct Sight {
     pub joining: bool,
     pub leaving: bool,
     pub sending: Send,
+    // It has entered some view; the top; the top and nothing greater.
+    pub active: bool,
+    pub entered: bool,
+    pub stands: bool,
     pub top: View,
+    pub wished: View,
+    pub candidates: [u32; 16],
+    pub count: usize,
+    pub greatest: [u32; 16],
+    pub length: usize,
+    pub certified: bool,
+    pub payload: u64,
+    pub stored: bool,
+}
+
+// The least view that is to be reported on.
+pub enum Due {
+    Nothing,
+    On(View),
 }
 
 // Whether statement n is one of controller k, of this kind.
@@ -83,6 +111,27 @@ fn signed_at(
     false
 }
 
+// Whether the record has the statement st.
+fn has_signed(words: &[u64; POOL_WORDS], ids: &[u16; 512], len: usize, st: Statement) -> bool
+    ensures { λ r. ⌜ r ≡ any (sameStmt (stmtOf st)) (recordOf (now (words .entry)) (now (ids .entry)) len) ⌝ }
+{
+    let end = pool::limit(len);
+    let mut i = 0usize;
+    while i < end {
+        if same_at(words, ids[i], st) {
+            return true;
+        }
+        i += 1;
+    }
+    false
+}
+
+fn same_at(words: &[u64; POOL_WORDS], n: u16, st: Statement) -> bool
+    ensures { λ r. ⌜ r ≡ sameStmt (stmtOf st) (stmtAt (now (words .entry)) n) ⌝ }
+{
+    false
+}
+
 // The payload of the sender's first prepare in the record.
 fn first_prepare(words: &[u64; POOL_WORDS], ids: &[u16; 512], len: usize, sender: u8) -> Send
     ensures { λ r. ⌜ sendIs r ≡ firstPrepare sender (recordOf (now (words .entry)) (now (ids .entry)) len) ⌝ }
@@ -116,4 +165,328 @@ fn history_of(words: [u32; 16], n: usize) -> History
         views: views,
         len: n,
     }
+}
+
+// No deed: the statement beside it means nothing.
+fn rest() -> Step
+    ensures { λ r. ⌜ Steps none r ⌝ }
+{
+    Step {
+        deed: Deed::Rest,
+        statement: statements::join(0),
+    }
+}
+
+fn sign(st: Statement) -> Step
+    requires { ⌜ st .history .len ≤ 16 ⌝ }
+    ensures { λ r. ⌜ Steps (some (turn.sign (stmtOf st))) r ⌝ }
+{
+    Step {
+        deed: Deed::Sign,
+        statement: st,
+    }
+}
+
+// Rule 3: agree to the wished view.
+pub fn rule3(words: &[u64; POOL_WORDS], ids: &[u16; 512], len: usize, s: Sight) -> Step
+    ensures { λ r. ⌜ Does (recordOf (now (words .entry)) (now (ids .entry)) len) s turn.rule3 r ⌝ }
+{
+    if !s.stands {
+        return rest();
+    }
+    let w = s.wished;
+    let t = s.top;
+    if !w.has_members() {
+        return rest();
+    }
+    if w.same(t) {
+        return rest();
+    }
+    let st = statements::agree_view(s.number, t, w);
+    if has_signed(words, ids, len, st) {
+        return rest();
+    }
+    sign(st)
+}
+
+fn bind(m: u64, st: Statement) -> Step
+    requires { ⌜ st .history .len ≤ 16 ⌝ }
+    ensures { λ r. ⌜ Steps (some (turn.bindAndSign m (stmtOf st))) r ⌝ }
+{
+    Step {
+        deed: Deed::Bind(m),
+        statement: st,
+    }
+}
+
+fn enter(v: View, b: Binding) -> Step
+    ensures { λ r. ⌜ Steps (some (turn.enter (viewIs v) (bindingIs b))) r ⌝ }
+{
+    Step {
+        deed: Deed::Enter(v, b),
+        statement: statements::join(0),
+    }
+}
+
+fn deliver(m: u64) -> Step
+    ensures { λ r. ⌜ Steps (some (turn.deliver m)) r ⌝ }
+{
+    Step {
+        deed: Deed::Deliver(m),
+        statement: statements::join(0),
+    }
+}
+
+// Whether a report on the view of the word u is due.
+fn is_due(
+    words: &[u64; POOL_WORDS],
+    ids: &[u16; 512],
+    len: usize,
+    number: u8,
+    t: View,
+    u: u32,
+) -> bool
+    ensures { λ r. ⌜ r ≡ reportDue (recordOf (now (words .entry)) (now (ids .entry)) len) number (viewIs t) (viewOf u) ⌝ }
+{
+    let v = View::of_word(u);
+    if !v.below(t) {
+        return false;
+    }
+    if !v.has_member(number) {
+        return false;
+    }
+    !signed_at(words, ids, len, number, 5, u)
+}
+
+// The least view of the greatest history on which a report is due.
+fn next_due(words: &[u64; POOL_WORDS], ids: &[u16; 512], len: usize, s: Sight) -> Due
+    requires { ⌜ s .length ≤ 16 ⌝ }
+    ensures { λ r. ⌜ dueIs r ≡ find (reportDue (recordOf (now (words .entry)) (now (ids .entry)) len) (s .number) (viewIs (s .top))) (viewsOf (s .greatest) (s .length)) ⌝ }
+{
+    let t = s.top;
+    let k = s.number;
+    let n = s.length;
+    let greatest = s.greatest;
+    let mut i = 0usize;
+    while i < n {
+        let u = greatest[i];
+        if is_due(words, ids, len, k, t, u) {
+            return Due::On(View::of_word(u));
+        }
+        i += 1;
+    }
+    Due::Nothing
+}
+
+// Rule 1: report on the least older view on which a report is due.
+pub fn rule1(words: &[u64; POOL_WORDS], ids: &[u16; 512], len: usize, s: Sight) -> Step
+    requires { ⌜ (s .length ≤ 16) × (s .count ≤ 16) ⌝ }
+    ensures { λ r. ⌜ Does (recordOf (now (words .entry)) (now (ids .entry)) len) s turn.rule1 r ⌝ }
+{
+    let Due::On(u) = next_due(words, ids, len, s) else {
+        return rest();
+    };
+    let w = s.wished;
+    let b = s.binding;
+    let a = s.candidates;
+    let h = history_of(a, s.count);
+    sign(statements::report(s.number, u, w, b, s.certified, s.payload, h))
+}
+
+// Whether rule 2 may apply: it is a member of the top and has not entered it.
+fn may_enter(s: Sight) -> bool
+    ensures { λ r. ⌜ r ≡ (member (viewIs (s .top)) (s .number) && not (s .entered)) ⌝ }
+{
+    let t = s.top;
+    if s.entered {
+        return false;
+    }
+    t.has_member(s.number)
+}
+
+// Rule 2: enter the top, once the older views are reported on, with what the reports and the own binding come to.
+pub fn rule2(s: Sight, reported: bool, merged: Binding) -> Step
+    ensures { λ r. ⌜ Enters s reported merged r ⌝ }
+{
+    if !may_enter(s) {
+        return rest();
+    }
+    if !reported {
+        return rest();
+    }
+    let t = s.top;
+    enter(t, merged)
+}
+
+// Rule 4: agree to the history of all candidates.
+pub fn rule4(words: &[u64; POOL_WORDS], ids: &[u16; 512], len: usize, s: Sight) -> Step
+    requires { ⌜ (0 < s .count) × (s .count ≤ 16) ⌝ }
+    ensures { λ r. ⌜ Does (recordOf (now (words .entry)) (now (ids .entry)) len) s turn.rule4 r ⌝ }
+{
+    if !s.stands {
+        return rest();
+    }
+    let t = s.top;
+    let n = s.count;
+    let a = s.candidates;
+    let newest = View::of_word(a[n - 1]);
+    if newest.same(t) {
+        return rest();
+    }
+    let st = statements::agree_history(s.number, t, history_of(a, n));
+    if has_signed(words, ids, len, st) {
+        return rest();
+    }
+    sign(st)
+}
+
+// What there is to ack.
+fn to_ack(words: &[u64; POOL_WORDS], ids: &[u16; 512], len: usize, s: Sight) -> Send
+    ensures { λ r. ⌜ Acks (recordOf (now (words .entry)) (now (ids .entry)) len) s r ⌝ }
+{
+    let t = s.top;
+    let b = s.binding;
+    match b {
+        Binding::Bound(m) => Send::Payload(m),
+        Binding::Barred => Send::Nothing,
+        Binding::Unbound => {
+            if t.has_member(s.sender) {
+                first_prepare(words, ids, len, s.sender)
+            } else {
+                Send::Nothing
+            }
+        }
+    }
+}
+
+// Rule 5: bind to a payload and ack it, once at each top.
+pub fn rule5(words: &[u64; POOL_WORDS], ids: &[u16; 512], len: usize, s: Sight) -> Step
+    ensures { λ r. ⌜ Does (recordOf (now (words .entry)) (now (ids .entry)) len) s turn.rule5 r ⌝ }
+{
+    if !s.stands {
+        return rest();
+    }
+    let t = s.top;
+    if signed_at(words, ids, len, s.number, 7, t.word()) {
+        return rest();
+    }
+    let Send::Payload(m) = to_ack(words, ids, len, s) else {
+        return rest();
+    };
+    bind(m, statements::ack(s.number, t, m))
+}
+
+// Rule 6: store what has a certificate, once at each top.
+pub fn rule6(words: &[u64; POOL_WORDS], ids: &[u16; 512], len: usize, s: Sight) -> Step
+    ensures { λ r. ⌜ Does (recordOf (now (words .entry)) (now (ids .entry)) len) s turn.rule6 r ⌝ }
+{
+    if !s.certified {
+        return rest();
+    }
+    if !s.stands {
+        return rest();
+    }
+    let t = s.top;
+    if signed_at(words, ids, len, s.number, 8, t.word()) {
+        return rest();
+    }
+    sign(statements::store(s.number, t, s.payload))
+}
+
+// Whether controller k is in the left set of v.
+pub fn has_left(v: View, k: u8) -> bool
+    ensures { λ r. ⌜ r ≡ bit (v .left) k ⌝ }
+{
+    if k >= 16 {
+        return false;
+    }
+    (v.left >> k) % 2 == 1
+}
+
+// Rule 7: deliver what a quorum stored.
+pub fn rule7(s: Sight) -> Step
+    ensures { λ r. ⌜ Delivers s r ⌝ }
+{
+    if !s.certified {
+        return rest();
+    }
+    if !s.active {
+        return rest();
+    }
+    let t = s.top;
+    if has_left(t, s.number) {
+        return rest();
+    }
+    if s.delivered {
+        return rest();
+    }
+    if !s.stored {
+        return rest();
+    }
+    deliver(s.payload)
+}
+
+// Rule 8: join.
+pub fn rule8(words: &[u64; POOL_WORDS], ids: &[u16; 512], len: usize, s: Sight) -> Step
+    ensures { λ r. ⌜ Does (recordOf (now (words .entry)) (now (ids .entry)) len) s turn.rule8 r ⌝ }
+{
+    if !s.joining {
+        return rest();
+    }
+    let st = statements::join(s.number);
+    if has_signed(words, ids, len, st) {
+        return rest();
+    }
+    sign(st)
+}
+
+// Whether a leave need not wait for delivery.
+fn may_leave(words: &[u64; POOL_WORDS], ids: &[u16; 512], len: usize, s: Sight) -> bool
+    ensures { λ r. ⌜ r ≡ (s .delivered || not (s .certified || any (ownKind (s .number) 6) (recordOf (now (words .entry)) (now (ids .entry)) len))) ⌝ }
+{
+    if s.delivered {
+        return true;
+    }
+    if s.certified {
+        return false;
+    }
+    !signed_kind(words, ids, len, s.number, 6)
+}
+
+// Rule 9: leave, after delivery if there is something to deliver.
+pub fn rule9(words: &[u64; POOL_WORDS], ids: &[u16; 512], len: usize, s: Sight) -> Step
+    ensures { λ r. ⌜ Does (recordOf (now (words .entry)) (now (ids .entry)) len) s turn.rule9 r ⌝ }
+{
+    if !s.leaving {
+        return rest();
+    }
+    let st = statements::leave(s.number);
+    if has_signed(words, ids, len, st) {
+        return rest();
+    }
+    if !may_leave(words, ids, len, s) {
+        return rest();
+    }
+    sign(st)
+}
+
+// Rule 10: prepare the payload that is to be sent.
+pub fn rule10(words: &[u64; POOL_WORDS], ids: &[u16; 512], len: usize, s: Sight) -> Step
+    ensures { λ r. ⌜ Does (recordOf (now (words .entry)) (now (ids .entry)) len) s turn.rule10 r ⌝ }
+{
+    let sending = s.sending;
+    let Send::Payload(m) = sending else {
+        return rest();
+    };
+    if !s.stands {
+        return rest();
+    }
+    if has_signed(words, ids, len, statements::leave(s.number)) {
+        return rest();
+    }
+    let st = statements::prepare(s.number, m);
+    if has_signed(words, ids, len, st) {
+        return rest();
+    }
+    sign(st)
 }
