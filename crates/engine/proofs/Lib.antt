@@ -1,2 +1,4 @@
 pub mod Applied
+pub mod Chosen
+pub mod Looked
 pub mod Scans

@@ -28,7 +28,7 @@ use Rattle.engine.specs.declared.Step.{Step}
 use Rattle.engine.specs.declared.rules.Sight.{Sight}
 use Rattle.engine.specs.declared.rules.Due.{Due}
 use Rattle.engine.specs.declared.rules.Due.the-variants.{Nothing, On}
-use Rattle.engine.specs.Meaning.{sendIs, recordIs, actionIs}
+use Rattle.engine.specs.Meaning.{sendIs, controllerIs, recordIs, actionIs}
 
 -- e is the evidence of the controller's record, which is one that a rule is done for.
 pub record Seen (W : List ℕ) (c : held.Controller) (e : Evidence) : Type 0 where
@@ -81,6 +81,16 @@ pub record SightOf (d : Controller) (X : List Stmt) (s : Sight) : Type 0 where
   pub greatest : G d X ≡ viewsOf (s .greatest) (s .length)
   pub certificate : certificate d X ≡ when (s .certified) (s .payload)
   pub stored : s .certified ≡ true → isStored (d .ring) X (s .payload) ≡ s .stored
+
+-- The view u is not greater than t.
+unfoldable pub notAbove : View → View → Bool
+notAbove t u = not (below 16 t u)
+
+-- s is what the rules look at, where e is the evidence of the controller's record.
+pub record Looks (c : held.Controller) (e : Evidence) (s : Sight) : Type 0 where
+  pub sight : (W : List ℕ) → Seen W c e → SightOf (controllerIs c) (recordIs W c) s
+  pub count : s .count ≡ e .count
+  pub length : s .length ≡ e .length
 
 -- ---- what a rule promises
 

@@ -1,10 +1,11 @@
 // The ten rules of a turn.
 ghost use mathlib.Core.Path.{_≡_};
 ghost use mathlib.Core.Bool.{not, _&&_, _||_};
+ghost use mathlib.Core.List.{[], _∷_};
 ghost use mathlib.Core.Option.{some, none};
 ghost use Prim.Native.Nat.{_≤_, _<_};
 ghost use Rattle.protocol.specs.Sets.{bit};
-ghost use Rattle.protocol.specs.Lists.{any, find};
+ghost use Rattle.protocol.specs.Lists.{any, all, find};
 ghost use Rattle.protocol.specs.View.{member};
 ghost use Rattle.protocol.specs.Statement.{sameStmt};
 ghost use Rattle.protocol.specs.Turn as turn;
@@ -14,10 +15,12 @@ ghost use Rattle.statements.specs.Meaning.{bindingIs, stmtOf};
 ghost use Rattle.pool.specs.Pool.{stmtAt, recordOf};
 ghost use Rattle.evidence.specs.Slots.{viewsOf};
 ghost use Rattle.engine.specs.Meaning.{sendIs};
-ghost use Rattle.engine.specs.Rules.{ownKind, ownAt, firstPrepare, reportDue, dueIs, Steps, Does, Enters, Acks, Delivers};
+ghost use Rattle.engine.specs.Rules.{ownKind, ownAt, firstPrepare, reportDue, dueIs, notAbove, acts, Looks, Steps, Does, Firsts, Enters, Acks, Delivers};
+use crate::Controller;
 use crate::Deed;
 use crate::Send;
 use crate::Step;
+use evidence::Evidence;
 use pool::POOL_WORDS;
 use statements::Binding;
 use statements::Statement;
@@ -118,17 +121,11 @@ fn has_signed(words: &[u64; POOL_WORDS], ids: &[u16; 512], len: usize, st: State
     let end = pool::limit(len);
     let mut i = 0usize;
     while i < end {
-        if same_at(words, ids[i], st) {
+        if pool::same_at(words, ids[i], st) {
             return true;
         }
         i += 1;
     }
-    false
-}
-
-fn same_at(words: &[u64; POOL_WORDS], n: u16, st: Statement) -> bool
-    ensures { λ r. ⌜ r ≡ sameStmt (stmtOf st) (stmtAt (now (words .entry)) n) ⌝ }
-{
     false
 }
 
@@ -489,4 +486,127 @@ pub fn rule10(words: &[u64; POOL_WORDS], ids: &[u16; 512], len: usize, s: Sight)
         return rest();
     }
     sign(st)
+}
+
+// Whether a rule applies.
+fn acts(d: Deed) -> bool
+    ensures { λ r. ⌜ r ≡ acts d ⌝ }
+{
+    match d {
+        Deed::Rest => false,
+        Deed::Sign => true,
+        Deed::Bind(_) => true,
+        Deed::Enter(_, _) => true,
+        Deed::Deliver(_) => true,
+    }
+}
+
+// The first of the rules on what was requested that applies.
+fn requested(words: &[u64; POOL_WORDS], ids: &[u16; 512], len: usize, s: Sight) -> Step
+    ensures { λ r. ⌜ Firsts (recordOf (now (words .entry)) (now (ids .entry)) len) s (turn.rule8 ∷ turn.rule9 ∷ turn.rule10 ∷ []) r ⌝ }
+{
+    let eighth = rule8(words, ids, len, s);
+    let d = eighth.deed;
+    if acts(d) {
+        return eighth;
+    }
+    let ninth = rule9(words, ids, len, s);
+    let d = ninth.deed;
+    if acts(d) {
+        return ninth;
+    }
+    rule10(words, ids, len, s)
+}
+
+// The first of the rules from the fifth on that applies.
+fn noticed(words: &[u64; POOL_WORDS], ids: &[u16; 512], len: usize, s: Sight) -> Step
+    ensures { λ r. ⌜ Firsts (recordOf (now (words .entry)) (now (ids .entry)) len) s (turn.rule5 ∷ turn.rule6 ∷ turn.rule7 ∷ turn.rule8 ∷ turn.rule9 ∷ turn.rule10 ∷ []) r ⌝ }
+{
+    let fifth = rule5(words, ids, len, s);
+    let d = fifth.deed;
+    if acts(d) {
+        return fifth;
+    }
+    let sixth = rule6(words, ids, len, s);
+    let d = sixth.deed;
+    if acts(d) {
+        return sixth;
+    }
+    let seventh = rule7(s);
+    let d = seventh.deed;
+    if acts(d) {
+        return seventh;
+    }
+    requested(words, ids, len, s)
+}
+
+// The first of the rules from the third on that applies.
+fn agreed(words: &[u64; POOL_WORDS], ids: &[u16; 512], len: usize, s: Sight) -> Step
+    requires { ⌜ (0 < s .count) × (s .count ≤ 16) ⌝ }
+    ensures { λ r. ⌜ Firsts (recordOf (now (words .entry)) (now (ids .entry)) len) s (turn.rule3 ∷ turn.rule4 ∷ turn.rule5 ∷ turn.rule6 ∷ turn.rule7 ∷ turn.rule8 ∷ turn.rule9 ∷ turn.rule10 ∷ []) r ⌝ }
+{
+    let third = rule3(words, ids, len, s);
+    let d = third.deed;
+    if acts(d) {
+        return third;
+    }
+    let fourth = rule4(words, ids, len, s);
+    let d = fourth.deed;
+    if acts(d) {
+        return fourth;
+    }
+    noticed(words, ids, len, s)
+}
+
+// Whether no view of h is greater than t.
+fn none_above(h: History, t: View) -> bool
+    ensures { λ r. ⌜ r ≡ all (notAbove (viewIs t)) (viewsIs h) ⌝ }
+{
+    let n = h.count();
+    let views = h.views;
+    let mut p = 0usize;
+    while p < n {
+        let u = views[p];
+        if t.below(u) {
+            return false;
+        }
+        p += 1;
+    }
+    true
+}
+
+// What the rules look at, of the controller c with the evidence e.
+fn look(c: Controller, e: Evidence) -> Sight
+    requires { ⌜ (0 < e .length) × (e .length ≤ 16) ⌝ }
+    ensures { λ r. ⌜ Looks c e r ⌝ }
+{
+    let greatest = e.greatest;
+    let candidates = e.candidates;
+    let t = View::of_word(greatest[e.length - 1]);
+    let w = View::of_word(e.wished);
+    let h = c.entered;
+    let entered = h.has(t);
+    let b = c.binding;
+    let sending = c.sending;
+    Sight {
+        number: c.number,
+        sender: c.sender,
+        binding: b,
+        delivered: c.delivered,
+        joining: c.joining,
+        leaving: c.leaving,
+        sending: sending,
+        active: h.count() > 0,
+        entered: entered,
+        stands: entered & none_above(h, t),
+        top: t,
+        wished: w,
+        candidates: candidates,
+        count: e.count,
+        greatest: greatest,
+        length: e.length,
+        certified: e.certified,
+        payload: e.payload,
+        stored: e.stored,
+    }
 }

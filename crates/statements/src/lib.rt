@@ -13,6 +13,7 @@ ghost use Rattle.statements.specs.Promise.{ReadOf, writtenCount, written
 ghost use Rattle.statements.specs.Parts.{Bounded, NumberAt, ViewAt, ViewsAt, bindingFrom, firstText, secondText, tailText};
 
 mod make;
+mod rules;
 
 pub use make::ack;
 pub use make::agree_history;
@@ -22,6 +23,9 @@ pub use make::leave;
 pub use make::prepare;
 pub use make::report;
 pub use make::store;
+pub use rules::binding_number;
+pub use rules::keeps_field_rules;
+pub use rules::payload_of;
 use text::Read;
 use views::History;
 use views::View;
@@ -274,7 +278,7 @@ fn put_second(
     put_number(out, c, kept)
 }
 
-fn binding_number(b: Binding) -> u64
+fn number_of(b: Binding) -> u64
     ensures { λ r. ⌜ r ≡ bindingNumber b ⌝ }
 {
     match b {
@@ -284,7 +288,7 @@ fn binding_number(b: Binding) -> u64
     }
 }
 
-fn payload_of(b: Binding, payload: u64) -> u64
+fn payload_in(b: Binding, payload: u64) -> u64
     ensures { λ r. ⌜ r ≡ payloadOf b payload ⌝ }
 {
     match b {
@@ -314,7 +318,7 @@ pub fn write(st: Statement, out: &mut [u8]) -> usize
         return 0;
     }
     let binding = st.binding;
-    let payload = payload_of(binding, st.payload);
+    let payload = payload_in(binding, st.payload);
     let size = text_len(
         st.kind as u64,
         st.origin as u64,
@@ -331,7 +335,7 @@ pub fn write(st: Statement, out: &mut [u8]) -> usize
     let b = put_second(
         out,
         a,
-        binding_number(binding),
+        number_of(binding),
         payload,
         st.stored as u64,
         st.kept,

@@ -12,8 +12,8 @@ use Rattle.statements.proofs.write.Statement.{statement}
 use Rattle.statements.proofs.write.Tie as tie
 use Rattle.statements.proofs.write.Reads as reads
 use Rattle.statements.proofs.write.Lts as lts
-use Rattle.statements.proofs.binding_number.Reads as binding-number-reads
-use Rattle.statements.proofs.payload_of.Reads as payload-of-reads
+use Rattle.statements.proofs.number_of.Reads as number-of-reads
+use Rattle.statements.proofs.payload_in.Reads as payload-in-reads
 use Rattle.statements.proofs.put_first.Reads as put-first-reads
 use Rattle.statements.proofs.put_number.Reads as put-number-reads
 use Rattle.statements.proofs.put_second.Reads as put-second-reads
@@ -25,8 +25,8 @@ returns : tie.Need-returns
 returns c = too-many _ _ (c .if1 .taken)
 
 -- src/lib.rt:299:9
-payload-of-requires : tie.Need-payload-of-requires
-payload-of-requires c κs = search needs
+payload-in-requires : tie.Need-payload-in-requires
+payload-in-requires c κs = search needs
 
 -- src/lib.rt:300:25
 cast-text-len : tie.Need-cast-text-len
@@ -42,7 +42,7 @@ text-len-requires c κs = search needs
 
 -- src/lib.rt:302:9
 returns-2 : tie.Need-returns-2
-returns-2 c = too-short _ _ (c .before .before .before .before .before .if1 .left) (omega (arith, text-size (c .before .before .before .before .before .before .before .before .args .st), c .before .text-len .ensures, c .if2 .taken, ap (λ (k : ℕ). length (decText k)) (c .before .before .before .before .payload-of .ensures)))
+returns-2 c = too-short _ _ (c .before .before .before .before .before .if1 .left) (omega (arith, text-size (c .before .before .before .before .before .before .before .before .args .st), c .before .text-len .ensures, c .if2 .taken, ap (λ (k : ℕ). length (decText k)) (c .before .before .before .before .payload-in .ensures)))
 
 -- src/lib.rt:306:28
 cast-put-first : tie.Need-cast-put-first
@@ -54,11 +54,11 @@ cast-put-first-2 c = search needs
 
 -- src/lib.rt:306:9
 put-first-requires : tie.Need-put-first-requires
-put-first-requires c κs = omega (arith, text-size (c .before .before .before .before .before .before .before .before .before .before .before .before .before .args .st), c .before .before .before .before .before .before .text-len .ensures, c .before .before .before .before .before .if2 .left, ap (λ (k : ℕ). length (decText k)) (c .before .before .before .before .before .before .before .before .before .payload-of .ensures), sizes (c .before .before .before .before .before .before .before .before .before .before .before .before .before .args .st) (c .before .before .before .before .before .before .before .before .before .before .before .before .before .args .out .now) _ _ _ refl refl refl)
+put-first-requires c κs = omega (arith, text-size (c .before .before .before .before .before .before .before .before .before .before .before .before .before .args .st), c .before .before .before .before .before .before .text-len .ensures, c .before .before .before .before .before .if2 .left, ap (λ (k : ℕ). length (decText k)) (c .before .before .before .before .before .before .before .before .before .payload-in .ensures), sizes (c .before .before .before .before .before .before .before .before .before .before .before .before .before .args .st) (c .before .before .before .before .before .before .before .before .before .before .before .before .before .args .out .now) _ _ _ refl refl refl)
 
 -- src/lib.rt:307:32
-binding-number-requires : tie.Need-binding-number-requires
-binding-number-requires c κs = search needs
+number-of-requires : tie.Need-number-of-requires
+number-of-requires c κs = search needs
 
 -- src/lib.rt:307:66
 cast-put-second : tie.Need-cast-put-second
@@ -66,15 +66,15 @@ cast-put-second c = search needs
 
 -- src/lib.rt:307:9
 put-second-requires : tie.Need-put-second-requires
-put-second-requires c κs = omega (arith, text-size (c .before .before .before .before .before .before .before .before .before .before .before .before .before .before .before .before .before .before .before .args .st), c .before .before .before .before .before .before .before .before .before .before .before .before .text-len .ensures, c .before .before .before .before .before .before .before .before .before .before .before .if2 .left, ap (λ (k : ℕ). length (decText k)) (c .before .before .before .before .before .before .before .before .before .before .before .before .before .before .before .payload-of .ensures), sizes (c .before .before .before .before .before .before .before .before .before .before .before .before .before .before .before .before .before .before .before .args .st) (c .before .before .before .before .before .before .before .before .before .before .before .before .before .before .before .before .before .before .before .args .out .now) _ _ _ (c .before .binding-number .ensures) (c .before .before .before .before .before .before .before .before .before .before .before .before .before .before .before .payload-of .ensures) (bool-byte (c .before .before .before .before .before .before .before .before .before .before .before .before .before .before .before .before .before .before .before .args .st .stored)), c .before .before .before .before .before .put-first .ensures .0, c .before .before .before .before .before .put-first .kept)
+put-second-requires c κs = omega (arith, text-size (c .before .before .before .before .before .before .before .before .before .before .before .before .before .before .before .before .before .before .before .args .st), c .before .before .before .before .before .before .before .before .before .before .before .before .text-len .ensures, c .before .before .before .before .before .before .before .before .before .before .before .if2 .left, ap (λ (k : ℕ). length (decText k)) (c .before .before .before .before .before .before .before .before .before .before .before .before .before .before .before .payload-in .ensures), sizes (c .before .before .before .before .before .before .before .before .before .before .before .before .before .before .before .before .before .before .before .args .st) (c .before .before .before .before .before .before .before .before .before .before .before .before .before .before .before .before .before .before .before .args .out .now) _ _ _ (c .before .number-of .ensures) (c .before .before .before .before .before .before .before .before .before .before .before .before .before .before .before .payload-in .ensures) (bool-byte (c .before .before .before .before .before .before .before .before .before .before .before .before .before .before .before .before .before .before .before .args .st .stored)), c .before .before .before .before .before .put-first .ensures .0, c .before .before .before .before .before .put-first .kept)
 
 -- src/lib.rt:308:9
 put-number-requires : tie.Need-put-number-requires
-put-number-requires c κs = omega (arith, text-size (c .before .before .before .before .before .before .before .before .before .before .before .before .before .before .before .before .before .before .before .before .before .before .before .args .st), c .before .before .before .before .before .before .before .before .before .before .before .before .before .before .before .before .text-len .ensures, c .before .before .before .before .before .before .before .before .before .before .before .before .before .before .before .if2 .left, ap (λ (k : ℕ). length (decText k)) (c .before .before .before .before .before .before .before .before .before .before .before .before .before .before .before .before .before .before .before .payload-of .ensures), sizes (c .before .before .before .before .before .before .before .before .before .before .before .before .before .before .before .before .before .before .before .before .before .before .before .args .st) (c .before .before .before .before .before .before .before .before .before .before .before .before .before .before .before .before .before .before .before .before .before .before .before .args .out .now) _ _ _ (c .before .before .before .before .before .binding-number .ensures) (c .before .before .before .before .before .before .before .before .before .before .before .before .before .before .before .before .before .before .before .payload-of .ensures) (bool-byte (c .before .before .before .before .before .before .before .before .before .before .before .before .before .before .before .before .before .before .before .before .before .before .before .args .st .stored)), c .before .before .before .before .before .before .before .before .before .put-first .ensures .0, c .before .before .before .before .before .before .before .before .before .put-first .kept, c .before .before .before .put-second .ensures .0, c .before .before .before .put-second .kept)
+put-number-requires c κs = omega (arith, text-size (c .before .before .before .before .before .before .before .before .before .before .before .before .before .before .before .before .before .before .before .before .before .before .before .args .st), c .before .before .before .before .before .before .before .before .before .before .before .before .before .before .before .before .text-len .ensures, c .before .before .before .before .before .before .before .before .before .before .before .before .before .before .before .if2 .left, ap (λ (k : ℕ). length (decText k)) (c .before .before .before .before .before .before .before .before .before .before .before .before .before .before .before .before .before .before .before .payload-in .ensures), sizes (c .before .before .before .before .before .before .before .before .before .before .before .before .before .before .before .before .before .before .before .before .before .before .before .args .st) (c .before .before .before .before .before .before .before .before .before .before .before .before .before .before .before .before .before .before .before .before .before .before .before .args .out .now) _ _ _ (c .before .before .before .before .before .number-of .ensures) (c .before .before .before .before .before .before .before .before .before .before .before .before .before .before .before .before .before .before .before .payload-in .ensures) (bool-byte (c .before .before .before .before .before .before .before .before .before .before .before .before .before .before .before .before .before .before .before .before .before .before .before .args .st .stored)), c .before .before .before .before .before .before .before .before .before .put-first .ensures .0, c .before .before .before .before .before .before .before .before .before .put-first .kept, c .before .before .before .put-second .ensures .0, c .before .before .before .put-second .kept)
 
 -- src/lib.rt:309:5
 put-views-requires : tie.Need-put-views-requires
-put-views-requires c κs = (c .before .before .before .before .before .before .before .before .before .before .before .before .before .before .before .before .before .before .before .before .before .before .before .before .if1 .left, omega (arith, text-size (c .before .before .before .before .before .before .before .before .before .before .before .before .before .before .before .before .before .before .before .before .before .before .before .before .before .before .before .args .st), c .before .before .before .before .before .before .before .before .before .before .before .before .before .before .before .before .before .before .before .before .text-len .ensures, c .before .before .before .before .before .before .before .before .before .before .before .before .before .before .before .before .before .before .before .if2 .left, ap (λ (k : ℕ). length (decText k)) (c .before .before .before .before .before .before .before .before .before .before .before .before .before .before .before .before .before .before .before .before .before .before .before .payload-of .ensures), sizes (c .before .before .before .before .before .before .before .before .before .before .before .before .before .before .before .before .before .before .before .before .before .before .before .before .before .before .before .args .st) (c .before .before .before .before .before .before .before .before .before .before .before .before .before .before .before .before .before .before .before .before .before .before .before .before .before .before .before .args .out .now) _ _ _ (c .before .before .before .before .before .before .before .before .before .binding-number .ensures) (c .before .before .before .before .before .before .before .before .before .before .before .before .before .before .before .before .before .before .before .before .before .before .before .payload-of .ensures) (bool-byte (c .before .before .before .before .before .before .before .before .before .before .before .before .before .before .before .before .before .before .before .before .before .before .before .before .before .before .before .args .st .stored)), c .before .before .before .before .before .before .before .before .before .before .before .before .before .put-first .ensures .0, c .before .before .before .before .before .before .before .before .before .before .before .before .before .put-first .kept, c .before .before .before .before .before .before .before .put-second .ensures .0, c .before .before .before .before .before .before .before .put-second .kept, c .before .before .before .put-number .ensures .0, c .before .before .before .put-number .kept))
+put-views-requires c κs = (c .before .before .before .before .before .before .before .before .before .before .before .before .before .before .before .before .before .before .before .before .before .before .before .before .if1 .left, omega (arith, text-size (c .before .before .before .before .before .before .before .before .before .before .before .before .before .before .before .before .before .before .before .before .before .before .before .before .before .before .before .args .st), c .before .before .before .before .before .before .before .before .before .before .before .before .before .before .before .before .before .before .before .before .text-len .ensures, c .before .before .before .before .before .before .before .before .before .before .before .before .before .before .before .before .before .before .before .if2 .left, ap (λ (k : ℕ). length (decText k)) (c .before .before .before .before .before .before .before .before .before .before .before .before .before .before .before .before .before .before .before .before .before .before .before .payload-in .ensures), sizes (c .before .before .before .before .before .before .before .before .before .before .before .before .before .before .before .before .before .before .before .before .before .before .before .before .before .before .before .args .st) (c .before .before .before .before .before .before .before .before .before .before .before .before .before .before .before .before .before .before .before .before .before .before .before .before .before .before .before .args .out .now) _ _ _ (c .before .before .before .before .before .before .before .before .before .number-of .ensures) (c .before .before .before .before .before .before .before .before .before .before .before .before .before .before .before .before .before .before .before .before .before .before .before .payload-in .ensures) (bool-byte (c .before .before .before .before .before .before .before .before .before .before .before .before .before .before .before .before .before .before .before .before .before .before .before .before .before .before .before .args .st .stored)), c .before .before .before .before .before .before .before .before .before .before .before .before .before .put-first .ensures .0, c .before .before .before .before .before .before .before .before .before .before .before .before .before .put-first .kept, c .before .before .before .before .before .before .before .put-second .ensures .0, c .before .before .before .before .before .before .before .put-second .kept, c .before .before .before .put-number .ensures .0, c .before .before .before .put-number .kept))
 
 -- src/lib.rt:290:1
 same-length : tie.Need-same-length
@@ -83,17 +83,17 @@ same-length c = search needs
 -- src/lib.rt:290:1
 returns-3 : tie.Need-returns-3
 returns-3 c = wrote _ _ _ _ (c .before .before .before .before .before .before .before .before .before .before .before .before .before .before .before .before .before .before .before .before .before .before .before .before .before .before .before .if1 .left)
-    (omega (arith, text-size (c .before .before .before .before .before .before .before .before .before .before .before .before .before .before .before .before .before .before .before .before .before .before .before .before .before .before .before .before .before .before .args .st), c .before .before .before .before .before .before .before .before .before .before .before .before .before .before .before .before .before .before .before .before .before .before .before .text-len .ensures, c .before .before .before .before .before .before .before .before .before .before .before .before .before .before .before .before .before .before .before .before .before .before .if2 .left, ap (λ (k : ℕ). length (decText k)) (c .before .before .before .before .before .before .before .before .before .before .before .before .before .before .before .before .before .before .before .before .before .before .before .before .before .before .payload-of .ensures)))
-    (omega (arith, sizes (c .before .before .before .before .before .before .before .before .before .before .before .before .before .before .before .before .before .before .before .before .before .before .before .before .before .before .before .before .before .before .args .st) (c .before .before .before .before .before .before .before .before .before .before .before .before .before .before .before .before .before .before .before .before .before .before .before .before .before .before .before .before .before .before .args .out .now) _ _ _ (c .before .before .before .before .before .before .before .before .before .before .before .before .binding-number .ensures) (c .before .before .before .before .before .before .before .before .before .before .before .before .before .before .before .before .before .before .before .before .before .before .before .before .before .before .payload-of .ensures) (bool-byte (c .before .before .before .before .before .before .before .before .before .before .before .before .before .before .before .before .before .before .before .before .before .before .before .before .before .before .before .before .before .before .args .st .stored)), c .before .before .before .before .before .before .before .before .before .before .before .before .before .before .before .before .put-first .ensures .0, c .before .before .before .before .before .before .before .before .before .before .put-second .ensures .0, c .before .before .before .before .before .before .put-number .ensures .0, c .before .before .put-views .ensures .0))
+    (omega (arith, text-size (c .before .before .before .before .before .before .before .before .before .before .before .before .before .before .before .before .before .before .before .before .before .before .before .before .before .before .before .before .before .before .args .st), c .before .before .before .before .before .before .before .before .before .before .before .before .before .before .before .before .before .before .before .before .before .before .before .text-len .ensures, c .before .before .before .before .before .before .before .before .before .before .before .before .before .before .before .before .before .before .before .before .before .before .if2 .left, ap (λ (k : ℕ). length (decText k)) (c .before .before .before .before .before .before .before .before .before .before .before .before .before .before .before .before .before .before .before .before .before .before .before .before .before .before .payload-in .ensures)))
+    (omega (arith, sizes (c .before .before .before .before .before .before .before .before .before .before .before .before .before .before .before .before .before .before .before .before .before .before .before .before .before .before .before .before .before .before .args .st) (c .before .before .before .before .before .before .before .before .before .before .before .before .before .before .before .before .before .before .before .before .before .before .before .before .before .before .before .before .before .before .args .out .now) _ _ _ (c .before .before .before .before .before .before .before .before .before .before .before .before .number-of .ensures) (c .before .before .before .before .before .before .before .before .before .before .before .before .before .before .before .before .before .before .before .before .before .before .before .before .before .before .payload-in .ensures) (bool-byte (c .before .before .before .before .before .before .before .before .before .before .before .before .before .before .before .before .before .before .before .before .before .before .before .before .before .before .before .before .before .before .args .st .stored)), c .before .before .before .before .before .before .before .before .before .before .before .before .before .before .before .before .put-first .ensures .0, c .before .before .before .before .before .before .before .before .before .before .put-second .ensures .0, c .before .before .before .before .before .before .put-number .ensures .0, c .before .before .put-views .ensures .0))
     (c .before .before .put-views .ensures .1 ∙ rw (c .before .before .before .before .before .before .put-number .ensures .1) (rw (c .before .before .before .before .before .before .before .before .before .before .put-second .ensures .1) (rw (c .before .before .before .before .before .before .before .before .before .before .before .before .before .before .before .before .put-first .ensures .1)
-    (all-runs (c .before .before .before .before .before .before .before .before .before .before .before .before .before .before .before .before .before .before .before .before .before .before .before .before .before .before .before .before .before .before .args .st) (c .before .before .before .before .before .before .before .before .before .before .before .before .before .before .before .before .before .before .before .before .before .before .before .before .before .before .before .before .before .before .args .out .now) _ _ _ (c .before .before .before .before .before .before .before .before .before .before .before .before .binding-number .ensures) (c .before .before .before .before .before .before .before .before .before .before .before .before .before .before .before .before .before .before .before .before .before .before .before .before .before .before .payload-of .ensures) (bool-byte (c .before .before .before .before .before .before .before .before .before .before .before .before .before .before .before .before .before .before .before .before .before .before .before .before .before .before .before .before .before .before .args .st .stored)) _ _ _ (c .before .before .before .before .before .before .before .before .before .before .before .before .before .before .before .before .put-first .ensures .0) (c .before .before .before .before .before .before .before .before .before .before .put-second .ensures .0) (c .before .before .before .before .before .before .put-number .ensures .0)))))
+    (all-runs (c .before .before .before .before .before .before .before .before .before .before .before .before .before .before .before .before .before .before .before .before .before .before .before .before .before .before .before .before .before .before .args .st) (c .before .before .before .before .before .before .before .before .before .before .before .before .before .before .before .before .before .before .before .before .before .before .before .before .before .before .before .before .before .before .args .out .now) _ _ _ (c .before .before .before .before .before .before .before .before .before .before .before .before .number-of .ensures) (c .before .before .before .before .before .before .before .before .before .before .before .before .before .before .before .before .before .before .before .before .before .before .before .before .before .before .payload-in .ensures) (bool-byte (c .before .before .before .before .before .before .before .before .before .before .before .before .before .before .before .before .before .before .before .before .before .before .before .before .before .before .before .before .before .before .args .st .stored)) _ _ _ (c .before .before .before .before .before .before .before .before .before .before .before .before .before .before .before .before .put-first .ensures .0) (c .before .before .before .before .before .before .before .before .before .before .put-second .ensures .0) (c .before .before .before .before .before .before .put-number .ensures .0)))))
 
 pub write-spec : {M : Type 1} → statement M
 write-spec =
     tie.close
     (tie.spec
     returns
-    payload-of-requires
+    payload-in-requires
     cast-text-len
     cast-text-len-2
     text-len-requires
@@ -101,7 +101,7 @@ write-spec =
     cast-put-first
     cast-put-first-2
     put-first-requires
-    binding-number-requires
+    number-of-requires
     cast-put-second
     put-second-requires
     put-number-requires

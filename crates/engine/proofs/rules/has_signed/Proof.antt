@@ -12,7 +12,7 @@ use Rattle.engine.proofs.rules.has_signed.Statement.{statement}
 use Rattle.engine.proofs.rules.has_signed.Tie as tie
 use Rattle.engine.proofs.rules.has_signed.Reads as reads
 use Rattle.engine.proofs.rules.has_signed.Lts as lts
-use Rattle.engine.proofs.rules.same_at.Reads as same-at-reads
+use Rattle.pool.proofs.same_at.Reads as same-at-reads
 use Rattle.pool.proofs.limit.Reads as limit-reads
 
 abbrev Inv-loop : tie.InvT-loop

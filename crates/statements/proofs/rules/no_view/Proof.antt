@@ -1,0 +1,16 @@
+use native.Mathlib.Omega.{arith}
+use Rattle.statements.specs.Meaning.{stmtOf}
+use borrow.Author.Needs.{needs}
+use Rattle.statements.proofs.rules.no_view.Statement.{statement}
+use Rattle.statements.proofs.rules.no_view.Tie as tie
+use Rattle.statements.proofs.rules.no_view.Reads as reads
+use Rattle.statements.proofs.rules.no_view.Lts as lts
+use Rattle.views.proofs.View.same.Reads as same-reads
+
+-- src/rules.rt:43:1
+returns : tie.Need-returns
+unfolding stmtOf
+returns c = c .same .ensures
+
+pub no-view-spec : {M : Type 1} → statement M
+no-view-spec = tie.close (tie.spec (λ c κs. search needs) returns)
