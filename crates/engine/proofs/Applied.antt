@@ -10,7 +10,7 @@ use lib.Dec.{eqb, ltb}
 use lib.ListN.{length, getD}
 use Rattle.protocol.specs.Sets.{bit}
 use Rattle.protocol.specs.Lists.{any, find, when, given, isSome}
-use Rattle.protocol.specs.View.{View, sameView, member, hasMembers, below}
+use Rattle.protocol.specs.View.{View, Ring, sameView, member, hasMembers, below}
 use Rattle.protocol.specs.History.{last}
 use Rattle.protocol.specs.Statement.{Stmt, sameStmt, join, leave, agreeView, agreeHistory, report, prepare, ack, store, Binding, reportsOn, acksAt, storesAt}
 use Rattle.protocol.specs.Evidence.{prepares, isStored}
@@ -28,6 +28,8 @@ use Rattle.statements.specs.declared.Statement.{Statement}
 use Rattle.statements.specs.Meaning.{bindingIs, stmtOf}
 use Rattle.statements.specs.Made.{Made}
 use Rattle.evidence.specs.Slots.{viewsOf}
+use Rattle.evidence.specs.Evidence.{reportedAll, reportsBelow}
+use Rattle.evidence.proofs.Turns.{reported-turn, counted-turn}
 use Rattle.engine.specs.declared.Send.{Send}
 use Rattle.engine.specs.declared.Send.the-variants as send
 use Rattle.engine.specs.declared.Send.the-variants.{Payload}
@@ -36,7 +38,7 @@ use Rattle.engine.specs.declared.rules.Sight.{Sight}
 use Rattle.engine.specs.declared.rules.Due.{Due}
 use Rattle.engine.specs.declared.rules.Due.the-variants.{Nothing, On}
 use Rattle.engine.specs.Meaning.{sendIs}
-use Rattle.engine.specs.Rules.{ownKind, ownAt, firstPrepare, reportDue, dueIs, SightOf, Rule, Steps, Does, Enters, Delivers, Acks}
+use Rattle.engine.specs.Rules.{ownKind, ownAt, firstPrepare, reportDue, dueIs, SightOf, Rule, Steps, Does, Enters, Entering, Delivers, Acks}
 
 -- ---- tests one after the other
 
@@ -296,14 +298,43 @@ module _ (b : Bool) (t : View) {u v : View} (is : v ≡ u) (e : b ≡ sameView v
 
 -- ---- rule 2
 
-module _ (s : Sight) (reported : Bool) (merged : bindings.Binding) where
-  entering : (d : Controller) (X : List Stmt) → SightOf d X s → isReported d X ≡ reported → mergeAll (d .binding) (countedReports d X) ≡ bindingIs merged
-      → rule2 d X ≡ each ((member (viewIs (s .top)) (s .number) && not (s .entered)) ∷ reported ∷ []) (enter (viewIs (s .top)) (bindingIs merged))
-  unfolding rule2
-  entering d X k e f = rw (e, f, k .top, k .entered, k .number) (all2 _ _ _)
+module _ (s : Sight) (reported : Bool) (m : Binding) where
+  abbrev mayEnter : Bool
+  mayEnter = member (viewIs (s .top)) (s .number) && not (s .entered)
 
-  pub enters : {o : Option Action} {r : Step} → o ≡ each ((member (viewIs (s .top)) (s .number) && not (s .entered)) ∷ reported ∷ []) (enter (viewIs (s .top)) (bindingIs merged)) → Steps o r → Enters s reported merged r
-  enters e t = record { means = λ d X k p q. t .means ∙ e ∙ sym (entering d X k p q); short = t .short }
+  second : (d : Controller) (X : List Stmt) → SightOf d X s → isReported d X ≡ reported → mergeAll (d .binding) (countedReports d X) ≡ m
+      → rule2 d X ≡ each (mayEnter ∷ reported ∷ []) (enter (viewIs (s .top)) m)
+  unfolding rule2
+  second d X k e f = rw (e, f, k .top, k .entered, k .number) (all2 _ _ _)
+
+pub enters : (s : Sight) (reported : Bool) (merged : bindings.Binding) {o : Option Action} {r : Step}
+    → o ≡ each (mayEnter s reported (bindingIs merged) ∷ reported ∷ []) (enter (viewIs (s .top)) (bindingIs merged)) → Steps o r → Enters s reported merged r
+enters s reported merged e t = record { means = λ d X k p q. t .means ∙ e ∙ sym (second s reported (bindingIs merged) d X k p q); short = t .short }
+
+-- rule 2 in the ring R, with what the evidence says of the reports
+module _ {X : List Stmt} {R : Ring} {s : Sight} {r : Step} where
+  in-ring : (reported : Bool) (d : Controller) → SightOf d X s → d .ring ≡ R → reported ≡ reportedAll R (s .sender) X → isReported d X ≡ reported
+  in-ring reported d k q e = reported-turn d X ∙ ap₂ (λ x y. reportedAll x y X) q (k .sender) ∙ sym e
+
+  pub not-entering : (b : Bool) → b ≡ (member (viewIs (s .top)) (s .number) && not (s .entered)) → b ≡ false → Steps none r → Entering X R s r
+  not-entering b e f t = record {
+    means = λ d k q. t .means ∙ stop _ (isReported d X ∷ []) (enter (viewIs (s .top)) (mergeAll (d .binding) (countedReports d X))) (sym e ∙ f) ∙ sym (second s (isReported d X) (mergeAll (d .binding) (countedReports d X)) d X k refl refl);
+    short = t .short;
+  }
+
+  pub not-reported : (b c : Bool) → b ≡ (member (viewIs (s .top)) (s .number) && not (s .entered)) → b ≡ true → c ≡ reportedAll R (s .sender) X → c ≡ false → Steps none r → Entering X R s r
+  not-reported b c e f g h t = record {
+    means = λ d k q.
+        t .means ∙ go _ (c ∷ []) (enter (viewIs (s .top)) (mergeAll (d .binding) (countedReports d X))) none (sym e ∙ f) (stop c [] (enter (viewIs (s .top)) (mergeAll (d .binding) (countedReports d X))) h)
+        ∙ sym (second s c (mergeAll (d .binding) (countedReports d X)) d X k (in-ring c d k q g) refl);
+    short = t .short;
+  }
+
+  pub entering : (c : Bool) (merged : bindings.Binding) → c ≡ reportedAll R (s .sender) X → bindingIs merged ≡ mergeAll (bindingIs (s .binding)) (reportsBelow R (s .sender) X) → Enters s c merged r → Entering X R s r
+  entering c merged g h n = record {
+    means = λ d k q. n .means d X k (in-ring c d k q g) (ap₂ mergeAll (k .binding) (counted-turn d X ∙ ap₂ (λ x y. reportsBelow x y X) q (k .sender)) ∙ sym h);
+    short = n .short;
+  }
 
 -- ---- the parts of a rule
 

@@ -8,14 +8,15 @@ use Prim.Native.Nat.{ℕ, _-_, _≤_, _<_, min}
 use native.Mathlib.Omega.{arith}
 use lib.Dec.{ltb}
 use lib.ListN.{length, getD}
-use Rattle.protocol.specs.Lists.{_∈_, any, all, first, when}
+use borrow.Author.Tests.{ltb-false}
+use Rattle.protocol.specs.Lists.{_∈_, any, all, when}
 use Rattle.protocol.specs.View.{View, Ring, sameView, below}
 use Rattle.protocol.specs.History.{top}
 use Rattle.protocol.specs.Statement.{Stmt}
-use Rattle.protocol.specs.Evidence.{Shown, initial, wished as protocol-wished, candidates, greatest, certificates, isStored}
+use Rattle.protocol.specs.Evidence.{Shown, initial, start, agreed, Sealed, greatest}
 use Rattle.protocol.specs.Controller as protocol
 use Rattle.protocol.specs.Turn.{G, T, hasEntered, stands, certificate}
-use Rattle.protocol.proofs.Asked.{candidates-exact}
+use Rattle.protocol.proofs.Asked.{candidates-exact, greatest-holds}
 use Rattle.views.specs.declared.View as held
 use Rattle.views.specs.declared.History.{History}
 use Rattle.views.specs.Table.{table}
@@ -25,11 +26,13 @@ use Rattle.views.proofs.Tables.{table-length}
 use Rattle.views.proofs.Held.{views-of}
 use Rattle.views.proofs.Histories.{top-some}
 use Rattle.evidence.specs.declared.Evidence.{Evidence}
+use Rattle.evidence.specs.Evidence.{EvidenceOf, Settled}
 use Rattle.evidence.specs.Slots.{viewsOf}
 use Rattle.engine.specs.declared.Controller.{Controller}
+use Rattle.engine.specs.declared.Step.{Step}
 use Rattle.engine.specs.declared.rules.Sight.{Sight}
 use Rattle.engine.specs.Meaning.{controllerIs, recordIs}
-use Rattle.engine.specs.Rules.{Seen, SightOf, notAbove, Looks}
+use Rattle.engine.specs.Rules.{Seen, SightOf, notAbove, Looks, Entering}
 
 some-in : {A : Type 0} {a : A} (l : List A) → a ∈ l → 0 < length l
 some-in [] m = absurd (List·Memᴰ·not-nil m)
@@ -47,6 +50,10 @@ slots-top : (R : Ring) (W : List ℕ) (n : ℕ) → 0 < n → viewOf (getD W (n 
 unfolding viewsOf
 slots-top R W n h = top-some _ R n (λ e. omega arith)
 
+sealed-size : {R : Ring} {X : List Stmt} {H : List View} → Sealed R X H → (0 < length H) × (length H ≤ 16)
+sealed-size (start e) = (omega (arith, ap length e), omega (arith, ap length e))
+sealed-size (agreed g h t n v q) = (omega (arith, ap length (h .begins)), h .short)
+
 pub record Looking (c : Controller) (e : Evidence) (s : Sight) : Type 0 where
   pub top : viewIs (s .top) ≡ viewOf (getD (e .greatest) (e .length - 1) 0)
   pub wished : viewIs (s .wished) ≡ viewOf (e .wished)
@@ -55,31 +62,44 @@ pub record Looking (c : Controller) (e : Evidence) (s : Sight) : Type 0 where
   pub active : s .active ≡ ltb 0 (min (c .entered .len) 16)
 
 module _ (W : List ℕ) (c : Controller) (e : Evidence) (k : Seen W c e) where
-  open Seen k using (word, init, shown, agrees)
-
   abbrev X : List Stmt
   X = recordIs W c
 
   abbrev d : protocol.Controller
   d = controllerIs c
 
-  ring-is : d .ring ≡ ring word
-  unfolding controllerIs
-  ring-is i = record { width = 16; init = (sym init) i }
+  abbrev shown : EvidenceOf (d .ring) (c .sender) X e
+  shown = k .settled .of
+
+  agrees : e .conflict ≡ false
+  agrees = k .settled .agree
+
+  pub few-candidates : e .count ≤ 16
+  few-candidates =
+      omega (arith, ltb-false 16 _ (sym (shown .many agrees) ∙ k .settled .few), ap length (shown .candidates agrees (k .settled .few)), slots-count (e .candidates) (e .count))
 
   pub some-candidate : 0 < e .count
   some-candidate =
-      let m = candidates-exact (ring word) X (viewOf word) .1 (initial refl) in
-      omega (arith, some-in _ m, ap length (shown .candidates agrees (k .few)), slots-count (e .candidates) (e .count))
+      let m = candidates-exact (d .ring) X (d .ring .init) .1 (initial refl) in
+      omega (arith, some-in _ m, ap length (shown .candidates agrees (k .settled .few)), slots-count (e .candidates) (e .count))
+
+  sealed-greatest : Sealed (d .ring) X (viewsOf (e .greatest) (e .length))
+  sealed-greatest = rw (shown .greatest agrees) (greatest-holds (d .ring) (c .sender) X (rw (sym (shown .conflict) ∙ agrees) tt) .0)
+
+  pub some-view : 0 < e .length
+  some-view = omega (arith, sealed-size sealed-greatest .0, slots-count (e .greatest) (e .length))
+
+  pub few-views : e .length ≤ 16
+  few-views = omega (arith, sealed-size sealed-greatest .1, slots-count (e .greatest) (e .length))
 
   module _ (s : Sight) (l : Looking c e s) where
     the-greatest : G d X ≡ viewsOf (e .greatest) (e .length)
     unfolding G
-    the-greatest = ap (λ R. greatest R X) ring-is ∙ sym (shown .greatest agrees)
+    the-greatest = sym (shown .greatest agrees)
 
     the-top : T d X ≡ viewIs (s .top)
     unfolding T
-    the-top = ap (top (d .ring)) the-greatest ∙ sym (slots-top (d .ring) (e .greatest) (e .length) (shown .long agrees)) ∙ sym (l .top)
+    the-top = ap (top (d .ring)) the-greatest ∙ sym (slots-top (d .ring) (e .greatest) (e .length) some-view) ∙ sym (l .top)
 
     has-entered : (v : View) → hasEntered d X v ≡ any (sameView v) (viewsIs (c .entered))
     unfolding hasEntered controllerIs
@@ -100,7 +120,7 @@ module _ (W : List ℕ) (c : Controller) (e : Evidence) (k : Seen W c e) where
 
     the-certificate : certificate d X ≡ when (e .certified) (e .payload)
     unfolding certificate controllerIs
-    the-certificate = ap (λ R. first (certificates R (c .sender) X)) ring-is ∙ sym (shown .certificate agrees)
+    the-certificate = sym (shown .certificate agrees)
 
     some-entered : ltb 0 (length (d .entered)) ≡ s .active
     unfolding controllerIs
@@ -146,15 +166,15 @@ module _ (c : Controller) (e : Evidence) (t w : held.View) (active entered stand
     entered = the-entered W c e k _ l;
     stands = it-stands W c e k _ l;
     top = the-top W c e k _ l;
-    wished = ap (λ R. protocol-wished R (recordIs W c)) (ring-is W c e k) ∙ sym (k .shown .wished) ∙ sym (l .wished);
-    candidates = ap (λ R. candidates R (recordIs W c)) (ring-is W c e k) ∙ sym (k .shown .candidates (k .agrees) (k .few));
+    wished = sym (k .settled .of .wished) ∙ sym (l .wished);
+    candidates = sym (k .settled .of .candidates (k .settled .agree) (k .settled .few));
     greatest = the-greatest W c e k _ l;
     certificate = the-certificate W c e k _ l;
-    stored = λ q. ap (λ R. isStored R (recordIs W c) (e .payload)) (ring-is W c e k) ∙ sym (k .shown .stored (k .agrees) q);
+    stored = λ q. sym (k .settled .of .stored (k .settled .agree) q);
   }
 
   pub looked : Looks c e (sight c e t w active entered stands)
-  looked = record { sight = seen; count = refl; length = refl }
+  looked = record { sight = seen; sender = refl; count = refl; length = refl }
 
 -- a view that t is below, and one that it is not
 module _ (t u : View) (b : Bool) (e : b ≡ below 16 t u) where
@@ -165,3 +185,25 @@ module _ (t u : View) (b : Bool) (e : b ≡ below 16 t u) where
   pub level : b ≡ false → notAbove t u ≡ true
   unfolding notAbove
   level f = ap not (sym e ∙ f)
+
+-- ---- the ring by the word of the initial view
+
+module _ {c : Controller} (w : ℕ) (is : viewOf w ≡ viewIs (c .init)) where
+  ring-of : ring w ≡ controllerIs c .ring
+  unfolding controllerIs
+  ring-of i = record { width = 16; init = is i }
+
+  pub settled-word : {W : List ℕ} {e : Evidence} {s : Sight} → Looks c e s → Seen W c e → Settled (ring w) (s .sender) (recordIs W c) e
+  settled-word {W} {e} l k = rw (ring-of, l .sender) (k .settled)
+
+  pub entering-word : {X : List Stmt} {s : Sight} {r : Step} → Entering X (ring w) s r → Entering X (controllerIs c .ring) s r
+  entering-word n = record { means = λ d k q. n .means d k (q ∙ sym ring-of); short = n .short }
+
+-- what the first rule asks of the counts
+
+module _ {W : List ℕ} {c : Controller} {e : Evidence} {s : Sight} (l : Looks c e s) (k : Seen W c e) where
+  pub short-views : s .length ≤ 16
+  short-views = omega (arith, l .length, few-views W c e k)
+
+  pub short-candidates : (0 < s .count) × (s .count ≤ 16)
+  short-candidates = (omega (arith, l .count, some-candidate W c e k), omega (arith, l .count, few-candidates W c e k))

@@ -8,17 +8,16 @@ use Prim.Native.Nat.{ℕ, _≤_}
 use lib.Dec.{eqb, ltb}
 use lib.ListN.{length}
 use Rattle.protocol.specs.Lists.{any, find, when, given, firstOf}
-use Rattle.protocol.specs.View.{View, sameView, member, below}
+use Rattle.protocol.specs.View.{View, Ring, sameView, member, below}
 use Rattle.protocol.specs.Statement.{Stmt}
 use Rattle.protocol.specs.Evidence.{prepares, wished, candidates, isStored}
 use Rattle.protocol.specs.Controller.{Controller}
-use Rattle.protocol.specs.Turn.{Action, G, T, hasEntered, stands, certificate, toAck, isReported, countedReports, mergeAll, rule2, rule7}
-use Rattle.views.specs.View.{viewOf}
+use Rattle.protocol.specs.Turn.{Action, G, T, hasEntered, stands, certificate, toAck, isReported, countedReports, mergeAll, rule2, rule7, firstRule}
 use Rattle.views.specs.Held.{viewIs}
 use Rattle.statements.specs.declared.Binding.{Binding}
 use Rattle.statements.specs.Meaning.{bindingIs}
 use Rattle.evidence.specs.declared.Evidence.{Evidence}
-use Rattle.evidence.specs.Evidence.{EvidenceOf}
+use Rattle.evidence.specs.Evidence.{Settled}
 use Rattle.evidence.specs.Slots.{viewsOf}
 use Rattle.engine.specs.declared.Controller as held
 use Rattle.engine.specs.declared.Send.{Send}
@@ -30,13 +29,9 @@ use Rattle.engine.specs.declared.rules.Due.{Due}
 use Rattle.engine.specs.declared.rules.Due.the-variants.{Nothing, On}
 use Rattle.engine.specs.Meaning.{sendIs, controllerIs, recordIs, actionIs}
 
--- e is the evidence of the controller's record, which is one that a rule is done for.
+-- e is the evidence of the controller's record, and that is one that a rule is done for.
 pub record Seen (W : List ℕ) (c : held.Controller) (e : Evidence) : Type 0 where
-  pub word : ℕ
-  pub init : viewOf word ≡ viewIs (c .init)
-  pub shown : EvidenceOf word (c .sender) (recordIs W c) e
-  pub agrees : e .conflict ≡ false
-  pub few : e .many ≡ false
+  pub settled : Settled (controllerIs c .ring) (c .sender) (recordIs W c) e
 
 -- ---- what is asked of the record
 
@@ -89,6 +84,7 @@ notAbove t u = not (below 16 t u)
 -- s is what the rules look at, where e is the evidence of the controller's record.
 pub record Looks (c : held.Controller) (e : Evidence) (s : Sight) : Type 0 where
   pub sight : (W : List ℕ) → Seen W c e → SightOf (controllerIs c) (recordIs W c) s
+  pub sender : s .sender ≡ c .sender
   pub count : s .count ≡ e .count
   pub length : s .length ≡ e .length
 
@@ -117,6 +113,11 @@ pub record Enters (s : Sight) (reported : Bool) (merged : Binding) (r : Step) : 
   pub means : (d : Controller) (X : List Stmt) → SightOf d X s → isReported d X ≡ reported → mergeAll (d .binding) (countedReports d X) ≡ bindingIs merged → actionIs r ≡ rule2 d X
   pub short : r .statement .history .len ≤ 16
 
+-- Of rule 2 in the ring R.
+pub record Entering (X : List Stmt) (R : Ring) (s : Sight) (r : Step) : Type 0 where
+  pub means : (d : Controller) → SightOf d X s → d .ring ≡ R → actionIs r ≡ rule2 d X
+  pub short : r .statement .history .len ≤ 16
+
 -- Of rule 7, which asks nothing more of the record.
 pub record Delivers (s : Sight) (r : Step) : Type 0 where
   pub does : (X : List Stmt) → Does X s rule7 r
@@ -132,3 +133,10 @@ acts Sign = true
 acts (Bind m) = true
 acts (Enter v b) = true
 acts (Deliver m) = true
+
+-- ---- the turn's step
+
+-- r is what the first rule that applies has the controller c do, over the pool's memory W.
+pub record Chosen (W : List ℕ) (c : held.Controller) (r : Step) : Type 0 where
+  pub means : actionIs r ≡ firstRule (controllerIs c) (recordIs W c)
+  pub short : r .statement .history .len ≤ 16

@@ -3,6 +3,8 @@ mod rules;
 
 use pool::Record;
 pub use rules::Sight;
+pub use rules::first_rule;
+pub use rules::has_left;
 use statements::Binding;
 use statements::Statement;
 use views::History;

@@ -9,13 +9,14 @@ ghost use Rattle.protocol.specs.Lists.{any, all, find};
 ghost use Rattle.protocol.specs.View.{member};
 ghost use Rattle.protocol.specs.Statement.{sameStmt};
 ghost use Rattle.protocol.specs.Turn as turn;
-ghost use Rattle.views.specs.View.{viewOf};
+ghost use Rattle.views.specs.View.{viewOf, ring};
 ghost use Rattle.views.specs.Held.{viewIs, viewsIs};
 ghost use Rattle.statements.specs.Meaning.{bindingIs, stmtOf};
 ghost use Rattle.pool.specs.Pool.{stmtAt, recordOf};
+ghost use Rattle.evidence.specs.Evidence.{Settled};
 ghost use Rattle.evidence.specs.Slots.{viewsOf};
 ghost use Rattle.engine.specs.Meaning.{sendIs};
-ghost use Rattle.engine.specs.Rules.{ownKind, ownAt, firstPrepare, reportDue, dueIs, notAbove, acts, Looks, Steps, Does, Firsts, Enters, Acks, Delivers};
+ghost use Rattle.engine.specs.Rules.{ownKind, ownAt, firstPrepare, reportDue, dueIs, notAbove, acts, Looks, Steps, Does, Firsts, Enters, Entering, Acks, Delivers, Seen, Chosen};
 use crate::Controller;
 use crate::Deed;
 use crate::Send;
@@ -609,4 +610,51 @@ fn look(c: Controller, e: Evidence) -> Sight
         payload: e.payload,
         stored: e.stored,
     }
+}
+
+// Rule 2, which asks after the reports only where it may apply.
+fn entered(
+    words: &[u64; POOL_WORDS],
+    ids: &[u16; 512],
+    len: usize,
+    init: u32,
+    e: Evidence,
+    s: Sight,
+) -> Step
+    requires { ⌜ Settled (ring init) (s .sender) (recordOf (now words) (now ids) len) e ⌝ }
+    ensures { λ r. ⌜ Entering (recordOf (now (words .entry)) (now (ids .entry)) len) (ring init) s r ⌝ }
+{
+    if !may_enter(s) {
+        return rest();
+    }
+    let sender = s.sender;
+    if !evidence::reported(words, ids, len, init, sender, e) {
+        return rest();
+    }
+    let b = s.binding;
+    let merged = evidence::merged(words, ids, len, init, sender, e, b);
+    rule2(s, true, merged)
+}
+
+// The first rule that applies.
+pub fn first_rule(words: &[u64; POOL_WORDS], c: Controller, e: Evidence) -> Step
+    requires { ⌜ Seen (now words) c e ⌝ }
+    ensures { λ r. ⌜ Chosen (now (words .entry)) c r ⌝ }
+{
+    let s = look(c, e);
+    let log = c.statements;
+    let len = log.len;
+    let ids = log.ids;
+    let first = rule1(words, &ids, len, s);
+    let d = first.deed;
+    if acts(d) {
+        return first;
+    }
+    let init = c.init;
+    let second = entered(words, &ids, len, init.word(), e, s);
+    let d = second.deed;
+    if acts(d) {
+        return second;
+    }
+    agreed(words, &ids, len, s)
 }

@@ -1,0 +1,48 @@
+use native.Mathlib.Omega.{arith}
+use borrow.Author.Tests.{not-true, not-false}
+use Rattle.evidence.specs.Slots.{viewScale}
+use Rattle.evidence.proofs.Slots.{slots-first}
+use Rattle.evidence.proofs.Ranks as laws
+use borrow.Author.Needs.{needs}
+use Rattle.evidence.proofs.candidates.rank.Statement.{statement}
+use Rattle.evidence.proofs.candidates.rank.Tie as tie
+use Rattle.evidence.proofs.candidates.rank.Reads as reads
+use Rattle.evidence.proofs.candidates.rank.Lts as lts
+use Rattle.evidence.proofs.candidates.compare_slots.Reads as compare-slots-reads
+use Rattle.evidence.proofs.candidates.fill_slots.Reads as fill-slots-reads
+use Rattle.evidence.proofs.candidates.list_slots.Reads as list-slots-reads
+
+-- src/candidates.rt:122:9
+fill-slots-requires : tie.Need-fill-slots-requires
+fill-slots-requires c κs = (c .before .pre, slots-first viewScale _ _ _ (laws.size-least _))
+
+-- src/candidates.rt:123:9
+returns : tie.Need-returns
+returns c = λ X h. laws.clash-conflict _ X _ _ _ h (c .before .fill-slots .ensures .bad (not-true _ (c .if1 .taken))) _ _
+
+-- src/candidates.rt:125:9
+compare-slots-requires : tie.Need-compare-slots-requires
+compare-slots-requires c κs = search needs
+
+-- src/candidates.rt:126:9
+returns-2 : tie.Need-returns-2
+returns-2 c = λ X h. laws.apart-conflict _ X _ _ _ h _ (c .before .before .before .before .fill-slots .ensures .good (not-false _ (c .before .before .before .if1 .left))) (c .before .compare-slots .ensures .bad (not-true _ (c .if2 .taken))) _ _
+
+-- src/candidates.rt:128:9
+list-slots-requires : tie.Need-list-slots-requires
+list-slots-requires c κs = search needs
+
+-- src/candidates.rt:116:1
+returns-3 : tie.Need-returns-3
+returns-3 c = λ X h. laws.ranked _ X _ _ _ h _ (c .before .before .before .before .before .before .before .fill-slots .ensures .good (not-false _ (c .before .before .before .before .before .before .if1 .left))) (c .before .before .before .before .compare-slots .ensures .good (not-false _ (c .before .before .before .if2 .left))) _ _ (c .list-slots .ensures)
+
+pub rank-spec : {M : Type 1} → statement M
+rank-spec =
+    tie.close
+    (tie.spec
+    fill-slots-requires
+    returns
+    compare-slots-requires
+    returns-2
+    list-slots-requires
+    returns-3)
