@@ -2,7 +2,6 @@ pub mod Scan
 pub mod Words
 pub mod Fields
 pub mod Commands
-pub mod Fits
 pub mod Lies
 pub mod Whole
 pub mod Rows

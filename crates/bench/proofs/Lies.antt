@@ -21,7 +21,7 @@ use Rattle.bench.specs.Line.{lie, noStatement, lieWord, ended, Written, 
 use Rattle.bench.specs.Reading.{LieBy}
 use Rattle.bench.proofs.Words.{begins, reads-none}
 use Rattle.bench.proofs.Commands.{follows, put-together}
-use Rattle.bench.proofs.Fits.{keeps-fits}
+use Rattle.statements.proofs.Fits.{keeps-fits}
 
 is-true : (b : Bool) → T b → b ≡ true
 is-true true t = refl

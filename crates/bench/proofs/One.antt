@@ -16,7 +16,7 @@ use Rattle.bench.specs.Line.{Line, setup, join, leave, send, give, all, 
 use Rattle.bench.specs.Rows.{Printed}
 use Rattle.bench.proofs.Words.{verbIs, written-verb, OfVerb, of-verb}
 use Rattle.bench.proofs.Commands.{follows}
-use Rattle.bench.proofs.Fits.{keeps-fits}
+use Rattle.statements.proofs.Fits.{keeps-fits}
 use Rattle.bench.proofs.Whole.{written-ended}
 
 module _ (T′ : List ℕ) where

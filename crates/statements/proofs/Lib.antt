@@ -6,4 +6,5 @@ pub mod Written
 pub mod FieldLaws
 pub mod Laws
 pub mod Example
+pub mod Fits
 pub mod One
