@@ -7,3 +7,4 @@ pub mod Chosen
 pub mod Looked
 pub mod Scans
 pub mod Turned
+pub mod Runs

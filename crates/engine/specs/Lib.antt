@@ -2,3 +2,4 @@
 pub mod Meaning
 pub mod Promise
 pub mod Rules
+pub mod Runs
