@@ -1,0 +1,3 @@
+-- What is promised of what a host calls.
+pub mod Statement
+pub mod Scan

@@ -1,0 +1,3 @@
+// What a host in Rust or C calls. Nothing here asks anything of its caller: a slice is a pointer and then a length, an array a pointer.
+mod scan;
+mod statement;
