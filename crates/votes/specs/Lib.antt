@@ -1,2 +1,4 @@
 pub mod Votes
 pub mod Tables
+pub mod Keys
+pub mod Chosen

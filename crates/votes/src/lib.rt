@@ -1,1 +1,10 @@
 // The votes of a record, each quorum counted once.
+mod chosen;
+mod groups;
+mod keys;
+mod wish;
+
+pub use chosen::agreements;
+pub use chosen::choices;
+pub use groups::gather;
+pub use wish::wished_view;

@@ -1,0 +1,2 @@
+pub mod Memos
+pub mod Rows

@@ -1,0 +1,6 @@
+pub mod Alike
+pub mod Gathered
+pub mod Picked
+pub mod Quorums
+pub mod Tabled
+pub mod Wished

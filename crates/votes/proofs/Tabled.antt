@@ -1,0 +1,299 @@
+-- The tables are right: what the choices and agreements of a record show.
+-- Assumes nothing.
+use mathlib.Core.Path.{_≡_, refl, sym, ap, subst, _∙_}
+use mathlib.Core.Logic.{_≢_, _⊎_, inl, inr}
+use mathlib.Core.Bool.{Bool, true, false, not, _&&_, _||_}
+use mathlib.Core.List.{List, [], _∷_}
+use Prim.Native.Nat.{ℕ, zero, suc, _≤_, _<_, min}
+use native.Mathlib.Decide.{decLt}
+use native.Mathlib.Omega.{arith}
+use lib.Dec.{T, eqb}
+use lib.ListN.{getD}
+use Rattle.protocol.specs.Lists.{_∈_, any, all}
+use Rattle.protocol.specs.View.{View, Ring, sameView, hasMembers, within, below, size, Below}
+use Rattle.protocol.specs.History.{sameViews, last, top, isHistory, History}
+use Rattle.protocol.specs.Statement.{Stmt, isKind, agreesView, agreesHistory}
+use Rattle.protocol.specs.Evidence.{candidate, sealed, Shown, start, wished, signedByQuorum, isCandidate, isSealed}
+use Rattle.protocol.specs.Grounds.{isTop, chooses, seals, candidateBy, sealedBy}
+use Rattle.protocol.proofs.Says.{Says, says-map, says-unique, says-self, says-and, says-or, says-not, says-eqb}
+use Rattle.protocol.proofs.Histories.{rises}
+use Rattle.protocol.proofs.Decided.{says-same, says-sames, says-in, says-below, says-history, says-kind, says-shown}
+use Rattle.protocol.proofs.Grounds.{Top, says-top, candidate-by, sealed-by}
+use Rattle.views.specs.Table.{table}
+use Rattle.views.specs.View.{viewOf, ring}
+use Rattle.views.proofs.Tables.{any-suc}
+use Rattle.views.proofs.Views.{view-inj}
+use Rattle.pool.specs.Pool.{stmtAt, recordOf}
+use Rattle.votes.specs.Votes.{isVote, alike, entry, Groups}
+use Rattle.votes.specs.Tables.{low, high, upTo, gives, sealsAt, ends, sealsAs, Tables}
+use Rattle.votes.specs.Chosen.{isChoice, isAgreement, Picked, ChoiceRow, AgreementRow, Choices, Agreements}
+use Rattle.votes.proofs.Alike.{Alike, says-vote, says-alike}
+
+-- ---- tests of lists by index
+
+module _ {A : Type 0} {p : A → Bool} {P : A → Type 0} (says : (a : A) → Says (p a) (P a)) (f : ℕ → A) where
+  pub says-table : (n : ℕ) → Says (any p (table n f)) ((i : ℕ) × (i < n) × P (f i))
+  unfolding table any
+  says-table zero = record { sound = λ t. absurd t; complete = λ (i, l, h). absurd (omega arith) }
+  says-table (suc n) = rw (any-suc p f n) (says-map join split (says-or (says-table n) (says (f n))))
+    where
+      join : ((i : ℕ) × (i < n) × P (f i)) ⊎ P (f n) → (i : ℕ) × (i < suc n) × P (f i)
+      join (inl (i, l, h)) = (i, omega arith, h)
+      join (inr h) = (n, omega arith, h)
+
+      split : (i : ℕ) × (i < suc n) × P (f i) → ((i : ℕ) × (i < n) × P (f i)) ⊎ P (f n)
+      split (i, l, h) = elim (decLt i n) [ yes m ↦ inl (i, m, h) | no m ↦ inr (let q : i ≡ n = omega arith in subst (λ x. P (f x)) q h) ]
+
+pub says-record : {p : Stmt → Bool} {P : Stmt → Type 0} → ((s : Stmt) → Says (p s) (P s)) → (W ids : List ℕ) (len : ℕ) → Says (any p (recordOf W ids len)) ((i : ℕ) × (i < min len 512) × P (entry W ids i))
+unfolding recordOf
+says-record says W ids len = says-table says (λ i. stmtAt W (getD ids i 0)) (min len 512)
+
+-- ---- the parts of a choice and of an agreement
+
+module _ (R : Ring) (X : List Stmt) where
+  -- s chooses x
+  abbrev Choice : Stmt → View → Type 0
+  Choice s x = ((((s .kind ≡ 3) × T (below 16 (s .at) x)) × T (hasMembers 16 x)) × T (within 16 x (wished R X))) × T (signedByQuorum 16 X (s .at) (agreesView (s .at) x))
+
+  says-choice : (s : Stmt) (x : View) → s .view ≡ x → Says (isChoice R X s) (Choice s x)
+  unfolding isChoice isKind
+  says-choice s x e = rw e
+      (says-and (says-and (says-and (says-and (says-kind 3 s) (says-self (below 16 (s .at) x))) (says-self (hasMembers 16 x))) (says-self (within 16 x (wished R X))))
+      (says-self (signedByQuorum 16 X (s .at) (agreesView (s .at) x))))
+
+  choice-like : (a s : Stmt) → Alike a s → T (isChoice R X s) → T (isChoice R X a)
+  choice-like a s al t =
+      let ((((k, b), m), w), q) = says-choice s (s .view) refl .sound t in
+      says-choice a (s .view) (sym (al .view (sym (al .kind) ∙ k))) .complete
+      ((((sym (al .kind) ∙ k, rw (sym (al .at)) b), m), w), rw (sym (al .at)) q)
+
+  -- s agrees to H
+  abbrev Agreement : Stmt → List View → Type 0
+  Agreement s H = ((((s .kind ≡ 4) × T (signedByQuorum 16 X (s .at) (agreesHistory (s .at) H))) × T (any (sameView (s .at)) H)) × T (not (sameView (s .at) (top R H)))) × T (isHistory R H)
+
+  says-agreement : (s : Stmt) (H : List View) → s .views ≡ H → Says (isAgreement R X s) (Agreement s H)
+  unfolding isAgreement isKind
+  says-agreement s H e = rw e
+      (says-and (says-and (says-and (says-and (says-kind 4 s) (says-self (signedByQuorum 16 X (s .at) (agreesHistory (s .at) H)))) (says-self (any (sameView (s .at)) H)))
+      (says-self (not (sameView (s .at) (top R H))))) (says-self (isHistory R H)))
+
+  agreement-like : (a s : Stmt) → Alike a s → T (isAgreement R X s) → T (isAgreement R X a)
+  agreement-like a s al t =
+      let ((((k, q), m), d), h) = says-agreement s (s .views) refl .sound t in
+      says-agreement a (s .views) (sym (al .views (sym (al .kind) ∙ k))) .complete
+      ((((sym (al .kind) ∙ k, rw (sym (al .at)) q), rw (sym (al .at)) m), rw (sym (al .at)) d), h)
+
+-- a view of a history is its top, or lies below it
+history-top : {R : Ring} {H : List View} {v : View} → History R H → v ∈ H → (v ≡ top R H) ⊎ Below (R .width) v (top R H)
+unfolding top
+history-top h m = rw (h .begins) (rises (h .rest) (h .rising) (rw (h .begins) at m))
+
+module _ (W ids : List ℕ) (len init : ℕ) (F S : List ℕ) (n : ℕ) (groups : Groups W ids len F S n) where
+  -- entry i is in a group
+  covered : (i : ℕ) → i < min len 512 → T (isVote (entry W ids i)) → (g : ℕ) × (g < n) × Alike (entry W ids (getD F g 0)) (entry W ids i)
+  covered i l v = let (g, m, t) = groups .covers i l v in (g, m, says-alike (entry W ids (getD F g 0)) (entry W ids i) .sound t)
+
+  -- ---- choices
+
+  module _ (C : List ℕ) (nc : ℕ) (rows : Choices W ids len init F n C nc) where
+    -- row c is the choice of entry i
+    record Chose (c i : ℕ) : Type 0 where
+      here : i < min len 512
+      at : viewOf (low (getD C c 0)) ≡ entry W ids i .at
+      view : viewOf (high (getD C c 0)) ≡ entry W ids i .view
+      small : high (getD C c 0) < 4294967296
+      choice : T (isChoice (ring init) (recordOf W ids len) (entry W ids i))
+
+    row-chose : (c : ℕ) → c < nc → (i : ℕ) × Chose c i
+    unfolding Choices
+    row-chose c l = let (g, m, t, w) = rows .sound c l in (getD F g 0, record { here = groups .place g m; at = w .at; view = w .view; small = w .small; choice = t })
+
+    chose-row : (i : ℕ) → i < min len 512 → T (isChoice (ring init) (recordOf W ids len) (entry W ids i)) → (c : ℕ) × (c < nc) × Chose c i
+    unfolding Choices
+    chose-row i l t =
+        let ((((k, _), _), _), _) = says-choice (ring init) (recordOf W ids len) (entry W ids i) (entry W ids i .view) refl .sound t in
+        let (g, m, al) = covered i l (says-vote (entry W ids i) .complete (inl (inl (inl k)))) in
+        let (c, o, w) = rows .complete g m (choice-like (ring init) (recordOf W ids len) (entry W ids (getD F g 0)) (entry W ids i) al t) in
+        (c, o, record { here = l; at = w .at ∙ sym (al .at); view = w .view ∙ sym (al .view (sym (al .kind) ∙ k)); small = w .small; choice = t })
+
+    -- choice c gives the candidate v
+    abbrev Given : ℕ → Type 0
+    Given v = (c : ℕ) × (c < nc) × ((high (getD C c 0) ≡ v) × T (isTop (ring init) (recordOf W ids len) (viewOf (low (getD C c 0)))))
+
+    abbrev Shows : View → Type 0
+    Shows v = (T (hasMembers 16 v) × T (within 16 v (wished (ring init) (recordOf W ids len))))
+        × ((i : ℕ) × (i < min len 512)
+        × (((((entry W ids i .kind ≡ 3) × (entry W ids i .view ≡ v)) × T (below 16 (entry W ids i .at) v))
+        × T (signedByQuorum 16 (recordOf W ids len) (entry W ids i .at) (agreesView (entry W ids i .at) v))) × T (isTop (ring init) (recordOf W ids len) (entry W ids i .at))))
+
+    says-given : (v : ℕ) → Says (any (gives W ids len init C v) (upTo nc)) (Given v)
+    unfolding gives
+    says-given v = says-table (λ c. says-and says-eqb (says-self (isTop (ring init) (recordOf W ids len) (viewOf (low (getD C c 0)))))) (λ i. i) nc
+
+    says-candidate : (v : View) → Says (isCandidate (ring init) (recordOf W ids len) v) ((v ≡ viewOf init) ⊎ Shows v)
+    unfolding candidateBy chooses
+    says-candidate v = rw (candidate-by (ring init) (recordOf W ids len) v)
+        (says-or says-same (says-and (says-and (says-self (hasMembers 16 v)) (says-self (within 16 v (wished (ring init) (recordOf W ids len)))))
+        (says-record (λ s. says-and (says-and (says-and (says-and (says-kind 3 s) says-same) (says-self (below 16 (s .at) v))) (says-self (signedByQuorum 16 (recordOf W ids len) (s .at) (agreesView (s .at) v)))) (says-self (isTop (ring init) (recordOf W ids len) (s .at)))) W ids len)))
+
+    candidates : init < 4294967296 → (v : ℕ) → v < 4294967296 → isCandidate (ring init) (recordOf W ids len) (viewOf v) ≡ (eqb v init || any (gives W ids len init C v) (upTo nc))
+    candidates small v l = says-unique (says-map to from (says-candidate (viewOf v))) (says-or says-eqb (says-given v))
+      where
+        to : (viewOf v ≡ viewOf init) ⊎ Shows (viewOf v) → (v ≡ init) ⊎ Given v
+        to (inl e) = inl (view-inj v init l small e)
+        to (inr ((m, w), (i, h, ((((k, e), b), q), t)))) =
+            let (c, o, r) = chose-row i h (says-choice (ring init) (recordOf W ids len) (entry W ids i) (viewOf v) e .complete ((((k, b), m), w), q)) in
+            inr (c, o, (view-inj (high (getD C c 0)) v (r .small) l (r .view ∙ e), rw (r .at) t))
+
+        from : (v ≡ init) ⊎ Given v → (viewOf v ≡ viewOf init) ⊎ Shows (viewOf v)
+        from (inl e) = inl (ap viewOf e)
+        from (inr (c, o, (e, t))) =
+            let (i, r) = row-chose c o in
+            let f : entry W ids i .view ≡ viewOf v = sym (r .view) ∙ ap viewOf e in
+            let ((((k, b), m), w), q) = says-choice (ring init) (recordOf W ids len) (entry W ids i) (viewOf v) f .sound (r .choice) in
+            inr ((m, w), (i, r .here, ((((k, f), b), q), rw (r .at) at t)))
+
+    choices-few : nc ≤ 512
+    unfolding Choices
+    choices-few = omega (arith, rows .fewer, groups .most)
+
+    choices-rise : (c : ℕ) → c < nc → size 16 (viewOf (low (getD C c 0))) < size 16 (viewOf (high (getD C c 0)))
+    choices-rise c l =
+        let (i, r) = row-chose c l in
+        let ((((k, b), m), w), q) = says-choice (ring init) (recordOf W ids len) (entry W ids i) (entry W ids i .view) refl .sound (r .choice) in
+        omega (arith, says-below .sound b .less, ap (size 16) (r .at), ap (size 16) (r .view))
+
+  -- ---- agreements
+
+  module _ (A E : List ℕ) (na : ℕ) (rows : Agreements W ids len init F n A E na) where
+    -- row a is the agreement of entry i
+    record Agrees (a i : ℕ) : Type 0 where
+      here : i < min len 512
+      at : viewOf (low (getD A a 0)) ≡ entry W ids i .at
+      top : viewOf (high (getD A a 0)) ≡ top (ring init) (entry W ids i .views)
+      small : high (getD A a 0) < 4294967296
+      names : stmtAt W (getD E a 0) .views ≡ entry W ids i .views
+      agreement : T (isAgreement (ring init) (recordOf W ids len) (entry W ids i))
+
+    row-agrees : (a : ℕ) → a < na → (i : ℕ) × Agrees a i
+    unfolding Agreements
+    row-agrees a l =
+        let (g, m, t, w) = rows .sound a l in
+        (getD F g 0, record { here = groups .place g m; at = w .at; top = w .top; small = w .small; names = ap (λ z. stmtAt W z .views) (w .statement); agreement = t })
+
+    agrees-row : (i : ℕ) → i < min len 512 → T (isAgreement (ring init) (recordOf W ids len) (entry W ids i)) → (a : ℕ) × (a < na) × Agrees a i
+    unfolding Agreements
+    agrees-row i l t =
+        let ((((k, _), _), _), _) = says-agreement (ring init) (recordOf W ids len) (entry W ids i) (entry W ids i .views) refl .sound t in
+        let (g, m, al) = covered i l (says-vote (entry W ids i) .complete (inl (inl (inr k)))) in
+        let (a, o, w) = rows .complete g m (agreement-like (ring init) (recordOf W ids len) (entry W ids (getD F g 0)) (entry W ids i) al t) in
+        let e : entry W ids i .views ≡ entry W ids (getD F g 0) .views = al .views (sym (al .kind) ∙ k) in
+        (a, o, record { here = l; at = w .at ∙ sym (al .at); top = w .top ∙ ap (top (ring init)) (sym e); small = w .small; names = ap (λ z. stmtAt W z .views) (w .statement) ∙ sym e; agreement = t })
+
+    -- an agreement seals H
+    abbrev SealedAt : ℕ → Type 0
+    SealedAt a = T (isTop (ring init) (recordOf W ids len) (viewOf (low (getD A a 0)))) × T (all (isCandidate (ring init) (recordOf W ids len)) (stmtAt W (getD E a 0) .views))
+
+    says-seals : (a : ℕ) → Says (sealsAt W ids len init A E a) (SealedAt a)
+    unfolding sealsAt
+    says-seals a = says-and (says-self (isTop (ring init) (recordOf W ids len) (viewOf (low (getD A a 0))))) (says-self (all (isCandidate (ring init) (recordOf W ids len)) (stmtAt W (getD E a 0) .views)))
+
+    abbrev Sealing : List View → Type 0
+    Sealing H = (a : ℕ) × (a < na) × ((stmtAt W (getD E a 0) .views ≡ H) × SealedAt a)
+
+    says-sealing : (H : List View) → Says (any (sealsAs W ids len init A E H) (upTo na)) (Sealing H)
+    unfolding sealsAs
+    says-sealing H = says-table (λ a. says-and (says-sames (stmtAt W (getD E a 0) .views) H) (says-seals a)) (λ i. i) na
+
+    abbrev Ending : ℕ → Type 0
+    Ending t = (a : ℕ) × (a < na) × ((high (getD A a 0) ≡ t) × SealedAt a)
+
+    says-ending : (t : ℕ) → Says (any (ends W ids len init A E t) (upTo na)) (Ending t)
+    unfolding ends
+    says-ending t = says-table (λ a. says-and says-eqb (says-seals a)) (λ i. i) na
+
+    abbrev Seals : List View → Type 0
+    Seals H = (T (isHistory (ring init) H) × T (all (isCandidate (ring init) (recordOf W ids len)) H))
+        × ((i : ℕ) × (i < min len 512)
+        × ((((((entry W ids i .kind ≡ 4) × (entry W ids i .views ≡ H)) × T (any (sameView (entry W ids i .at)) H)) × T (not (sameView (entry W ids i .at) (top (ring init) H))))
+        × T (signedByQuorum 16 (recordOf W ids len) (entry W ids i .at) (agreesHistory (entry W ids i .at) H))) × T (isTop (ring init) (recordOf W ids len) (entry W ids i .at))))
+
+    says-sealed : (H : List View) → Says (isSealed (ring init) (recordOf W ids len) H) ((H ≡ viewOf init ∷ []) ⊎ Seals H)
+    unfolding sealedBy seals
+    says-sealed H = rw (sealed-by (ring init) (recordOf W ids len) H)
+        (says-or (says-sames H (viewOf init ∷ [])) (says-and (says-and (says-self (isHistory (ring init) H)) (says-self (all (isCandidate (ring init) (recordOf W ids len)) H)))
+        (says-record (λ s. says-and (says-and (says-and (says-and (says-and (says-kind 4 s) (says-sames (s .views) H)) (says-self (any (sameView (s .at)) H))) (says-self (not (sameView (s .at) (top (ring init) H))))) (says-self (signedByQuorum 16 (recordOf W ids len) (s .at) (agreesHistory (s .at) H)))) (says-self (isTop (ring init) (recordOf W ids len) (s .at)))) W ids len)))
+
+    says-histories : (H : List View) → Says (isSealed (ring init) (recordOf W ids len) H) ((H ≡ viewOf init ∷ []) ⊎ Sealing H)
+    says-histories H = says-map to from (says-sealed H)
+      where
+        to : (H ≡ viewOf init ∷ []) ⊎ Seals H → (H ≡ viewOf init ∷ []) ⊎ Sealing H
+        to (inl e) = inl e
+        to (inr ((h, c), (i, l, (((((k, e), m), d), q), t)))) =
+            let (a, o, r) = agrees-row i l (says-agreement (ring init) (recordOf W ids len) (entry W ids i) H e .complete ((((k, q), m), d), h)) in
+            inr (a, o, (r .names ∙ e, (rw (r .at) t, rw (r .names ∙ e) c)))
+
+        from : (H ≡ viewOf init ∷ []) ⊎ Sealing H → (H ≡ viewOf init ∷ []) ⊎ Seals H
+        from (inl e) = inl e
+        from (inr (a, o, (e, (t, c)))) =
+            let (i, r) = row-agrees a o in
+            let f : entry W ids i .views ≡ H = sym (r .names) ∙ e in
+            let ((((k, q), m), d), h) = says-agreement (ring init) (recordOf W ids len) (entry W ids i) H f .sound (r .agreement) in
+            inr ((h, rw e at c), (i, r .here, (((((k, f), m), d), q), rw (r .at) at t)))
+
+    top-start : top (ring init) (viewOf init ∷ []) ≡ viewOf init
+    unfolding top last
+    top-start = refl
+
+    tops : init < 4294967296 → (t : ℕ) → t < 4294967296 → isTop (ring init) (recordOf W ids len) (viewOf t) ≡ (eqb t init || any (ends W ids len init A E t) (upTo na))
+    tops small t l = says-unique (says-map to from (says-top (ring init) (recordOf W ids len) (viewOf t))) (says-or says-eqb (says-ending t))
+      where
+        end : (G : List View) → top (ring init) G ≡ viewOf t → (G ≡ viewOf init ∷ []) ⊎ Sealing G → (t ≡ init) ⊎ Ending t
+        end G e (inl f) = inl (view-inj t init l small (sym e ∙ ap (top (ring init)) f ∙ top-start))
+        end G e (inr (a, o, (f, s))) =
+            let (i, r) = row-agrees a o in
+            inr (a, o, (view-inj (high (getD A a 0)) t (r .small) l (r .top ∙ ap (top (ring init)) (sym (r .names) ∙ f) ∙ e), s))
+
+        to : Top (ring init) (recordOf W ids len) (viewOf t) → (t ≡ init) ⊎ Ending t
+        to (G, g, e) = end G e (says-histories G .sound (says-shown (ring init) (recordOf W ids len) (sealed G) .complete g))
+
+        from : (t ≡ init) ⊎ Ending t → Top (ring init) (recordOf W ids len) (viewOf t)
+        from (inl e) = (viewOf init ∷ [], start refl, top-start ∙ ap viewOf (sym e))
+        from (inr (a, o, (e, s))) =
+            let (i, r) = row-agrees a o in
+            (stmtAt W (getD E a 0) .views, says-shown (ring init) (recordOf W ids len) (sealed (stmtAt W (getD E a 0) .views)) .sound (says-histories (stmtAt W (getD E a 0) .views) .complete (inr (a, o, (refl, s)))), ap (top (ring init)) (r .names) ∙ sym (r .top) ∙ ap viewOf e)
+
+    agreements-few : na ≤ 512
+    unfolding Agreements
+    agreements-few = omega (arith, rows .fewer, groups .most)
+
+    -- what a row says of the order of its views
+    ordered : (a : ℕ) → a < na → (v : View) → v ∈ stmtAt W (getD E a 0) .views → (v ≡ viewOf (high (getD A a 0))) ⊎ Below 16 v (viewOf (high (getD A a 0)))
+    ordered a l v m =
+        let (i, r) = row-agrees a l in
+        let (_, h) = says-agreement (ring init) (recordOf W ids len) (entry W ids i) (entry W ids i .views) refl .sound (r .agreement) in
+        rw (r .top) (history-top (says-history (ring init) (entry W ids i .views) .sound h) (rw (r .names) at m))
+
+    agreements-climb : (a : ℕ) → a < na → size 16 (viewOf (low (getD A a 0))) < size 16 (viewOf (high (getD A a 0)))
+    agreements-climb a l =
+        let (i, r) = row-agrees a l in
+        let ((((k, q), m), d), h) = says-agreement (ring init) (recordOf W ids len) (entry W ids i) (entry W ids i .views) refl .sound (r .agreement) in
+        elim (ordered a l (entry W ids i .at) (rw (r .names) (says-in .sound m))) [
+          | inl e ↦ absurd (says-not says-same .sound d (e ∙ r .top))
+          | inr b ↦ omega (arith, b .less, ap (size 16) (r .at))
+        ]
+
+    agreements-within : (a : ℕ) → a < na → (v : View) → v ∈ stmtAt W (getD E a 0) .views → size 16 v ≤ size 16 (viewOf (high (getD A a 0)))
+    agreements-within a l v m = elim (ordered a l v m) [ inl e ↦ omega (arith, ap (size 16) e) | inr b ↦ omega (arith, b .less) ]
+
+  pub tables-are : (C A E : List ℕ) (nc na : ℕ) → init < 4294967296 → Choices W ids len init F n C nc → Agreements W ids len init F n A E na → Tables W ids len init C nc A E na
+  tables-are C A E nc na small choices agreements = record {
+    choices = choices-few C nc choices;
+    agreements = agreements-few A E na agreements;
+    candidates = candidates C nc choices small;
+    tops = tops A E na agreements small;
+    histories = λ H. says-unique (says-histories A E na agreements H) (says-or (says-sames H (viewOf init ∷ [])) (says-sealing A E na agreements H));
+    rises = choices-rise C nc choices;
+    climbs = agreements-climb A E na agreements;
+    within = agreements-within A E na agreements;
+  }
