@@ -1,0 +1,11 @@
+//! How fast the proved code is beside the reference: one run, the same inputs, both built for release.
+
+mod measure;
+mod scan;
+mod statements;
+
+fn main() {
+    statements::print();
+    println!();
+    scan::print();
+}
