@@ -7,10 +7,13 @@ ghost use Rattle.pool.specs.Pool.{recordOf, stmtAt};
 ghost use Rattle.pekdrav.specs.Scan.{isAt};
 use pool::POOL_WORDS;
 
+// One comparison for both: of two, the first would often be guessed wrong.
 fn is_at(words: &[u64; POOL_WORDS], n: u16, kind: u8, at: u32) -> bool
     ensures { λ r. ⌜ r ≡ isAt kind (viewOf at) (stmtAt (now (words .entry)) n) ⌝ }
 {
-    (pool::kind(words, n) == kind as u64) & (pool::at(words, n) == at)
+    let k = pool::kind(words, n);
+    let t = pool::at(words, n);
+    k * 4294967296 + t as u64 == kind as u64 * 4294967296 + at as u64
 }
 
 // The set of those who signed a statement of this kind at this view, bit k for controller k, in the record of the first `len` numbers.
@@ -30,6 +33,11 @@ pub extern "C" fn pekdrav_signers(
     while i < end {
         let n = ids[i];
         let hit = is_at(words, n, kind, at);
+        // Most are passed over, so who signed is read only where it counts.
+        if !hit {
+            i += 1;
+            continue;
+        }
         seen = views::note(seen, hit, pool::origin(words, n));
         i += 1;
     }

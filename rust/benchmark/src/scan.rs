@@ -8,7 +8,7 @@ use reference::{Body, Statement, View};
 
 use crate::measure::{head, measure, row};
 
-const REPEATS: usize = 400;
+const ORDERS: usize = 400;
 
 /// A view as a word of the pool: the joined set below, the left set above.
 fn word(view: View) -> u32 {
@@ -50,23 +50,34 @@ fn theirs(record: &[Statement], ids: &[u16; RECORD], at: View) -> u32 {
     set
 }
 
+/// Many orders of the same record, so that no scan goes by what the processor learnt from the one before.
+fn orders() -> Vec<[u16; RECORD]> {
+    let mut rng = Rng::new(5);
+    let mut ids: [u16; RECORD] = std::array::from_fn(|place| place as u16);
+    let mut shuffled = || {
+        (1..RECORD).for_each(|place| ids.swap(place, rng.below(place + 1)));
+        ids
+    };
+    (0..ORDERS).map(|_| shuffled()).collect()
+}
+
 pub fn print() {
     let record = record();
     let words = pool(&record);
-    let mut ids: [u16; RECORD] = std::array::from_fn(|place| place as u16);
-    let mut rng = Rng::new(5);
-    (1..RECORD).for_each(|place| ids.swap(place, rng.below(place + 1)));
+    let orders = orders();
     head("Who acknowledged at a view, in a record of 512", "statement");
     for (name, at) in [("one in sixteen did", View::new(0xff, 0)), ("nobody did", View::new(0xff, 0xff00))] {
-        assert_eq!(signers(&words, &ids, RECORD, 7, word(at)), theirs(&record, &ids, at), "the scans differ");
+        let mine = |ids| signers(&words, black_box(ids), RECORD, 7, word(at));
+        let theirs = |ids| theirs(&record, black_box(ids), at);
+        assert!(orders.iter().all(|ids| mine(ids) == theirs(ids)), "the scans differ");
         let times = measure(
-            RECORD * REPEATS,
-            || (0..REPEATS).for_each(|_| {
-                black_box(signers(&words, black_box(&ids), RECORD, 7, word(at)));
-            }),
-            || (0..REPEATS).for_each(|_| {
-                black_box(theirs(&record, black_box(&ids), at));
-            }),
+            RECORD * ORDERS,
+            || {
+                black_box(orders.iter().fold(0, |set, ids| set ^ mine(ids)));
+            },
+            || {
+                black_box(orders.iter().fold(0, |set, ids| set ^ theirs(ids)));
+            },
         );
         row(name, &times);
     }

@@ -1,9 +1,6 @@
 use native.Mathlib.Omega.{arith}
-use mathlib.Core.Path.{ap, ap₂}
-use mathlib.Core.Bool.{_&&_}
-use lib.Dec.{eqb}
-use Rattle.views.proofs.Views.{view-eqb}
 use Rattle.pekdrav.specs.Scan.{isAt}
+use Rattle.pekdrav.proofs.Keys.{key-at}
 use borrow.Author.Needs.{needs}
 use Rattle.pekdrav.proofs.scan.is_at.Statement.{statement}
 use Rattle.pekdrav.proofs.scan.is_at.Tie as tie
@@ -14,7 +11,17 @@ use Rattle.pool.proofs.kind.Reads as kind-reads
 
 returns : tie.Need-returns
 unfolding isAt
-returns c = ap₂ _&&_ (ap (λ k. eqb k (c .before .before .args .kind)) (c .before .kind .ensures .0)) (view-eqb (c .at .result) _ (c .before .before .args .at) (c .at .ensures) (omega arith) (omega arith))
+returns c = key-at (c .before .kind .result) (c .at .result) (c .before .before .args .kind) (c .before .before .args .at) _ _ (omega arith) (omega arith) (c .before .kind .ensures .0) (c .at .ensures)
 
 pub is-at-spec : {M : Type 1} → statement M
-is-at-spec = tie.close (tie.spec (λ c κs. search needs) (λ c κs. search needs) returns)
+is-at-spec =
+    tie.close
+    (tie.spec
+    (λ c κs. search needs)
+    (λ c κs. search needs)
+    (λ c. search needs)
+    (λ c. search needs)
+    (λ c. search needs)
+    (λ c. search needs)
+    (λ c. search needs)
+    returns)

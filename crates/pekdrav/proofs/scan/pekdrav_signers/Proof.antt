@@ -1,9 +1,12 @@
 use borrow.Author.Needs.{needs}
+use borrow.Author.Tests.{not-true}
 use native.Mathlib.Omega.{arith}
+use mathlib.Core.Path.{refl}
 use Prim.Native.Nat.{_-_, _≤_}
 use Rattle.protocol.specs.Evidence.{signs}
 use Rattle.views.specs.Sets.{IsSet}
 use Rattle.views.specs.View.{viewOf}
+use Rattle.views.proofs.Sets.{note-none}
 use Rattle.pool.specs.Pool.{recordOf}
 use Rattle.pool.proofs.Records.{set-first, set-next, set-whole}
 use Rattle.pekdrav.specs.Scan.{isAt}
@@ -33,9 +36,12 @@ pekdrav-signers-spec =
     (λ c. search needs)
     (λ c. search needs)
     (λ c κs. search needs)
+    (λ c. search needs)
+    (λ c. search needs)
+    (λ c. (omega arith, set-next _ _ _ _ _ _ _ _ (omega arith) (c .before .before .before .before .loop .inv .1) (note-none _ _ _ (not-true _ (c .if1 .taken))) (c .before .is-at .ensures) refl))
     (λ c κs. search needs)
     (λ c κs. search needs)
     (λ c. search needs)
     (λ c. search needs)
-    (λ c. (omega arith, set-next _ _ _ _ _ _ _ _ (omega arith) (c .before .before .before .before .before .loop .inv .1) (c .note .ensures) (c .before .before .is-at .ensures) (c .before .origin .ensures .0)))
+    (λ c. (omega arith, set-next _ _ _ _ _ _ _ _ (omega arith) (c .before .before .before .before .before .before .loop .inv .1) (c .note .ensures) (c .before .before .before .is-at .ensures) (c .before .origin .ensures .0)))
     (λ c. set-whole _ _ _ _ _ _ _ (omega arith) (c .before .before .limit .ensures .0) (c .before .loop .inv .1)))
