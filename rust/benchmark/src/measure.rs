@@ -2,7 +2,7 @@
 
 use std::time::Instant;
 
-const ROUNDS: usize = 21;
+const ROUNDS: usize = 2_000;
 
 /// Medians over the rounds, in nanoseconds for one piece of work.
 pub struct Times {
@@ -11,10 +11,17 @@ pub struct Times {
     pub ratio: f64,
 }
 
-fn time(work: &mut impl FnMut(), pieces: usize) -> f64 {
+impl Times {
+    /// The times of one of the `count` parts of a piece.
+    pub fn of(self, count: usize) -> Times {
+        Times { mine: self.mine / count as f64, theirs: self.theirs / count as f64, ..self }
+    }
+}
+
+fn time<T>(work: &mut impl FnMut(&[T]), pieces: &[T]) -> f64 {
     let from = Instant::now();
-    work();
-    from.elapsed().as_nanos() as f64 / pieces as f64
+    work(pieces);
+    from.elapsed().as_nanos() as f64 / pieces.len() as f64
 }
 
 fn median(mut values: Vec<f64>) -> f64 {
@@ -22,9 +29,13 @@ fn median(mut values: Vec<f64>) -> f64 {
     values[values.len() / 2]
 }
 
-/// Each round times the one and then the other, so that both meet the same noise; the first round only warms up.
-pub fn measure(pieces: usize, mut mine: impl FnMut(), mut theirs: impl FnMut()) -> Times {
-    let rounds: Vec<(f64, f64)> = (0..=ROUNDS).map(|_| (time(&mut mine, pieces), time(&mut theirs, pieces))).skip(1).collect();
+/// Does the work on `share` pieces a round, going through all of them again and again.
+///
+/// A round times the one and then the other, so that both meet the same noise, and is short, so that few are interrupted. There are
+/// many more pieces than a round takes, so that the processor learns none of them.
+pub fn measure<T>(all: &[T], share: usize, mut mine: impl FnMut(&[T]), mut theirs: impl FnMut(&[T])) -> Times {
+    let shares = all.chunks_exact(share).cycle().take(ROUNDS);
+    let rounds: Vec<(f64, f64)> = shares.map(|pieces| (time(&mut mine, pieces), time(&mut theirs, pieces))).collect();
     Times {
         mine: median(rounds.iter().map(|round| round.0).collect()),
         theirs: median(rounds.iter().map(|round| round.1).collect()),

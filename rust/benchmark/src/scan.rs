@@ -67,18 +67,13 @@ pub fn print() {
     let orders = orders();
     head("Who acknowledged at a view, in a record of 512", "statement");
     for (name, at) in [("one in sixteen did", View::new(0xff, 0)), ("nobody did", View::new(0xff, 0xff00))] {
-        let mine = |ids| signers(&words, black_box(ids), RECORD, 7, word(at));
-        let theirs = |ids| theirs(&record, black_box(ids), at);
+        let mine = |ids: &[u16; RECORD]| signers(&words, black_box(ids), RECORD, 7, word(at));
+        let theirs = |ids: &[u16; RECORD]| theirs(&record, black_box(ids), at);
         assert!(orders.iter().all(|ids| mine(ids) == theirs(ids)), "the scans differ");
-        let times = measure(
-            RECORD * ORDERS,
-            || {
-                black_box(orders.iter().fold(0, |set, ids| set ^ mine(ids)));
-            },
-            || {
-                black_box(orders.iter().fold(0, |set, ids| set ^ theirs(ids)));
-            },
-        );
-        row(name, &times);
+        let all = |scan: &dyn Fn(&[u16; RECORD]) -> u32, orders: &[[u16; RECORD]]| {
+            black_box(orders.iter().fold(0, |set, ids| set ^ scan(ids)));
+        };
+        let times = measure(&orders, 16, |orders| all(&mine, orders), |orders| all(&theirs, orders));
+        row(name, &times.of(RECORD));
     }
 }

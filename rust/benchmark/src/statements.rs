@@ -8,8 +8,7 @@ use reference::Statement;
 
 use crate::measure::{head, measure, row};
 
-const LINES: usize = 4_096;
-const REPEATS: usize = 8;
+const LINES: usize = 8_192;
 
 /// Lines that `keep` takes, of one damage after the other.
 fn lines(damages: &[Damage], keep: impl Fn(&[u8], Option<Statement>) -> bool) -> Vec<Vec<u8>> {
@@ -50,12 +49,7 @@ fn theirs(lines: &[Vec<u8>]) {
 fn compared(name: &str, lines: &[Vec<u8>]) {
     let bytes: usize = lines.iter().map(Vec::len).sum();
     let name = format!("{name} ({} bytes a line)", bytes / lines.len());
-    let times = measure(
-        lines.len() * REPEATS,
-        || (0..REPEATS).for_each(|_| mine(lines)),
-        || (0..REPEATS).for_each(|_| theirs(lines)),
-    );
-    row(&name, &times);
+    row(&name, &measure(lines, 64, mine, theirs));
 }
 
 pub fn print() {
