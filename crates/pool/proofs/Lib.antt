@@ -1,2 +1,4 @@
 pub mod Laws
 pub mod Records
+pub mod Searches
+pub mod Writes

@@ -41,6 +41,10 @@ stmtAt W n = record {
 unfoldable pub poolLen : List ℕ → ℕ
 poolLen W = min (getD W 16384 0) 512
 
+-- The pool's statements.
+unfoldable pub poolOf : List ℕ → List Stmt
+poolOf W = table (poolLen W) (stmtAt W)
+
 -- The record of the first len numbers. A length above 512 counts as 512.
 unfoldable pub recordOf : List ℕ → List ℕ → ℕ → List Stmt
 recordOf W ids len = table (min len 512) (λ i. stmtAt W (getD ids i 0))

@@ -1,13 +1,23 @@
 // The fields of statement n, and the number of statements.
 ghost use mathlib.Core.Path.{_≡_};
+ghost use mathlib.Core.Bool.{cond};
 ghost use Prim.Native.Nat.{_+_, _*_, _<_, _≤_, min};
+ghost use lib.ListN.{length};
 ghost use Rattle.protocol.specs.Statement.{Stmt};
 ghost use Rattle.views.specs.View.{viewOf};
 ghost use Rattle.pool.specs.Pool.{word, viewAt, stmtAt, countOf, poolLen};
 use crate::POOL_WORDS;
 
+// How many words the memory has. A proof that a word was written asks for it.
+pub fn size(words: &[u64; POOL_WORDS]) -> usize
+    ensures { λ r. ⌜ (r ≡ 16385) × (length (now (words .entry)) ≡ 16385) ⌝ }
+{
+    let s = &words[..];
+    s.len()
+}
+
 // Where statement n starts.
-fn start(n: u16) -> usize
+pub fn start(n: u16) -> usize
     ensures { λ r. ⌜ (r ≡ min n 511 * 32) × (r ≤ 16352) ⌝ }
 {
     if n < 511 {
@@ -57,6 +67,16 @@ fn capped(x: u64, most: u64) -> u64
         return x;
     }
     most
+}
+
+// 1 for true, 0 for false.
+pub fn flag(yes: bool) -> u64
+    ensures { λ r. ⌜ (r ≡ cond yes 1 0) × (r ≤ 1) ⌝ }
+{
+    if yes {
+        return 1;
+    }
+    0
 }
 
 pub fn binding(words: &[u64; POOL_WORDS], n: u16) -> u64

@@ -7,3 +7,4 @@ pub mod FieldLaws
 pub mod Fitting
 pub mod Laws
 pub mod Example
+pub mod Fits

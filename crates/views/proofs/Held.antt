@@ -91,6 +91,11 @@ unfolding table
 set-view l n v h =
     ap₂ (λ k u. k ++ (u ∷ [])) (table-cong n (heldAt (set l n v)) (heldAt l) (λ i m. ap viewIs (getD-set-other l n i v _ (λ e. omega arith)))) (ap viewIs (getD-set-same l n v _ h))
 
+-- an array that is filled place by place
+pub held-more : (l : List held.View) (n : ℕ) (v : held.View) (f : ℕ → View) → n < length l → table n (heldAt l) ≡ table n f → viewIs v ≡ f n → table (n + 1) (heldAt (set l n v)) ≡ table (n + 1) f
+unfolding table
+held-more l n v f h e q = rw add-one (set-view l n v h ∙ ap₂ (λ k u. k ++ (u ∷ [])) e q)
+
 pub cut-is : (l : List held.View) (n : ℕ) (v : held.View) (h : History) → length l ≡ 16 → n < 16 → h .views ≡ set l n v → h .len ≡ n + 1 → viewsIs h ≡ table n (heldAt l) ++ (viewIs v ∷ [])
 cut-is l n v h a b p q = sym (views-of h (suc n) (omega arith)) ∙ ap (λ k. table (suc n) (heldAt k)) p ∙ set-view l n v (omega arith)
 

@@ -1,6 +1,6 @@
 -- Laws of the groups: one entry more.
 -- Assumes nothing.
-use mathlib.Core.Path.{_≡_, refl, sym, ap, subst, _∙_}
+use mathlib.Core.Path.{_≡_, refl, sym, subst, _∙_}
 use mathlib.Core.Bool.{Bool, true, false}
 use mathlib.Core.List.{List}
 use Prim.Native.Nat.{ℕ, zero, suc, _+_, _≤_, _<_, min}
@@ -8,23 +8,23 @@ use native.Mathlib.Decide.{ℕ-discrete, decLt}
 use native.Mathlib.Numerals.{add-one}
 use native.Mathlib.Omega.{arith}
 use lib.Dec.{T}
-use lib.ListN.{length, getD, set, length-set}
+use lib.ListN.{getD, set, length-set}
 use lib.Seq.{getD-set-same, getD-set-other}
 use Rattle.protocol.specs.Statement.{Stmt}
 use Rattle.protocol.specs.Evidence.{signs}
 use Rattle.views.specs.Sets.{IsSet, Noted}
 use Rattle.views.proofs.Sets.{note-none}
 use Rattle.views.proofs.Views.{passes, fails}
-use Rattle.pool.specs.Pool.{stmtAt, recordOf}
+use Rattle.pool.specs.Pool.{recordOf}
 use Rattle.pool.proofs.Records.{whole, set-first, set-next}
 use Rattle.votes.specs.Votes.{isVote, alike, entry, Groups}
-use Rattle.votes.specs.Keys.{headOf, tailOf, Keyed, Place, Room, Sofar}
+use Rattle.votes.specs.Keys.{headOf, tailOf, Place, Room, Sofar}
 use Rattle.votes.proofs.Alike.{Alike, says-vote, says-alike, alike-vote, alike-self, alike-both, alike-turned}
 
-yes-T : {b : Bool} → b ≡ true → T b
+pub yes-T : {b : Bool} → b ≡ true → T b
 yes-T e = rw e tt
 
-no-T : {b : Bool} → b ≡ false → T b → ⊥
+pub no-T : {b : Bool} → b ≡ false → T b → ⊥
 no-T e t = rw e at t
 
 module _ (W ids : List ℕ) where
@@ -150,7 +150,7 @@ module _ (W ids : List ℕ) where
           oldF h = getD-set-other F n h i 0
 
           fresh : (h : ℕ) → h < n → alike (group F h) (entry W ids i) ≡ false
-          fresh h l = at .none h (omega (arith, at .most))
+          fresh h l = at .none (omega (arith, at .most)) h l
 
           strange : (h : ℕ) → h < n → Alike (group F h) (entry W ids i) → ⊥
           strange h l al = no-T (fresh h l) (says-alike (group F h) (entry W ids i) .complete al)

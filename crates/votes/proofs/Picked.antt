@@ -1,18 +1,18 @@
 -- Laws of the groups that go into the tables: the tests of one group, and one group more.
 -- Assumes nothing.
 use mathlib.Core.Path.{_≡_, refl, sym, ap, ap₂, _∙_}
-use mathlib.Core.Bool.{Bool, true, false, not, _&&_, _||_, or-false}
+use mathlib.Core.Bool.{Bool, true, false, not, _&&_, or-false}
 use mathlib.Core.List.{List}
-use Prim.Native.Nat.{ℕ, suc, _+_, _≤_, _<_}
+use Prim.Native.Nat.{ℕ, _+_, _≤_, _<_}
 use native.Mathlib.Decide.{ℕ-discrete, decLt}
 use native.Mathlib.Omega.{arith}
-use lib.Dec.{T, eqb}
+use lib.Dec.{T}
 use lib.ListN.{length, getD, set}
 use lib.Seq.{getD-set-same, getD-set-other}
 use borrow.Author.Tests.{eq-eqb, ne-eqb}
 use Rattle.protocol.specs.Sets.{bit}
 use Rattle.protocol.specs.Lists.{any}
-use Rattle.protocol.specs.View.{View, Ring, sameView, hasMembers, within, below}
+use Rattle.protocol.specs.View.{View, sameView, hasMembers, within, below}
 use Rattle.protocol.specs.History.{top, isHistory}
 use Rattle.protocol.specs.Statement.{Stmt, isKind, agreesView, agreesHistory, acks, stores}
 use Rattle.protocol.specs.Evidence.{signs, wished, signedByQuorum}
@@ -22,6 +22,7 @@ use Rattle.views.proofs.Views.{signed-by-set, same-yes, same-no, view-inj}
 use Rattle.votes.specs.Votes.{alike, entry}
 use Rattle.votes.specs.Tables.{low, high}
 use Rattle.votes.specs.Chosen.{choiceBy, agreementBy, isChoice, isAgreement, Picked, ChoiceRow, AgreementRow}
+use Rattle.votes.proofs.Gathered.{yes-T, no-T}
 
 -- ---- five tests in a row
 
@@ -112,12 +113,6 @@ module _ (init : ℕ) (X : List Stmt) (s : Stmt) (seen : ℕ) (by : IsSet seen (
 module _ (P : ℕ → Bool) where
   pub picked-first : (Row : ℕ → ℕ → Type 0) → Picked P Row 0 0
   picked-first Row = record { fewer = omega arith; sound = λ c l. absurd (omega arith); complete = λ g l. absurd (omega arith) }
-
-  no-T : {b : Bool} → b ≡ false → T b → ⊥
-  no-T e t = rw e at t
-
-  yes-T : {b : Bool} → b ≡ true → T b
-  yes-T e = rw e tt
 
   pub picked-skip : {Row : ℕ → ℕ → Type 0} {n m : ℕ} (r : Bool) → r ≡ P n → r ≡ false → Picked P Row n m → Picked P Row (n + 1) m
   picked-skip {Row} {n} {m} r e f p = record {

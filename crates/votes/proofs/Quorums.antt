@@ -1,29 +1,28 @@
 -- Quorums by groups: a quorum signed a vote just where the group of that vote has one.
 -- Assumes nothing.
-use mathlib.Core.Path.{_≡_, refl, sym, ap, ap₂, subst, _∙_}
+use mathlib.Core.Path.{_≡_, refl, sym, ap₂, subst, _∙_}
 use mathlib.Core.Logic.{inl, inr}
 use mathlib.Core.Bool.{Bool, _&&_}
 use mathlib.Core.List.{List}
-use Prim.Native.Nat.{ℕ, _<_, min}
-use lib.Dec.{T, eqb}
+use Prim.Native.Nat.{ℕ, _<_}
+use lib.Dec.{T}
 use lib.ListN.{getD}
 use Rattle.protocol.specs.Sets.{bit}
-use Rattle.protocol.specs.Lists.{_∈_, any}
-use Rattle.protocol.specs.View.{View, Ring}
+use Rattle.protocol.specs.Lists.{any}
+use Rattle.protocol.specs.View.{View}
 use Rattle.protocol.specs.History.{top}
-use Rattle.protocol.specs.Statement.{Stmt, isKind, agreesView, agreesHistory, acks, stores, Signed}
+use Rattle.protocol.specs.Statement.{Stmt, agreesView, agreesHistory, acks, stores, Signed}
 use Rattle.protocol.specs.Evidence.{Quorum, sealed, signedByQuorum, named, atSealedTop}
-use Rattle.protocol.specs.Grounds.{isTop}
 use Rattle.protocol.proofs.Says.{Says, says-map, says-unique, says-self, says-and, says-any, says-eqb}
 use Rattle.protocol.proofs.Quorums.{someone}
 use Rattle.protocol.proofs.Decided.{says-same, says-sames, says-kind, says-shown, says-backed, listed}
 use Rattle.protocol.proofs.Grounds.{Top, says-top}
-use Rattle.views.specs.View.{viewOf, quorumHas, ring}
+use Rattle.views.specs.View.{quorumHas, ring}
 use Rattle.pool.specs.Pool.{recordOf}
 use Rattle.votes.specs.Votes.{isVote, alike, entry, Groups}
 use Rattle.votes.specs.Tables.{upTo}
 use Rattle.votes.specs.Chosen.{topSigned}
-use Rattle.votes.proofs.Alike.{Alike, says-vote, says-alike, alike-turned}
+use Rattle.votes.proofs.Alike.{says-vote, says-alike, alike-turned}
 use Rattle.votes.proofs.Picked.{alike-view, alike-history, alike-ack, alike-store, signed-as}
 use Rattle.votes.proofs.Tabled.{says-table, says-record}
 

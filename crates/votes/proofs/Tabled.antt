@@ -1,8 +1,8 @@
 -- The tables are right: what the choices and agreements of a record show.
 -- Assumes nothing.
 use mathlib.Core.Path.{_≡_, refl, sym, ap, subst, _∙_}
-use mathlib.Core.Logic.{_≢_, _⊎_, inl, inr}
-use mathlib.Core.Bool.{Bool, true, false, not, _&&_, _||_}
+use mathlib.Core.Logic.{_⊎_, inl, inr}
+use mathlib.Core.Bool.{Bool, not, _||_}
 use mathlib.Core.List.{List, [], _∷_}
 use Prim.Native.Nat.{ℕ, zero, suc, _≤_, _<_, min}
 use native.Mathlib.Decide.{decLt}
@@ -11,9 +11,9 @@ use lib.Dec.{T, eqb}
 use lib.ListN.{getD}
 use Rattle.protocol.specs.Lists.{_∈_, any, all}
 use Rattle.protocol.specs.View.{View, Ring, sameView, hasMembers, within, below, size, Below}
-use Rattle.protocol.specs.History.{sameViews, last, top, isHistory, History}
+use Rattle.protocol.specs.History.{last, top, isHistory, History}
 use Rattle.protocol.specs.Statement.{Stmt, isKind, agreesView, agreesHistory}
-use Rattle.protocol.specs.Evidence.{candidate, sealed, Shown, start, wished, signedByQuorum, isCandidate, isSealed}
+use Rattle.protocol.specs.Evidence.{candidate, sealed, start, wished, signedByQuorum, isCandidate, isSealed}
 use Rattle.protocol.specs.Grounds.{isTop, chooses, seals, candidateBy, sealedBy}
 use Rattle.protocol.proofs.Says.{Says, says-map, says-unique, says-self, says-and, says-or, says-not, says-eqb}
 use Rattle.protocol.proofs.Histories.{rises}
@@ -24,9 +24,9 @@ use Rattle.views.specs.View.{viewOf, ring}
 use Rattle.views.proofs.Tables.{any-suc}
 use Rattle.views.proofs.Views.{view-inj}
 use Rattle.pool.specs.Pool.{stmtAt, recordOf}
-use Rattle.votes.specs.Votes.{isVote, alike, entry, Groups}
+use Rattle.votes.specs.Votes.{isVote, entry, Groups}
 use Rattle.votes.specs.Tables.{low, high, upTo, gives, sealsAt, ends, sealsAs, Tables}
-use Rattle.votes.specs.Chosen.{isChoice, isAgreement, Picked, ChoiceRow, AgreementRow, Choices, Agreements}
+use Rattle.votes.specs.Chosen.{isChoice, isAgreement, Choices, Agreements}
 use Rattle.votes.proofs.Alike.{Alike, says-vote, says-alike}
 
 -- ---- tests of lists by index

@@ -3,7 +3,7 @@
 use mathlib.Core.Path.{_≡_, ap, ap₂, _∙_}
 use mathlib.Core.Bool.{_&&_, _||_}
 use mathlib.Core.List.{List}
-use Prim.Native.Nat.{ℕ, _+_, _*_, _/_, _%_, _<_}
+use Prim.Native.Nat.{ℕ, _+_, _*_, _/_, _%_, _<_, min}
 use native.Mathlib.Omega.{arith}
 use lib.Bits.{bitAnd, and-lt}
 use Rattle.protocol.specs.Sets.{bit}
@@ -13,6 +13,8 @@ use Rattle.protocol.proofs.Bits.{bit-and, bit-or}
 use Rattle.views.specs.Sets.{IsSet, Joined}
 use Rattle.views.specs.View.{viewOf, ring}
 use Rattle.views.proofs.Sets.{set-is}
+use Rattle.pool.specs.Pool.{recordOf}
+use Rattle.pool.proofs.Records.{set-whole}
 
 module _ (init : ℕ) (X : List Stmt) where
   joined-is : (j r : ℕ) → IsSet j (signs (isKind 1) X) → Joined (init % 65536) j r → IsSet r (joinedBy (ring init) X)
@@ -51,3 +53,8 @@ module _ (init : ℕ) (X : List Stmt) where
 
   pub wish-is : (a b j l : ℕ) → init < 4294967296 → Wish a b j l → viewOf (j + l * 65536) ≡ wished (ring init) X
   wish-is a b j l h w = let s = joined-is a j (w .joins) (w .joined) in sets-are j l s (left-is j b l h s (w .leaves) (w .left))
+
+-- the sets that a loop over a whole record leaves
+pub wish-of : (init : ℕ) (W ids : List ℕ) (len i end a b j l : ℕ) → i ≡ end → end ≡ min len 512 → IsSet a (signs (isKind 1) (recordOf W ids i)) → IsSet b (signs (isKind 2) (recordOf W ids i))
+    → Joined (init % 65536) a j → Joined (init / 65536) (bitAnd j b) l → Wish init (recordOf W ids len) a b j l
+wish-of init W ids len i end a b j l e f s t p q = record { joins = set-whole W ids (isKind 1) len i a end e f s; leaves = set-whole W ids (isKind 2) len i b end e f t; joined = p; left = q }

@@ -49,7 +49,7 @@ pub record Keyed (W ids K L F : List ℕ) (n : ℕ) : Type 0 where
 -- r is the group of statement s, or n.
 pub record Place (W ids F : List ℕ) (n s r : ℕ) : Type 0 where
   pub most : r ≤ n
-  pub none : (g : ℕ) → g < r → alike (entry W ids (getD F g 0)) (stmtAt W s) ≡ false
+  pub none : r ≡ n → (g : ℕ) → g < n → alike (entry W ids (getD F g 0)) (stmtAt W s) ≡ false
   pub here : r < n → alike (entry W ids (getD F r 0)) (stmtAt W s) ≡ true
 
 -- Four arrays of 512.

@@ -72,6 +72,7 @@ pub fn choices(
     requires { ⌜ Groups (now words) (now ids) len (now first) (now seen) n × (viewOf wish ≡ wished (ring init) (recordOf (now words) (now ids) len)) ⌝ }
     ensures { λ r. ⌜ Choices (now (words .entry)) (now (ids .entry)) len init (now (first .entry)) n (now (chosen .exit)) r ⌝ }
 {
+    // What was in the array before does not matter.
     *chosen = [0u64; 512];
     let mut c = 0usize;
     let mut g = 0usize;
@@ -104,6 +105,7 @@ pub fn agreements(
     requires { ⌜ Groups (now words) (now ids) len (now first) (now seen) n ⌝ }
     ensures { λ r. ⌜ Agreements (now (words .entry)) (now (ids .entry)) len init (now (first .entry)) n (now (agreed .exit)) (now (entry .exit)) r ⌝ }
 {
+    // What was in the arrays before does not matter.
     *agreed = [0u64; 512];
     *entry = [0u16; 512];
     let mut a = 0usize;

@@ -5,7 +5,7 @@ ghost use Rattle.votes.specs.Keys.{Key, Keyed, Place, Room, Sofar};
 use crate::keys;
 use pool::POOL_WORDS;
 
-// The group of statement s among the first n, or n. The words of s come with it.
+// The group of statement s, whose words are given, or n. The newest groups come first, since most votes follow others like them.
 fn find(
     words: &[u64; POOL_WORDS],
     ids: &[u16; 512],
@@ -20,23 +20,21 @@ fn find(
     requires { ⌜ (n ≤ 512) × Keyed (now words) (now ids) (now heads) (now tails) (now first) n × Key (now words) s head tail ⌝ }
     ensures { λ r. ⌜ Place (now (words .entry)) (now (ids .entry)) (now (first .entry)) n s r ⌝ }
 {
-    let mut g = 0usize;
-    while g < n {
+    let mut g = n;
+    while g > 0 {
+        g -= 1;
         if tails[g] != tail {
-            g += 1;
             continue;
         }
         if heads[g] != head {
-            g += 1;
             continue;
         }
         let f = first[g] as usize;
         if keys::same_names(words, ids[f], s) {
             return g;
         }
-        g += 1;
     }
-    g
+    n
 }
 
 // Puts entry i into its group if it is a vote. Returns how many groups there are then.
@@ -108,6 +106,7 @@ pub fn gather(
 {
     let mut heads = [0u64; 512];
     let mut tails = [0u64; 512];
+    // What was in the arrays before does not matter.
     *first = [0u16; 512];
     *seen = [0u32; 512];
     gather_in(words, ids, len, &mut heads, &mut tails, first, seen)

@@ -7,8 +7,8 @@ use Rattle.protocol.specs.Statement.{isKind}
 use Rattle.protocol.specs.Evidence.{signs}
 use Rattle.views.specs.Sets.{IsSet}
 use Rattle.pool.specs.Pool.{recordOf}
-use Rattle.pool.proofs.Records.{set-first, set-next, set-whole}
-use Rattle.votes.proofs.Wished.{Wish, wish-small, wish-is}
+use Rattle.pool.proofs.Records.{set-first, set-next}
+use Rattle.votes.proofs.Wished.{wish-small, wish-is, wish-of}
 use Rattle.votes.proofs.wish.wished_view.Statement.{statement}
 use Rattle.votes.proofs.wish.wished_view.Tie as tie
 use Rattle.votes.proofs.wish.wished_view.Reads as reads
@@ -49,6 +49,6 @@ wished-view-spec =
     loop-again
     (λ c κs. search needs)
     (λ c κs. search needs)
-    (λ c. omega (arith, wish-small _ (recordOf (c .before .before .before .before .before .args .words .now) (c .before .before .before .before .before .args .ids .now) (c .before .before .before .before .before .args .len)) _ _ _ _ (omega arith) record { joins = set-whole _ _ _ _ _ _ _ (omega arith) (c .before .before .before .before .limit .ensures .0) (c .before .before .before .loop .inv .1); leaves = set-whole _ _ _ _ _ _ _ (omega arith) (c .before .before .before .before .limit .ensures .0) (c .before .before .before .loop .inv .2); joined = c .before .union .ensures; left = c .union2 .ensures }))
-    (λ c. omega (arith, wish-small _ (recordOf (c .before .before .before .before .before .args .words .now) (c .before .before .before .before .before .args .ids .now) (c .before .before .before .before .before .args .len)) _ _ _ _ (omega arith) record { joins = set-whole _ _ _ _ _ _ _ (omega arith) (c .before .before .before .before .limit .ensures .0) (c .before .before .before .loop .inv .1); leaves = set-whole _ _ _ _ _ _ _ (omega arith) (c .before .before .before .before .limit .ensures .0) (c .before .before .before .loop .inv .2); joined = c .before .union .ensures; left = c .union2 .ensures }))
-    (λ c. wish-is _ _ _ _ _ _ (omega arith) record { joins = set-whole _ _ _ _ _ _ _ (omega arith) (c .before .before .before .before .limit .ensures .0) (c .before .before .before .loop .inv .1); leaves = set-whole _ _ _ _ _ _ _ (omega arith) (c .before .before .before .before .limit .ensures .0) (c .before .before .before .loop .inv .2); joined = c .before .union .ensures; left = c .union2 .ensures }))
+    (λ c. omega (arith, wish-small _ (recordOf (c .before .before .before .before .before .args .words .now) (c .before .before .before .before .before .args .ids .now) (c .before .before .before .before .before .args .len)) _ _ _ _ (omega arith) (wish-of _ _ _ _ _ _ _ _ _ _ (omega arith) (c .before .before .before .before .limit .ensures .0) (c .before .before .before .loop .inv .1) (c .before .before .before .loop .inv .2) (c .before .union .ensures) (c .union2 .ensures))))
+    (λ c. omega (arith, wish-small _ (recordOf (c .before .before .before .before .before .args .words .now) (c .before .before .before .before .before .args .ids .now) (c .before .before .before .before .before .args .len)) _ _ _ _ (omega arith) (wish-of _ _ _ _ _ _ _ _ _ _ (omega arith) (c .before .before .before .before .limit .ensures .0) (c .before .before .before .loop .inv .1) (c .before .before .before .loop .inv .2) (c .before .union .ensures) (c .union2 .ensures))))
+    (λ c. wish-is _ _ _ _ _ _ (omega arith) (wish-of _ _ _ _ _ _ _ _ _ _ (omega arith) (c .before .before .before .before .limit .ensures .0) (c .before .before .before .loop .inv .1) (c .before .before .before .loop .inv .2) (c .before .union .ensures) (c .union2 .ensures))))

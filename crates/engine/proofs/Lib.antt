@@ -1,0 +1,4 @@
+pub mod Requests
+pub mod Pools
+pub mod Keeps
+pub mod Performs

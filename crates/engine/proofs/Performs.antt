@@ -1,0 +1,234 @@
+-- What the ways in which a turn ends come to.
+-- Assumes nothing.
+use mathlib.Core.Path.{_≡_, refl, sym, ap, ap₂, subst, _∙_}
+use mathlib.Core.Bool.{Bool, true, false, not}
+use mathlib.Core.List.{List, [], _∷_, _++_}
+use mathlib.Core.Option.{Option, some, none}
+use Prim.Native.Nat.{ℕ, _≤_}
+use native.Mathlib.Omega.{arith}
+use lib.Dec.{T}
+use Rattle.protocol.specs.Sets.{bit}
+use Rattle.protocol.specs.Lists.{if_then_else_, any}
+use Rattle.protocol.specs.View.{View}
+use Rattle.protocol.specs.Statement.{Stmt, sameStmt, fieldRules}
+use Rattle.protocol.specs.Controller as controller
+use Rattle.protocol.specs.Call as call
+use Rattle.protocol.specs.Pool.{numberOf, hasRoom}
+use Rattle.protocol.specs.Turn as turn
+use Rattle.views.specs.Held.{viewIs, viewsIs}
+use Rattle.views.specs.declared.View as held
+use Rattle.views.specs.declared.History.{History}
+use Rattle.statements.specs.declared.Binding.{Binding}
+use Rattle.statements.specs.declared.Binding.the-variants.{Bound}
+use Rattle.statements.specs.declared.Statement.{Statement}
+use Rattle.statements.specs.Meaning.{stmtOf, bindingIs}
+use Rattle.statements.proofs.FieldLaws.{views-length}
+use Rattle.statements.proofs.Fits.{keeps-fits}
+use Rattle.pool.specs.declared.Record.{Record}
+use Rattle.pool.specs.Pool.{stmtAt, recordOf}
+use Rattle.engine.specs.declared.Controller.{Controller}
+use Rattle.engine.specs.declared.Outcome.{Outcome}
+use Rattle.engine.specs.declared.keep.Kept.{Kept}
+use Rattle.engine.specs.declared.Deed.{Deed}
+use Rattle.engine.specs.declared.Deed.the-variants.{Rest, Sign, Bind, Enter, Deliver}
+use Rattle.engine.specs.declared.Answer.the-variants.{Taken, Signed, Entered, Delivered, Refused}
+use Rattle.engine.specs.declared.Refusal.{Refusal}
+use Rattle.engine.specs.declared.Refusal.the-variants.{BadStatement, Repeated, Full, OutOfPlace}
+use Rattle.engine.specs.Meaning.{controllerIs, withStatements, recordIs, poolIs, AllIn, Whole, answerIs, refusalIs, stepIs}
+use Rattle.engine.specs.Promise.{Meets, IsRefused, Turns, Adds, Placed, restIs, signedOf, addedOf}
+
+-- ---- the controller's fields
+
+number-is : (c : Controller) → controllerIs c .number ≡ c .number
+unfolding controllerIs
+number-is c = refl
+
+-- ---- the pool stays as it was
+
+module _ (W : List ℕ) (c : Controller) (r : Outcome) (d : controller.Controller) (a : controller.Answer) (e : answerIs W (r .answer) ≡ a) (f : controllerIs (r .controller) ≡ d)
+    (k : r .controller .statements ≡ c .statements) (unsigned : (s : Stmt) → a ≡ controller.signed s → ⊥) (same : IsRefused a → r .controller ≡ c) where
+  settled : Meets W c (record { answer = a; controller = d; statements = recordIs W c }) none r W
+  unfolding recordIs Whole
+  settled = record {
+    answer = e;
+    number = λ s q. absurd (unsigned s q);
+    controller = f;
+    statements = λ w. (ap (λ x. recordOf W (x .ids) (x .len)) k, subst (AllIn W) (sym k) w);
+    pool = refl;
+    refused = λ t. (same t, refl);
+  }
+
+pub refused-turn : (W : List ℕ) (c : Controller) (r : Outcome) (q : Refusal) → r .answer ≡ Refused q → r .controller ≡ c → Meets W c (call.refuse (controllerIs c) (recordIs W c) (refusalIs q)) none r W
+unfolding answerIs
+refused-turn W c r q e h =
+    settled W c r (controllerIs c) (controller.refused (refusalIs q)) (ap (answerIs W) e) (ap controllerIs h) (ap (λ x. x .statements) h) (λ s p. let z : _≡_ {A = ℕ} 0 1 = cc in omega arith) (λ t. h)
+
+-- ---- a statement is signed
+
+-- the controller with another binding
+abbrev pub boundTo : Controller → Binding → Controller
+boundTo c b = record {
+  ready = c .ready;
+  number = c .number;
+  init = c .init;
+  sender = c .sender;
+  entered = c .entered;
+  binding = b;
+  delivered = c .delivered;
+  joining = c .joining;
+  leaving = c .leaving;
+  sending = c .sending;
+  statements = c .statements;
+}
+
+is-full : (b ok : Bool) → ok ≡ not b → ok ≡ false → b ≡ true
+is-full true ok e f = refl
+is-full false ok e f = absurd (subst T (sym e ∙ f) tt)
+
+not-full : (b ok : Bool) → ok ≡ not b → ok ≡ true → b ≡ false
+not-full true ok e f = absurd (subst T (sym f ∙ e) tt)
+not-full false ok e f = refl
+
+module _ (W W′ : List ℕ) (c : Controller) (s : Stmt) (k : Kept) (p : Placed W c s k W′) where
+  pub full-is : k .ok ≡ false → call.isFull (hasRoom (poolIs W)) (recordIs W c) s ≡ true
+  full-is e = is-full (call.isFull (hasRoom (poolIs W)) (recordIs W c) s) (k .ok) (p .room) e
+
+  pub room-is : k .ok ≡ true → call.isFull (hasRoom (poolIs W)) (recordIs W c) s ≡ false
+  room-is e = not-full (call.isFull (hasRoom (poolIs W)) (recordIs W c) s) (k .ok) (p .room) e
+
+  pub sign-full : (after : controller.Controller) (r : Outcome) → k .ok ≡ false → r .answer ≡ Refused Full → r .controller ≡ c
+      → Turns W c (turn.signing (controllerIs c) (recordIs W c) (hasRoom (poolIs W)) after s) r W′
+  unfolding turn.signing
+  sign-full after r e a h = rw (full-is e) (subst (λ (U : List ℕ). Meets W c (call.refuse (controllerIs c) (recordIs W c) controller.full) none r U) (sym (p .unplaced e)) (refused-turn W c r Full a h))
+
+  kept-meaning : k .ok ≡ true → controllerIs (k .controller) ≡ controllerIs c
+  unfolding controllerIs
+  kept-meaning e = ap controllerIs (p .controller e)
+
+  bound-meaning : (b : Binding) → k .ok ≡ true → controllerIs (boundTo (k .controller) b) ≡ controller.withBinding (bindingIs b) (controllerIs c)
+  unfolding controllerIs
+  bound-meaning b e = ap (λ x. controller.withBinding (bindingIs b) x) (kept-meaning e)
+
+  pub sign-kept : (b : Binding) (r : Outcome) → k .ok ≡ true → r .answer ≡ Signed (k .number) → r .controller ≡ boundTo (k .controller) b
+      → Turns W c (turn.signing (controllerIs c) (recordIs W c) (hasRoom (poolIs W)) (controller.withBinding (bindingIs b) (controllerIs c)) s) r W′
+  unfolding turn.signing answerIs Whole recordIs
+  sign-kept b r e a h = rw (room-is e) (record {
+    answer = ap (answerIs W′) a ∙ ap controller.signed (p .number e .1);
+    number = λ x q. let y : s ≡ x = cc in a ∙ ap Signed (p .number e .0 ∙ ap (λ z. numberOf z (poolIs W)) y);
+    controller = ap controllerIs h ∙ bound-meaning b e;
+    statements = λ w. let (q, i) = p .statements e w in (ap (recordIs W′) h ∙ q, subst (λ (x : Controller). AllIn W′ (x .statements)) (sym h) i);
+    pool = p .pool e;
+    refused = λ t. absurd t;
+  })
+
+-- ---- a view is entered, a payload delivered
+
+pub entering : (c : Controller) (v : held.View) (b : Binding) (h : History) (d : List View) → viewsIs h ≡ d
+    → controllerIs (record {
+      ready = c .ready;
+      number = c .number;
+      init = c .init;
+      sender = c .sender;
+      entered = h;
+      binding = b;
+      delivered = c .delivered;
+      joining = c .joining;
+      leaving = c .leaving;
+      sending = c .sending;
+      statements = c .statements;
+    }) ≡ controller.withEntered d (controller.withBinding (bindingIs b) (controllerIs c))
+unfolding controllerIs
+entering c v b h d e = rw e
+
+-- ---- each deed
+
+module _ (W : List ℕ) (c : Controller) (a : Deed) (st : Stmt) (r : Outcome) where
+  pub rest-is : (gone : Bool) → a ≡ Rest → gone ≡ bit (turn.T (controllerIs c) (recordIs W c) .left) (c .number) → r .answer ≡ restIs gone → r .controller ≡ c
+      → Turns W c (turn.perform (controllerIs c) (recordIs W c) (hasRoom (poolIs W)) (stepIs a st)) r W
+  unfolding turn.perform stepIs answerIs
+  rest-is gone d g e h = rw d (go gone _ (g ∙ ap (bit (turn.T (controllerIs c) (recordIs W c) .left)) (sym (number-is c))) e)
+    where
+      go : (b x : Bool) → b ≡ x → r .answer ≡ restIs b → Turns W c (record { answer = if x then controller.left else controller.quiet; controller = controllerIs c; statements = recordIs W c }) r W
+      go true true g e = settled W c r (controllerIs c) controller.left (ap (answerIs W) e) (ap controllerIs h) (ap (λ x. x .statements) h) (λ s p. let z : _≡_ {A = ℕ} 0 1 = cc in omega arith) (λ t. absurd t)
+      go false false g e = settled W c r (controllerIs c) controller.quiet (ap (answerIs W) e) (ap controllerIs h) (ap (λ x. x .statements) h) (λ s p. let z : _≡_ {A = ℕ} 0 1 = cc in omega arith) (λ t. absurd t)
+      go true false g e = absurd (subst T g tt)
+      go false true g e = absurd (subst T (sym g) tt)
+
+  pub enter-is : (v : held.View) (b : Binding) → a ≡ Enter v b → r .answer ≡ Entered v
+      → controllerIs (r .controller) ≡ controller.withEntered (turn.enteredAfter (viewIs v) (viewsIs (c .entered))) (controller.withBinding (bindingIs b) (controllerIs c))
+      → r .controller .statements ≡ c .statements
+      → Turns W c (turn.perform (controllerIs c) (recordIs W c) (hasRoom (poolIs W)) (stepIs a st)) r W
+  unfolding turn.perform stepIs answerIs controllerIs
+  enter-is v b d e f k = rw d (settled W c r _ (controller.entered (viewIs v)) (ap (answerIs W) e) f k (λ s p. let z : _≡_ {A = ℕ} 0 1 = cc in omega arith) (λ t. absurd t))
+
+  pub deliver-is : (m : ℕ) → a ≡ Deliver m → r .answer ≡ Delivered m → controllerIs (r .controller) ≡ controller.withDelivered (controllerIs c) → r .controller .statements ≡ c .statements
+      → Turns W c (turn.perform (controllerIs c) (recordIs W c) (hasRoom (poolIs W)) (stepIs a st)) r W
+  unfolding turn.perform stepIs answerIs
+  deliver-is m d e f k = rw d (settled W c r (controller.withDelivered (controllerIs c)) (controller.delivered m) (ap (answerIs W) e) f k (λ s p. let z : _≡_ {A = ℕ} 0 1 = cc in omega arith) (λ t. absurd t))
+
+module _ (W W′ : List ℕ) (c : Controller) (a : Deed) (st : Stmt) (r : Outcome) where
+  pub sign-is : a ≡ Sign → Turns W c (turn.signing (controllerIs c) (recordIs W c) (hasRoom (poolIs W)) (controller.withBinding (bindingIs (c .binding)) (controllerIs c)) st) r W′
+      → Turns W c (turn.perform (controllerIs c) (recordIs W c) (hasRoom (poolIs W)) (stepIs a st)) r W′
+  unfolding turn.perform stepIs controllerIs
+  sign-is d t = rw d t
+
+  pub bind-is : (m : ℕ) → a ≡ Bind m → Turns W c (turn.signing (controllerIs c) (recordIs W c) (hasRoom (poolIs W)) (controller.withBinding (bindingIs (Bound m)) (controllerIs c)) st) r W′
+      → Turns W c (turn.perform (controllerIs c) (recordIs W c) (hasRoom (poolIs W)) (stepIs a st)) r W′
+  unfolding turn.perform stepIs
+  bind-is m d t = rw d t
+
+-- ---- additions
+
+module _ (c : Controller) (X : List Stmt) (room : Stmt → Bool) (s : Stmt) where
+  pub unready-is : c .ready ≡ false → call.add (controllerIs c) X room s ≡ call.refuse (controllerIs c) X controller.outOfPlace
+  unfolding call.add controllerIs
+  unready-is e = rw e
+
+  pub bad-is : c .ready ≡ true → fieldRules 16 s ≡ false → call.add (controllerIs c) X room s ≡ call.refuse (controllerIs c) X controller.badStatement
+  unfolding call.add controllerIs
+  bad-is e f = rw (e, f)
+
+  pub again-is : c .ready ≡ true → fieldRules 16 s ≡ true → any (sameStmt s) X ≡ true → call.add (controllerIs c) X room s ≡ call.refuse (controllerIs c) X controller.repeated
+  unfolding call.add controllerIs
+  again-is e f g = rw (e, f, g)
+
+  pub no-room-is : c .ready ≡ true → fieldRules 16 s ≡ true → any (sameStmt s) X ≡ false → call.isFull room X s ≡ true → call.add (controllerIs c) X room s ≡ call.refuse (controllerIs c) X controller.full
+  unfolding call.add controllerIs
+  no-room-is e f g h = rw (e, f, g, h)
+
+  pub taken-is : c .ready ≡ true → fieldRules 16 s ≡ true → any (sameStmt s) X ≡ false → call.isFull room X s ≡ false
+      → call.add (controllerIs c) X room s ≡ record { answer = controller.taken; controller = controllerIs c; statements = X ++ (s ∷ []) }
+  unfolding call.add controllerIs
+  taken-is e f g h = rw (e, f, g, h)
+
+module _ (W : List ℕ) (c : Controller) (s : Stmt) where
+  abbrev pub added : controller.Outcome
+  added = call.add (controllerIs c) (recordIs W c) (hasRoom (poolIs W)) s
+
+  -- an addition that is refused for q
+  pub add-refused : (r : Outcome) (q : Refusal) → added ≡ call.refuse (controllerIs c) (recordIs W c) (refusalIs q) → r .answer ≡ Refused q → r .controller ≡ c → Adds W c s added r W
+  add-refused r q e a h = subst (λ o. Adds W c s o r W) (sym e) (refused-turn W c r q a h)
+
+module _ (W W′ : List ℕ) (c : Controller) (s : Stmt) (x : Kept) (pl : Placed W c s x W′) where
+  pub add-full : (r : Outcome) → added W c s ≡ call.refuse (controllerIs c) (recordIs W c) controller.full → x .ok ≡ false → r .answer ≡ Refused Full → r .controller ≡ c → Adds W c s (added W c s) r W′
+  add-full r e n a h = subst (λ (U : List ℕ). Adds W c s (added W c s) r U) (sym (pl .unplaced n)) (add-refused W c s r Full e a h)
+
+  taken-meets : (r : Outcome) → x .ok ≡ true → r .answer ≡ Taken → r .controller ≡ x .controller
+      → Meets W c (record { answer = controller.taken; controller = controllerIs c; statements = recordIs W c ++ (s ∷ []) }) (some s) r W′
+  unfolding answerIs Whole recordIs
+  taken-meets r n a h = record {
+    answer = ap (answerIs W′) a;
+    number = λ y z. let t : _≡_ {A = ℕ} 0 1 = cc in absurd (omega arith);
+    controller = ap controllerIs h ∙ kept-meaning W W′ c s x pl n;
+    statements = λ w. let (t, i) = pl .statements n w in (ap (recordIs W′) h ∙ t, subst (λ (y : Controller). AllIn W′ (y .statements)) (sym h) i);
+    pool = pl .pool n;
+    refused = λ t. absurd t;
+  }
+
+  pub add-kept : (r : Outcome) → added W c s ≡ record { answer = controller.taken; controller = controllerIs c; statements = recordIs W c ++ (s ∷ []) }
+      → x .ok ≡ true → r .answer ≡ Taken → r .controller ≡ x .controller → Adds W c s (added W c s) r W′
+  add-kept r e n a h = subst (λ o. Adds W c s o r W′) (sym e) (taken-meets r n a h)
+
+pub short-by-rules : (st : Statement) (b : Bool) → b ≡ fieldRules 16 (stmtOf st) → b ≡ true → st .history .len ≤ 16
+unfolding stmtOf
+short-by-rules st b e f = omega (arith, keeps-fits (stmtOf st) (subst T (sym (sym e ∙ f)) tt) .count, views-length (st .history .len) (st .history .views))

@@ -1,0 +1,252 @@
+-- What the calls that do not touch the pool come to.
+-- Assumes nothing.
+use mathlib.Core.Path.{_≡_, refl, sym, ap, ap₂, subst, _∙_}
+use mathlib.Core.Bool.{Bool, true, false, not, _&&_, _||_}
+use mathlib.Core.List.{List, [], _∷_, _++_}
+use mathlib.Core.Option.{none}
+use Prim.Native.Nat.{ℕ, _+_, _^_, _≤_, _<_, min}
+use native.Mathlib.Omega.{arith}
+use lib.Dec.{eqb, ltb}
+use lib.ListN.{length, replicate}
+use borrow.Author.Tests.{eq-eqb, ne-eqb, lt-ltb, le-ltb}
+use Rattle.protocol.specs.Sets.{bit}
+use Rattle.protocol.specs.Lists.{if_then_else_, isSome}
+use Rattle.protocol.specs.View.{View, member}
+use Rattle.protocol.specs.Statement.{Stmt}
+use Rattle.protocol.specs.Controller as controller
+use Rattle.protocol.specs.Call as call
+use Rattle.protocol.specs.Turn.{enteredAfter}
+use Rattle.protocol.proofs.Bits.{bit-zero}
+use Rattle.views.specs.Table.{table}
+use Rattle.views.specs.Held.{viewIs, viewsIs, heldAt}
+use Rattle.views.specs.declared.View as held
+use Rattle.views.specs.declared.History.{History}
+use Rattle.views.proofs.Tables.{table-length}
+use Rattle.pool.specs.Pool.{recordOf}
+use Rattle.statements.specs.declared.Binding.the-variants.{Unbound}
+use Rattle.engine.specs.declared.Controller.{Controller}
+use Rattle.engine.specs.declared.Outcome.{Outcome}
+use Rattle.engine.specs.declared.Refusal.{Refusal}
+use Rattle.engine.specs.declared.Send.{Send}
+use Rattle.engine.specs.declared.Send.the-variants.{Nothing, Payload}
+use Rattle.engine.specs.declared.Answer.{Answer}
+use Rattle.engine.specs.declared.Answer.the-variants.{Taken, Refused}
+use Rattle.engine.specs.Meaning.{initialIs, controllerIs, recordIs, AllIn, Whole, refusalIs, answerIs, sendIs}
+use Rattle.engine.specs.Promise.{Meets, IsRefused, Calls}
+
+-- ---- the two ways in which such a call ends
+
+pub refused : {f : List Stmt → controller.Outcome} (c : Controller) (q : Refusal) {r : Outcome} → r .answer ≡ Refused q → r .controller ≡ c
+    → ((X : List Stmt) → f X ≡ call.refuse (controllerIs c) X (refusalIs q)) → Calls f c r
+unfolding Calls answerIs
+refused {f} c q {r} e h g W = subst (λ o. Meets W c o none r W) (sym (g (recordIs W c))) (record {
+  answer = ap (answerIs W) e;
+  number = λ s p. let z : _≡_ {A = ℕ} 0 1 = cc in absurd (omega arith);
+  controller = ap controllerIs h;
+  statements = λ w. (ap (recordIs W) h, subst (Whole W) (sym h) w);
+  pool = refl;
+  refused = λ t. (h, refl);
+})
+
+pub noted : {f : List Stmt → controller.Outcome} (c d : Controller) {r : Outcome} → r .answer ≡ Taken → r .controller ≡ d → d .statements ≡ c .statements
+    → ((X : List Stmt) → f X ≡ record { answer = controller.taken; controller = controllerIs d; statements = X }) → Calls f c r
+unfolding Calls answerIs recordIs Whole
+noted {f} c d {r} e h k g W = subst (λ o. Meets W c o none r W) (sym (g (recordIs W c))) (record {
+  answer = ap (answerIs W) e;
+  number = λ s p. let z : _≡_ {A = ℕ} 0 1 = cc in absurd (omega arith);
+  controller = ap controllerIs h;
+  statements = λ w. (
+    ap (recordIs W) h ∙ ap (λ s. recordOf W (s .ids) (s .len)) k,
+    subst (λ (x : Controller). AllIn W (x .statements)) (sym h) (subst (AllIn W) (sym k) w),
+  );
+  pool = refl;
+  refused = λ t. absurd t;
+})
+
+-- a controller that starts has an empty record
+pub began : {f : List Stmt → controller.Outcome} (c d : Controller) {e : controller.Controller} {r : Outcome} → r .answer ≡ Taken → r .controller ≡ d → controllerIs d ≡ e → d .statements .len ≡ 0
+    → ((X : List Stmt) → f X ≡ record { answer = controller.taken; controller = e; statements = [] }) → Calls f c r
+unfolding Calls answerIs recordIs Whole recordOf table
+began {f} c d {e} {r} a h k n g W = subst (λ o. Meets W c o none r W) (sym (g (recordIs W c))) (record {
+  answer = ap (answerIs W) a;
+  number = λ s p. let z : _≡_ {A = ℕ} 0 1 = cc in absurd (omega arith);
+  controller = ap controllerIs h ∙ k;
+  statements = λ w. (
+    ap (recordIs W) h ∙ ap (λ l. recordOf W (d .statements .ids) l) n,
+    subst (λ (x : Controller). AllIn W (x .statements)) (sym h) (λ i l. absurd (omega arith)),
+  );
+  pool = refl;
+  refused = λ t. absurd t;
+})
+
+-- ---- a request to join
+
+module _ (c : Controller) (X : List Stmt) where
+  pub join-unready : c .ready ≡ false → call.requestJoin (controllerIs c) X ≡ call.refuse (controllerIs c) X controller.outOfPlace
+  unfolding call.requestJoin controllerIs
+  join-unready e = rw e
+
+  pub join-member : (b : Bool) → c .ready ≡ true → b ≡ member (viewIs (c .init)) (c .number) → b ≡ true → call.requestJoin (controllerIs c) X ≡ call.refuse (controllerIs c) X controller.badRequest
+  unfolding call.requestJoin controllerIs
+  join-member b e f g = rw (e, sym f ∙ g)
+
+  pub join-again : (b : Bool) → c .ready ≡ true → b ≡ member (viewIs (c .init)) (c .number) → b ≡ false → c .joining ≡ true → call.requestJoin (controllerIs c) X ≡ call.refuse (controllerIs c) X controller.badRequest
+  unfolding call.requestJoin controllerIs
+  join-again b e f g h = rw (e, sym f ∙ g, h)
+
+  abbrev pub joining : Controller
+  joining = record { ready = c .ready; number = c .number; init = c .init; sender = c .sender; entered = c .entered; binding = c .binding; delivered = c .delivered; joining = true; leaving = c .leaving; sending = c .sending; statements = c .statements }
+
+  pub join-taken : (b : Bool) → c .ready ≡ true → b ≡ member (viewIs (c .init)) (c .number) → b ≡ false → c .joining ≡ false
+      → call.requestJoin (controllerIs c) X ≡ record { answer = controller.taken; controller = controllerIs joining; statements = X }
+  unfolding call.requestJoin controllerIs
+  join-taken b e f g h = rw (e, sym f ∙ g, h)
+
+-- ---- a request to leave
+
+entered-none : (h : History) → h .len ≡ 0 → eqb (length (viewsIs h)) 0 ≡ true
+unfolding viewsIs
+entered-none h e = eq-eqb (length (table (min (h .len) 16) (heldAt (h .views)))) 0 (table-length (min (h .len) 16) (heldAt (h .views)) ∙ (let q : min (h .len) 16 ≡ 0 = omega arith in q))
+
+entered-some : (h : History) → (h .len ≡ 0 → ⊥) → eqb (length (viewsIs h)) 0 ≡ false
+unfolding viewsIs
+entered-some h n = ne-eqb (length (table (min (h .len) 16) (heldAt (h .views)))) 0 (λ q. let z : min (h .len) 16 ≡ 0 = sym (table-length (min (h .len) 16) (heldAt (h .views))) ∙ q in n (omega arith))
+
+module _ (c : Controller) (X : List Stmt) where
+  pub leave-unready : c .ready ≡ false → call.requestLeave (controllerIs c) X ≡ call.refuse (controllerIs c) X controller.outOfPlace
+  unfolding call.requestLeave controllerIs
+  leave-unready e = rw e
+
+  pub leave-early : c .ready ≡ true → c .entered .len ≡ 0 → call.requestLeave (controllerIs c) X ≡ call.refuse (controllerIs c) X controller.badRequest
+  unfolding call.requestLeave controllerIs
+  leave-early e f = rw (e, entered-none (c .entered) f)
+
+  pub leave-again : c .ready ≡ true → (c .entered .len ≡ 0 → ⊥) → c .leaving ≡ true → call.requestLeave (controllerIs c) X ≡ call.refuse (controllerIs c) X controller.badRequest
+  unfolding call.requestLeave controllerIs
+  leave-again e f h = rw (e, entered-some (c .entered) f, h)
+
+  abbrev pub leaving : Controller
+  leaving = record { ready = c .ready; number = c .number; init = c .init; sender = c .sender; entered = c .entered; binding = c .binding; delivered = c .delivered; joining = c .joining; leaving = true; sending = c .sending; statements = c .statements }
+
+  pub leave-taken : c .ready ≡ true → (c .entered .len ≡ 0 → ⊥) → c .leaving ≡ false
+      → call.requestLeave (controllerIs c) X ≡ record { answer = controller.taken; controller = controllerIs leaving; statements = X }
+  unfolding call.requestLeave controllerIs
+  leave-taken e f h = rw (e, entered-some (c .entered) f, h)
+
+-- ---- a request to send
+
+module _ (c : Controller) (X : List Stmt) (m : ℕ) where
+  pub send-unready : c .ready ≡ false → call.requestSend (controllerIs c) X m ≡ call.refuse (controllerIs c) X controller.outOfPlace
+  unfolding call.requestSend controllerIs
+  send-unready e = rw e
+
+  pub send-other : c .ready ≡ true → (c .number ≡ c .sender → ⊥) → call.requestSend (controllerIs c) X m ≡ call.refuse (controllerIs c) X controller.badRequest
+  unfolding call.requestSend controllerIs
+  send-other e f = rw (e, ne-eqb (c .number) (c .sender) f)
+
+  pub send-again : (p : ℕ) → c .ready ≡ true → c .number ≡ c .sender → c .sending ≡ Payload p → call.requestSend (controllerIs c) X m ≡ call.refuse (controllerIs c) X controller.badRequest
+  unfolding call.requestSend controllerIs
+  send-again p e f g = rw (e, eq-eqb (c .number) (c .sender) f, g)
+
+  abbrev pub sending : Controller
+  sending = record { ready = c .ready; number = c .number; init = c .init; sender = c .sender; entered = c .entered; binding = c .binding; delivered = c .delivered; joining = c .joining; leaving = c .leaving; sending = Payload m; statements = c .statements }
+
+  pub send-taken : c .ready ≡ true → c .number ≡ c .sender → c .sending ≡ Nothing
+      → call.requestSend (controllerIs c) X m ≡ record { answer = controller.taken; controller = controllerIs sending; statements = X }
+  unfolding call.requestSend controllerIs
+  send-taken e f g = rw (e, eq-eqb (c .number) (c .sender) f, g)
+
+-- ---- setup
+
+module _ (c : Controller) (X : List Stmt) (number members sender : ℕ) where
+  pub setup-again : c .ready ≡ true → call.setup (controllerIs c) X number members sender ≡ call.refuse (controllerIs c) X controller.badSetup
+  unfolding call.setup controllerIs
+  setup-again e = rw e
+
+  pub setup-barred : c .ready ≡ false → call.setupAllowed number members sender ≡ false → call.setup (controllerIs c) X number members sender ≡ call.refuse (controllerIs c) X controller.badSetup
+  unfolding call.setup controllerIs
+  setup-barred e f = rw (e, f)
+
+  pub setup-taken : c .ready ≡ false → call.setupAllowed number members sender ≡ true
+      → call.setup (controllerIs c) X number members sender ≡ record { answer = controller.taken; controller = call.started number members sender; statements = [] }
+  unfolding call.setup controllerIs
+  setup-taken e f = rw (e, f)
+
+module _ (number members sender : ℕ) where
+  pub no-members : members ≡ 0 → call.setupAllowed number members sender ≡ false
+  unfolding call.setupAllowed
+  no-members e = rw (le-ltb 0 members (omega arith))
+
+  pub far-number : 16 ≤ number → call.setupAllowed number members sender ≡ false
+  unfolding call.setupAllowed
+  far-number h = rw (le-ltb number 16 h) (and-no (ltb 0 members) (ltb members (2 ^ 16)) (ltb sender 16))
+    where
+      and-no : (a b d : Bool) → (((a && b) && false) && d) ≡ false
+      and-no true true d = refl
+      and-no true false d = refl
+      and-no false b d = refl
+
+  pub far-sender : 16 ≤ sender → call.setupAllowed number members sender ≡ false
+  unfolding call.setupAllowed
+  far-sender h = rw (le-ltb sender 16 h) (and-no (ltb 0 members && ltb members (2 ^ 16) && ltb number 16))
+    where
+      and-no : (a : Bool) → (a && false) ≡ false
+      and-no true = refl
+      and-no false = refl
+
+  pub allowed : (members ≡ 0 → ⊥) → members < 65536 → number < 16 → sender < 16 → call.setupAllowed number members sender ≡ true
+  unfolding call.setupAllowed
+  allowed n m k s = rw (lt-ltb 0 members (omega arith), lt-ltb members (2 ^ 16) m, lt-ltb number 16 k, lt-ltb sender 16 s)
+
+-- ---- the controller that a setup starts
+
+bit-member : (members k : ℕ) → member (record { joined = members; left = 0 }) k ≡ bit members k
+bit-member members k = rw (bit-zero k) (go (bit members k))
+  where
+    go : (b : Bool) → (b && true) ≡ b
+    go true = refl
+    go false = refl
+
+pub first-one : (v : held.View) (k : ℕ) (b : Bool) (h e : History) → b ≡ member (viewIs v) k → b ≡ true → viewsIs e ≡ [] → viewsIs h ≡ enteredAfter (viewIs v) (viewsIs e) → viewsIs h ≡ initialIs v k
+unfolding initialIs enteredAfter
+first-one v k b h e m t n p = p ∙ rw (n, sym m ∙ t)
+
+pub first-none : (v : held.View) (k : ℕ) (b : Bool) (h : History) → b ≡ member (viewIs v) k → b ≡ false → viewsIs h ≡ [] → viewsIs h ≡ initialIs v k
+unfolding initialIs
+first-none v k b h m t n = n ∙ rw (sym m ∙ t)
+
+pub entered-start : (members k : ℕ) (h : History) → viewsIs h ≡ initialIs (record { joined = members; left = 0 }) k → viewsIs h ≡ (if bit members k then call.initialView members ∷ [] else [])
+unfolding initialIs
+entered-start members k h e = e ∙ rw (bit-member members k)
+
+pub new-is : (h : History) → viewsIs h ≡ [] → controllerIs (record {
+  ready = false;
+  number = 0;
+  init = record { joined = 0; left = 0 };
+  sender = 0;
+  entered = h;
+  binding = Unbound;
+  delivered = false;
+  joining = false;
+  leaving = false;
+  sending = Nothing;
+  statements = record { ids = replicate 512 0; len = 0 };
+}) ≡ controller.notSetUp
+unfolding controllerIs
+new-is h e = rw e
+
+pub start-is : (number members sender : ℕ) (h : History) → viewsIs h ≡ initialIs (record { joined = members; left = 0 }) number → controllerIs (record {
+  ready = true;
+  number = number;
+  init = record { joined = members; left = 0 };
+  sender = sender;
+  entered = h;
+  binding = Unbound;
+  delivered = false;
+  joining = false;
+  leaving = false;
+  sending = Nothing;
+  statements = record { ids = replicate 512 0; len = 0 };
+}) ≡ call.started number members sender
+unfolding controllerIs call.started
+start-is number members sender h e = rw (entered-start members number h e)

@@ -1,0 +1,16 @@
+use borrow.Author.Needs.{needs}
+use native.Mathlib.Omega.{arith}
+use mathlib.Core.Path.{refl}
+use Rattle.engine.specs.Meaning.{controllerIs}
+use Rattle.engine.proofs.perform.deliver.Statement.{statement}
+use Rattle.engine.proofs.perform.deliver.Tie as tie
+use Rattle.engine.proofs.perform.deliver.Reads as reads
+use Rattle.engine.proofs.perform.deliver.Lts as lts
+
+-- src/perform.rt:74:1
+returns : tie.Need-returns
+unfolding controllerIs
+returns c = (refl, refl, refl)
+
+pub deliver-spec : {M : Type 1} → statement M
+deliver-spec = tie.close (tie.spec returns)

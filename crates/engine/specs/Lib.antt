@@ -1,0 +1,3 @@
+-- What the engine's values mean, and what its calls promise.
+pub mod Meaning
+pub mod Promise

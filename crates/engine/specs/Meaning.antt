@@ -1,0 +1,112 @@
+-- What the engine's values mean: the protocol's controller, answer and actions.
+-- Assumes nothing.
+use mathlib.Core.List.{List, [], _∷_}
+use mathlib.Core.Option.{Option, some, none}
+use Prim.Native.Nat.{ℕ, _<_, min}
+use lib.ListN.{getD}
+use Rattle.protocol.specs.Lists.{if_then_else_}
+use Rattle.protocol.specs.View.{View, controllers, member}
+use Rattle.protocol.specs.Statement.{Stmt}
+use Rattle.protocol.specs.Controller as controller
+use Rattle.protocol.specs.Turn as turn
+use Rattle.views.specs.Table.{table}
+use Rattle.views.specs.Held.{viewIs, viewsIs}
+use Rattle.views.specs.declared.View as held
+use Rattle.statements.specs.Meaning.{stmtOf, bindingIs}
+use Rattle.pool.specs.declared.Record.{Record}
+use Rattle.pool.specs.Pool.{stmtAt, poolLen, recordOf}
+use Rattle.engine.specs.declared.Controller.{Controller}
+use Rattle.engine.specs.declared.Send.{Send}
+use Rattle.engine.specs.declared.Send.the-variants.{Nothing, Payload}
+use Rattle.engine.specs.declared.Refusal.{Refusal}
+use Rattle.engine.specs.declared.Refusal.the-variants.{BadSetup, BadStatement, Repeated, Full, BadRequest, ManyCandidates, Conflict, OutOfPlace}
+use Rattle.engine.specs.declared.Answer.{Answer}
+use Rattle.engine.specs.declared.Answer.the-variants.{Taken, Signed, Entered, Delivered, Left, Quiet, Refused}
+use Rattle.engine.specs.declared.Step.{Step}
+use Rattle.engine.specs.declared.Deed.{Deed}
+use Rattle.engine.specs.declared.Deed.the-variants.{Rest, Sign, Bind, Enter, Deliver}
+
+abbrev pub sendIs : Send → Option ℕ
+sendIs Nothing = none
+sendIs (Payload m) = some m
+
+-- The views that controller k has entered at first: "Initial members start entered".
+unfoldable pub initialIs : held.View → ℕ → List View
+initialIs v k = if member (viewIs v) k then viewIs v ∷ [] else []
+
+-- The controller. Its record is `recordIs`.
+unfoldable pub controllerIs : Controller → controller.Controller
+controllerIs c = record {
+  isSetUp = c .ready;
+  number = c .number;
+  ring = record { width = controllers; init = viewIs (c .init) };
+  sender = c .sender;
+  entered = viewsIs (c .entered);
+  binding = bindingIs (c .binding);
+  delivered = c .delivered;
+  joinRequested = c .joining;
+  leaveRequested = c .leaving;
+  sendRequested = sendIs (c .sending);
+}
+
+-- The controller with another record.
+abbrev pub withStatements : Controller → Record → Controller
+withStatements c r = record {
+  ready = c .ready;
+  number = c .number;
+  init = c .init;
+  sender = c .sender;
+  entered = c .entered;
+  binding = c .binding;
+  delivered = c .delivered;
+  joining = c .joining;
+  leaving = c .leaving;
+  sending = c .sending;
+  statements = r;
+}
+
+-- The record of a controller, over the pool's memory W.
+unfoldable pub recordIs : List ℕ → Controller → List Stmt
+recordIs W c = recordOf W (c .statements .ids) (c .statements .len)
+
+-- The pool.
+unfoldable pub poolIs : List ℕ → List Stmt
+poolIs W = table (poolLen W) (stmtAt W)
+
+-- Every statement of the record is one of the pool. A controller that calls returned has this; one that a caller made up need not.
+abbrev pub AllIn : List ℕ → Record → Type 0
+AllIn W r = (i : ℕ) → i < min (r .len) 512 → getD (r .ids) i 0 < poolLen W
+
+unfoldable pub Whole : List ℕ → Controller → Type 0
+Whole W c = AllIn W (c .statements)
+
+abbrev pub refusalIs : Refusal → controller.Refusal
+refusalIs BadSetup = controller.badSetup
+refusalIs BadStatement = controller.badStatement
+refusalIs Repeated = controller.repeated
+refusalIs Full = controller.full
+refusalIs BadRequest = controller.badRequest
+refusalIs ManyCandidates = controller.manyCandidates
+refusalIs Conflict = controller.conflict
+refusalIs OutOfPlace = controller.outOfPlace
+
+-- An answer over the pool's memory W: a signed statement is answered by its number in the pool.
+unfoldable pub answerIs : List ℕ → Answer → controller.Answer
+answerIs W Taken = controller.taken
+answerIs W (Signed n) = controller.signed (stmtAt W n)
+answerIs W (Entered v) = controller.entered (viewIs v)
+answerIs W (Delivered m) = controller.delivered m
+answerIs W Left = controller.left
+answerIs W Quiet = controller.quiet
+answerIs W (Refused r) = controller.refused (refusalIs r)
+
+-- What a rule has the controller do. The statement stands beside it.
+unfoldable pub stepIs : Deed → Stmt → Option turn.Action
+stepIs Rest s = none
+stepIs Sign s = some (turn.sign s)
+stepIs (Bind m) s = some (turn.bindAndSign m s)
+stepIs (Enter v b) s = some (turn.enter (viewIs v) (bindingIs b))
+stepIs (Deliver m) s = some (turn.deliver m)
+
+abbrev pub actionIs : Step → Option turn.Action
+actionIs a = stepIs (a .deed) (stmtOf (a .statement))

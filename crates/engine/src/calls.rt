@@ -1,0 +1,177 @@
+// Setup and requests.
+ghost use mathlib.Core.Path.{_≡_};
+ghost use mathlib.Core.List.{[]};
+ghost use Rattle.protocol.specs.Controller.{notSetUp};
+ghost use Rattle.protocol.specs.Call.{started, setup, requestJoin, requestLeave, requestSend};
+ghost use Rattle.views.specs.Held.{viewsIs};
+ghost use Rattle.engine.specs.Meaning.{controllerIs, initialIs};
+ghost use Rattle.engine.specs.Promise.{Calls};
+use crate::Answer;
+use crate::Controller;
+use crate::Outcome;
+use crate::Refusal;
+use crate::Send;
+use pool::Record;
+use statements::Binding;
+use views::History;
+use views::View;
+
+// The controller as it was, and why.
+pub fn refuse(c: Controller, r: Refusal) -> Outcome
+    ensures { λ o. ⌜ (o .answer ≡ Answer.Refused r) × (o .controller ≡ c) ⌝ }
+{
+    Outcome {
+        answer: Answer::Refused(r),
+        controller: c,
+    }
+}
+
+// The controller with what was asked noted in it.
+pub fn take(c: Controller) -> Outcome
+    ensures { λ o. ⌜ (o .answer ≡ Answer.Taken) × (o .controller ≡ c) ⌝ }
+{
+    Outcome {
+        answer: Answer::Taken,
+        controller: c,
+    }
+}
+
+// The views that controller `number` has entered when the ring starts: the initial one, if it is a member.
+fn entered_first(init: View, number: u8) -> History
+    ensures { λ r. ⌜ viewsIs r ≡ initialIs init number ⌝ }
+{
+    if init.has_member(number) {
+        return History::new().push(init);
+    }
+    History::new()
+}
+
+// A controller that is set up in the ring of these initial members.
+fn start(number: u8, members: u16, sender: u8) -> Controller
+    ensures { λ r. ⌜ (controllerIs r ≡ started number members sender) × (r .statements .len ≡ 0) ⌝ }
+{
+    let init = View {
+        joined: members,
+        left: 0,
+    };
+    let entered = entered_first(init, number);
+    let statements = Record {
+        ids: [0u16; 512],
+        len: 0,
+    };
+    Controller {
+        ready: true,
+        number: number,
+        init: init,
+        sender: sender,
+        entered: entered,
+        binding: Binding::Unbound,
+        delivered: false,
+        joining: false,
+        leaving: false,
+        sending: Send::Nothing,
+        statements: statements,
+    }
+}
+
+impl Controller {
+    // A controller before setup.
+    pub fn new() -> Controller
+        ensures { λ r. ⌜ (controllerIs r ≡ notSetUp) × (r .statements .len ≡ 0) ⌝ }
+    {
+        let init = View { joined: 0, left: 0 };
+        let entered = History::new();
+        let statements = Record {
+            ids: [0u16; 512],
+            len: 0,
+        };
+        Controller {
+            ready: false,
+            number: 0,
+            init: init,
+            sender: 0,
+            entered: entered,
+            binding: Binding::Unbound,
+            delivered: false,
+            joining: false,
+            leaving: false,
+            sending: Send::Nothing,
+            statements: statements,
+        }
+    }
+
+    pub fn setup(self, number: u8, members: u16, sender: u8) -> Outcome
+        ensures { λ r. ⌜ Calls (λ X. setup (controllerIs self) X number members sender) self r ⌝ }
+    {
+        if self.ready {
+            return refuse(self, Refusal::BadSetup);
+        }
+        if members == 0 {
+            return refuse(self, Refusal::BadSetup);
+        }
+        if number >= 16 {
+            return refuse(self, Refusal::BadSetup);
+        }
+        if sender >= 16 {
+            return refuse(self, Refusal::BadSetup);
+        }
+        take(start(number, members, sender))
+    }
+
+    pub fn join(self) -> Outcome
+        ensures { λ r. ⌜ Calls (requestJoin (controllerIs self)) self r ⌝ }
+    {
+        if !self.ready {
+            return refuse(self, Refusal::OutOfPlace);
+        }
+        let init = self.init;
+        if init.has_member(self.number) {
+            return refuse(self, Refusal::BadRequest);
+        }
+        if self.joining {
+            return refuse(self, Refusal::BadRequest);
+        }
+        take(Controller {
+            joining: true,
+            ..self
+        })
+    }
+
+    pub fn leave(self) -> Outcome
+        ensures { λ r. ⌜ Calls (requestLeave (controllerIs self)) self r ⌝ }
+    {
+        if !self.ready {
+            return refuse(self, Refusal::OutOfPlace);
+        }
+        let entered = self.entered;
+        if entered.len == 0 {
+            return refuse(self, Refusal::BadRequest);
+        }
+        if self.leaving {
+            return refuse(self, Refusal::BadRequest);
+        }
+        take(Controller {
+            leaving: true,
+            ..self
+        })
+    }
+
+    pub fn send(self, payload: u64) -> Outcome
+        ensures { λ r. ⌜ Calls (λ X. requestSend (controllerIs self) X payload) self r ⌝ }
+    {
+        if !self.ready {
+            return refuse(self, Refusal::OutOfPlace);
+        }
+        if self.number != self.sender {
+            return refuse(self, Refusal::BadRequest);
+        }
+        let sending = self.sending;
+        let Send::Nothing = sending else {
+            return refuse(self, Refusal::BadRequest);
+        };
+        take(Controller {
+            sending: Send::Payload(payload),
+            ..self
+        })
+    }
+}

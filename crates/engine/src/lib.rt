@@ -1,0 +1,75 @@
+// The engine of one controller: setup, requests, additions and turns, each a value in and a value out, over a pool that is lent.
+mod add;
+mod calls;
+mod keep;
+mod perform;
+
+pub use calls::refuse;
+use pool::Record;
+use statements::Binding;
+use statements::Statement;
+use views::History;
+use views::View;
+
+// A payload that is to be sent, or none.
+pub enum Send {
+    Nothing,
+    Payload(u64),
+}
+
+pub struct Controller {
+    pub ready: bool,
+    pub number: u8,
+    pub init: View,
+    pub sender: u8,
+    pub entered: History,
+    pub binding: Binding,
+    pub delivered: bool,
+    pub joining: bool,
+    pub leaving: bool,
+    pub sending: Send,
+    pub statements: Record,
+}
+
+// Why a call is refused, in the order of the table of refusals.
+pub enum Refusal {
+    BadSetup,
+    BadStatement,
+    Repeated,
+    Full,
+    BadRequest,
+    ManyCandidates,
+    Conflict,
+    OutOfPlace,
+}
+
+// A signed statement is answered by its number in the pool.
+pub enum Answer {
+    Taken,
+    Signed(u16),
+    Entered(View),
+    Delivered(u64),
+    Left,
+    Quiet,
+    Refused(Refusal),
+}
+
+pub struct Outcome {
+    pub answer: Answer,
+    pub controller: Controller,
+}
+
+// What a rule has the controller do.
+pub enum Deed {
+    Rest,
+    Sign,
+    Bind(u64),
+    Enter(View, Binding),
+    Deliver(u64),
+}
+
+// A deed with the statement that it signs.
+pub struct Step {
+    pub deed: Deed,
+    pub statement: Statement,
+}

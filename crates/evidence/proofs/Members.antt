@@ -1,0 +1,64 @@
+-- Lists by their members.
+-- Assumes nothing.
+use mathlib.Core.Path.{_≡_, refl, sym, ap, ap₂, _∙_}
+use mathlib.Core.Logic.{_⊎_, inl, inr}
+use mathlib.Core.List.{List, [], _∷_, _++_, List·Memᴰ·head, List·Memᴰ·tail, List·Memᴰ·cases-cons, List·Memᴰ·not-nil, List·Memᴰ·append-cases, List·Memᴰ·eq-of-singleton, Memᴰ·cast}
+use Prim.Native.Nat.{ℕ, zero, suc, _+_, _<_}
+use native.Mathlib.Decide.{decLt}
+use native.Mathlib.Omega.{arith}
+use Rattle.protocol.specs.Lists.{_∈_, _⊆_}
+use Rattle.protocol.proofs.Different.{Ordered}
+use Rattle.views.specs.Table.{table}
+
+module _ {A : Type 0} where
+  pub in-left : {a : A} (k l : List A) → a ∈ k → a ∈ k ++ l
+  in-left (b ∷ k) l (List·Memᴰ·head e) = List·Memᴰ·head e
+  in-left (b ∷ k) l (List·Memᴰ·tail m) = List·Memᴰ·tail (in-left k l m)
+
+  pub in-right : {a : A} (k l : List A) → a ∈ l → a ∈ k ++ l
+  in-right [] l m = m
+  in-right (b ∷ k) l m = List·Memᴰ·tail (in-right k l m)
+
+  pub in-last : (k : List A) (a : A) → a ∈ k ++ (a ∷ [])
+  in-last k a = in-right k (a ∷ []) (List·Memᴰ·head refl)
+
+  -- an element of a list by index
+
+  pub table-in : (n : ℕ) (f : ℕ → A) (i : ℕ) → i < n → f i ∈ table n f
+  unfolding table
+  table-in zero f i l = absurd (omega arith)
+  table-in (suc n) f i l = elim (decLt i n) [ yes m ↦ in-left (table n f) (f n ∷ []) (table-in n f i m) | no m ↦ (let e : i ≡ n = omega arith in Memᴰ·cast (ap f e) (in-last (table n f) (f n))) ]
+
+  pub table-out : (n : ℕ) (f : ℕ → A) {a : A} → a ∈ table n f → (i : ℕ) × (i < n) × (f i ≡ a)
+  unfolding table
+  table-out zero f m = absurd (List·Memᴰ·not-nil m)
+  table-out (suc n) f {a} m = elim (List·Memᴰ·append-cases (table n f) m) [
+    | inl i ↦ (let (j, l, e) = table-out n f i in (j, omega arith, e))
+    | inr i ↦ (n, omega arith, sym (List·Memᴰ·eq-of-singleton i))
+  ]
+
+  -- two lists that rise and have the same members are the same
+
+  module _ (f : A → ℕ) where
+    abbrev pub Climbs : List A → Type 0
+    Climbs l = Ordered (λ a b. f a < f b) l
+
+    heads : (a b : A) (k l : List A) → Climbs (a ∷ k) → Climbs (b ∷ l) → a ∈ b ∷ l → b ∈ a ∷ k → a ≡ b
+    heads a b k l p q (List·Memᴰ·head e) j = e
+    heads a b k l p q (List·Memᴰ·tail i) (List·Memᴰ·head e) = sym e
+    heads a b k l p q (List·Memᴰ·tail i) (List·Memᴰ·tail j) = absurd (omega (arith, p .0 b j, q .0 a i))
+
+    tails : (a b : A) (k l : List A) → a ≡ b → Climbs (a ∷ k) → a ∷ k ⊆ b ∷ l → k ⊆ l
+    tails a b k l e p s x m = go (List·Memᴰ·cases-cons (s x (List·Memᴰ·tail m)))
+      where
+        go : (x ≡ b) ⊎ (x ∈ l) → x ∈ l
+        go (inl h) = absurd (omega (arith, p .0 x m, ap f (e ∙ sym h)))
+        go (inr i) = i
+
+    pub same-members : (k l : List A) → Climbs k → Climbs l → k ⊆ l → l ⊆ k → k ≡ l
+    same-members [] [] p q s t = refl
+    same-members [] (b ∷ l) p q s t = absurd (List·Memᴰ·not-nil (t b (List·Memᴰ·head refl)))
+    same-members (a ∷ k) [] p q s t = absurd (List·Memᴰ·not-nil (s a (List·Memᴰ·head refl)))
+    same-members (a ∷ k) (b ∷ l) p q s t =
+        let e = heads a b k l p q (s a (List·Memᴰ·head refl)) (t b (List·Memᴰ·head refl)) in
+        ap₂ _∷_ e (same-members k l (p .1) (q .1) (tails a b k l e p s) (tails b a l k (sym e) q t))

@@ -1,0 +1,286 @@
+-- Laws of reports: each is what one step of a function of reports needs.
+-- Assumes nothing.
+use mathlib.Core.Path.{_≡_, refl, sym, ap, ap₂, subst, _∙_}
+use mathlib.Core.Bool.{Bool, true, false, not, _&&_, _||_, and-true, and-assoc}
+use mathlib.Core.List.{List}
+use Prim.Native.Nat.{ℕ, zero, suc, _+_, _*_, _/_, _%_, _^_, _≤_, _<_, min}
+use native.Mathlib.Decide.{ℕ-discrete}
+use native.Mathlib.Nat.{div-div-eq-div-mul}
+use native.Mathlib.Omega.{arith}
+use lib.Dec.{T, eqb}
+use lib.ListN.{length, getD}
+use borrow.Author.Tests.{eq-eqb, ne-eqb, ltb-false}
+use Rattle.protocol.specs.Sets.{bit}
+use Rattle.protocol.specs.Lists.{_∈_, any, all, when}
+use Rattle.protocol.specs.View.{View, Ring, sameView, member, within, below}
+use Rattle.protocol.specs.History.{top, holds}
+use Rattle.protocol.specs.Statement.{Stmt, reportsOn}
+use Rattle.protocol.specs.Evidence.{wished, candidate, candidates, greatest, certificates, isConflict, isCandidate, signs, signedByQuorum, prepares, isPrepared, twoPrepares, isCertified, isCounted, isCountedOn, Certificate}
+use Rattle.protocol.proofs.Bits.{bit-zero}
+use Rattle.protocol.proofs.Says.{Says, says-map, says-unique, says-self, says-and, says-eqb, says-all, says-any}
+use Rattle.protocol.proofs.Found.{first-in, first-none}
+use Rattle.protocol.proofs.Histories.{sealed-short}
+use Rattle.protocol.proofs.Decided.{says-same, says-in, says-kind, says-shown, says-certified, says-twoPrepares}
+use Rattle.protocol.proofs.Asked.{says-holds, candidates-exact, certificates-in, certificates-out, one-payload, greatest-holds}
+use Rattle.views.specs.Sets.{IsSet}
+use Rattle.views.specs.View.{viewOf, ring, quorumHas}
+use Rattle.views.proofs.Tables.{table-length}
+use Rattle.views.proofs.Views.{passes, fails, view-parts, signed-by-set}
+use Rattle.pool.specs.Pool.{stmtAt, recordOf}
+use Rattle.votes.specs.Votes.{entry}
+use Rattle.evidence.specs.declared.Evidence.{Evidence}
+use Rattle.evidence.specs.Slots.{viewsOf}
+use Rattle.evidence.specs.Evidence.{Settled, bindingHolds, keptHolds, reportedOn, reportedAll, countsBelow}
+use Rattle.evidence.proofs.Members.{table-in}
+use Rattle.evidence.proofs.Backing.{placed}
+
+-- ---- one member
+
+pub bit-shift : (k a : ℕ) → bit a k ≡ eqb (a / 2 ^ k % 2) 1
+unfolding bit
+bit-shift zero a = let e : a / 2 ^ 0 ≡ a = omega arith in ap (λ x. eqb (x % 2) 1) (sym e)
+bit-shift (suc k) a =
+    let q : 2 ^ suc k ≡ 2 * 2 ^ k = omega arith in
+    bit-shift k (a / 2) ∙ ap (λ x. eqb (x % 2) 1) (div-div-eq-div-mul a 2 (2 ^ k) ∙ ap (λ x. a / x) (sym q))
+
+pub bit-beyond : (n k a : ℕ) → a < 2 ^ n → n ≤ k → bit a k ≡ false
+unfolding bit
+bit-beyond zero k a h l = let e : a ≡ 0 = omega arith in subst (λ x. bit x k ≡ false) (sym e) (bit-zero k)
+bit-beyond (suc n) zero a h l = absurd (omega arith)
+bit-beyond (suc n) (suc k) a h l = bit-beyond n k (a / 2) (omega arith) (omega arith)
+
+pub member-out : (v k : ℕ) (r : Bool) → r ≡ bit (v % 65536) k → r ≡ false → false ≡ member (viewOf v) k
+unfolding viewOf
+member-out v k r e f = sym (ap (λ b. b && not (bit (v / 65536 % 65536) k)) (sym e ∙ f))
+
+pub member-in : (v k : ℕ) (r q : Bool) → v < 4294967296 → r ≡ bit (v % 65536) k → r ≡ true → q ≡ bit (v / 65536) k → not q ≡ member (viewOf v) k
+member-in v k r q h e f g = subst (λ u. not q ≡ member u k) (view-parts v h) (ap not g ∙ sym (ap (λ b. b && not (bit (v / 65536) k)) (sym e ∙ f)))
+
+-- ---- a chain of tests
+
+pub stop1 : (a b c d e : Bool) → a ≡ false → false ≡ ((((a && b) && c) && d) && e)
+stop1 a b c d e p = rw p
+
+pub stop2 : (a b c d e : Bool) → a ≡ true → b ≡ false → false ≡ ((((a && b) && c) && d) && e)
+stop2 a b c d e p q = rw (p, q)
+
+pub stop3 : (a b c d e : Bool) → a ≡ true → b ≡ true → c ≡ false → false ≡ ((((a && b) && c) && d) && e)
+stop3 a b c d e p q r = rw (p, q, r)
+
+pub stop4 : (a b c d e : Bool) → a ≡ true → b ≡ true → c ≡ true → d ≡ false → false ≡ ((((a && b) && c) && d) && e)
+stop4 a b c d e p q r s = rw (p, q, r, s)
+
+pub pass : (a b c d e : Bool) → a ≡ true → b ≡ true → c ≡ true → d ≡ true → e ≡ ((((a && b) && c) && d) && e)
+pass a b c d e p q r s = rw (p, q, r, s)
+
+-- ---- what a report says
+
+module _ (sender b : ℕ) (X : List Stmt) (s : Stmt) (e : b ≡ s .binding) where
+  pub binding-bound : (p : ℕ) (r : Bool) → b ≡ 1 → p ≡ s .payload → r ≡ isPrepared sender X p → r ≡ bindingHolds sender X s
+  unfolding bindingHolds
+  binding-bound p r o q f = f ∙ ap (isPrepared sender X) q ∙ sym (ap (λ x. (not (eqb x 1) || isPrepared sender X (s .payload)) && (not (eqb x 2) || twoPrepares sender X)) (sym e ∙ o) ∙ and-true (isPrepared sender X (s .payload)))
+
+  pub binding-barred : (two : Bool) → b ≡ 2 → two ≡ twoPrepares sender X → two ≡ bindingHolds sender X s
+  unfolding bindingHolds
+  binding-barred two o f = f ∙ sym (ap (λ x. (not (eqb x 1) || isPrepared sender X (s .payload)) && (not (eqb x 2) || twoPrepares sender X)) (sym e ∙ o))
+
+  pub binding-free : (b ≡ 1 → ⊥) → (b ≡ 2 → ⊥) → true ≡ bindingHolds sender X s
+  unfolding bindingHolds
+  binding-free m n = sym (ap₂ (λ x y. (not x || isPrepared sender X (s .payload)) && (not y || twoPrepares sender X)) (ne-eqb _ 1 (λ q. m (e ∙ q))) (ne-eqb _ 2 (λ q. n (e ∙ q))))
+
+-- ---- what the evidence tells
+
+module _ (init sender : ℕ) (X : List Stmt) (e : Evidence) (settled : Settled (ring init) sender X e) where
+  abbrev R : Ring
+  R = ring init
+
+  abbrev G : List View
+  G = viewsOf (e .greatest) (e .length)
+
+  no-conflict : T (not (isConflict R sender X))
+  no-conflict = subst (λ b. T (not b)) (sym (settled .agree) ∙ settled .of .conflict) tt
+
+  views-length : (a : List ℕ) (n : ℕ) → length (viewsOf a n) ≡ n
+  unfolding viewsOf
+  views-length a n = table-length n (λ i. viewOf (getD a i 0))
+
+  pub count-most : e .count ≤ 16
+  count-most =
+      let c = settled .of .candidates (settled .agree) (settled .few) in
+      let l : length (candidates R X) ≤ 16 = ltb-false 16 _ (sym (settled .of .many (settled .agree)) ∙ settled .few) in
+      omega (arith, views-length (e .candidates) (e .count), ap length c)
+
+  pub length-most : e .length ≤ 16
+  length-most = omega (arith, views-length (e .greatest) (e .length), ap length (settled .of .greatest (settled .agree)), sealed-short (greatest-holds R sender X no-conflict .0))
+
+  certified-by : (m : ℕ) → isCertified R sender X m ≡ (e .certified && eqb m (e .payload))
+  certified-by m = go (e .certified) refl
+    where
+      go : (b : Bool) → e .certified ≡ b → isCertified R sender X m ≡ (b && eqb m (e .payload))
+      go true f =
+          let i = first-in (certificates R sender X) (sym (settled .of .certificate (settled .agree)) ∙ ap (λ b. when b (e .payload)) f) in
+          let c = certificates-out R sender X i in
+          says-unique (says-certified R sender X m) (says-map (λ q. subst (Certificate R sender X) (sym q) c) (λ d. one-payload R sender X no-conflict d c) says-eqb)
+      go false f = fails (says-certified R sender X m) (λ c.
+          first-none (certificates R sender X) (sym (settled .of .certificate (settled .agree)) ∙ ap (λ b. when b (e .payload)) f) (certificates-in R sender X c))
+
+  module _ (k : ℕ) (s : Stmt) (f : k ≡ s .stored) where
+    pub kept-none : (k ≡ 1 → ⊥) → true ≡ keptHolds R sender X s
+    unfolding keptHolds
+    kept-none n = sym (ap (λ b. not b || isCertified R sender X (s .kept)) (ne-eqb _ 1 (λ q. n (f ∙ q))))
+
+    kept-one : k ≡ 1 → keptHolds R sender X s ≡ (e .certified && eqb (s .kept) (e .payload))
+    unfolding keptHolds
+    kept-one o = ap (λ b. not b || isCertified R sender X (s .kept)) (eq-eqb _ 1 (sym f ∙ o)) ∙ certified-by (s .kept)
+
+    pub kept-lone : k ≡ 1 → e .certified ≡ false → false ≡ keptHolds R sender X s
+    kept-lone o n = sym (kept-one o ∙ ap (λ b. b && eqb (s .kept) (e .payload)) n)
+
+    pub kept-payload : (p : ℕ) → k ≡ 1 → e .certified ≡ true → p ≡ s .kept → eqb p (e .payload) ≡ keptHolds R sender X s
+    kept-payload p o y q = ap (λ x. eqb x (e .payload)) q ∙ sym (kept-one o ∙ ap (λ b. b && eqb (s .kept) (e .payload)) y)
+
+  -- ---- a report counts
+
+  all-candidates : (l : List View) → all (isCandidate R X) l ≡ holds (candidates R X) l
+  all-candidates l =
+      says-unique (says-all (λ v. says-shown R X (candidate v)) l)
+      (says-map (λ h v m. candidates-exact R X v .0 (h v m)) (λ h v m. candidates-exact R X v .1 (h v m)) (says-holds (candidates R X) l))
+
+  shift : (a b c d : Bool) → (((a && b) && c) && d) ≡ ((a && (b && c)) && d)
+  shift a b c d = ap (λ x. x && d) (and-assoc a b c)
+
+  module _ (s : Stmt) where
+    abbrev inList : Bool
+    inList = holds (viewsOf (e .candidates) (e .count)) (s .views)
+
+    pub counted-parts : isCounted R sender X s ≡ ((((member (s .at) (s .origin) && within 16 (s .view) (viewOf (e .wished))) && inList) && bindingHolds sender X s) && keptHolds R sender X s)
+    unfolding isCounted bindingHolds keptHolds
+    counted-parts =
+        shift ((member (s .at) (s .origin) && within 16 (s .view) (wished R X)) && all (isCandidate R X) (s .views)) (not (eqb (s .binding) 1) || isPrepared sender X (s .payload)) (not (eqb (s .binding) 2) || twoPrepares sender X) (not (eqb (s .stored) 1) || isCertified R sender X (s .kept))
+        ∙ ap₂ (λ w l. (((member (s .at) (s .origin) && within 16 (s .view) w) && l) && bindingHolds sender X s) && keptHolds R sender X s) (sym (settled .of .wished))
+        (all-candidates (s .views) ∙ ap (λ l. holds l (s .views)) (sym (settled .of .candidates (settled .agree) (settled .few))))
+
+    -- ---- on u
+
+    pub on-kind : (u : View) (k : ℕ) → k ≡ s .kind → (k ≡ 5 → ⊥) → false ≡ isCountedOn R sender X u s
+    unfolding isCountedOn reportsOn
+    on-kind u k f n = sym (ap (λ b. (b && sameView (s .at) u) && isCounted R sender X s) (ne-eqb _ 5 (λ q. n (f ∙ q))))
+
+    pub on-other : (u : View) → sameView (s .at) u ≡ false → false ≡ isCountedOn R sender X u s
+    unfolding isCountedOn reportsOn
+    on-other u f = sym (fails (says-and (says-and (says-eqb {m = s .kind} {n = 5}) (says-same {u = s .at} {v = u})) (says-self (isCounted R sender X s))) (λ p. subst T f (says-same .complete (p .0 .1))))
+
+    pub on-counted : (u : View) (k : ℕ) (r : Bool) → k ≡ s .kind → k ≡ 5 → sameView (s .at) u ≡ true → r ≡ isCounted R sender X s → r ≡ isCountedOn R sender X u s
+    unfolding isCountedOn reportsOn
+    on-counted u k r f g h c = c ∙ sym (ap₂ (λ a b. (a && b) && isCounted R sender X s) (eq-eqb _ 5 (sym f ∙ g)) h)
+
+  -- ---- below the top
+
+  module _ (t : ℕ) (topped : viewOf t ≡ top R G) where
+    is-top : viewOf t ≡ top R (greatest R X)
+    is-top = topped ∙ ap (top R) (settled .of .greatest (settled .agree))
+
+    pub reported-above : (u : ℕ) (b : Bool) → b ≡ below 16 (viewOf u) (viewOf t) → b ≡ false → true ≡ reportedOn R sender X (viewOf u)
+    unfolding reportedOn
+    reported-above u b f g =
+        sym (ap (λ b. not b || signedByQuorum 16 X (viewOf u) (isCountedOn R sender X (viewOf u))) (ap (below 16 (viewOf u)) (sym is-top) ∙ sym f ∙ g))
+
+    pub reported-quorum : (u seen : ℕ) (b r : Bool) → b ≡ below 16 (viewOf u) (viewOf t) → b ≡ true → IsSet seen (signs (isCountedOn R sender X (viewOf u)) X)
+        → r ≡ quorumHas (viewOf u) (bit seen) → r ≡ reportedOn R sender X (viewOf u)
+    unfolding reportedOn
+    reported-quorum u seen b r f g i q =
+        signed-by-set X (viewOf u) (isCountedOn R sender X (viewOf u)) seen r i q
+        ∙ sym (ap (λ b. not b || signedByQuorum 16 X (viewOf u) (isCountedOn R sender X (viewOf u))) (ap (below 16 (viewOf u)) (sym is-top) ∙ sym f ∙ g))
+
+    pub below-parts : (s : Stmt) (u : ℕ) → viewOf u ≡ s .at
+        → countsBelow R sender X s ≡ ((((eqb (s .kind) 5 && below 16 (viewOf u) (viewOf t)) && any (sameView (viewOf u)) G) && true) && isCounted R sender X s)
+    unfolding countsBelow isCountedOn reportsOn
+    below-parts s u f =
+        says-unique (says-any (λ v. says-and (says-self (below 16 v (top R (greatest R X)))) (says-and (says-and (says-eqb {m = s .kind} {n = 5}) (says-same {u = s .at} {v = v})) (says-self (isCounted R sender X s)))) (greatest R X))
+        (says-map to from (says-and (says-and (says-and (says-and (says-eqb {m = s .kind} {n = 5}) (says-self (below 16 (viewOf u) (viewOf t)))) (says-in {v = viewOf u} {H = G})) (says-self true)) (says-self (isCounted R sender X s))))
+      where
+        same : G ≡ greatest R X
+        same = settled .of .greatest (settled .agree)
+
+        to : ((((s .kind ≡ 5) × T (below 16 (viewOf u) (viewOf t))) × (viewOf u ∈ G)) × T true) × T (isCounted R sender X s)
+            → (v : View) × (v ∈ greatest R X) × (T (below 16 v (top R (greatest R X))) × (((s .kind ≡ 5) × (s .at ≡ v)) × T (isCounted R sender X s)))
+        to ((((k, b), m), _), c) = (viewOf u, subst (λ l. viewOf u ∈ l) same m, (subst (λ x. T (below 16 (viewOf u) x)) is-top b, ((k, sym f), c)))
+
+        from : (v : View) × (v ∈ greatest R X) × (T (below 16 v (top R (greatest R X))) × (((s .kind ≡ 5) × (s .at ≡ v)) × T (isCounted R sender X s)))
+            → ((((s .kind ≡ 5) × T (below 16 (viewOf u) (viewOf t))) × (viewOf u ∈ G)) × T true) × T (isCounted R sender X s)
+        from (v, m, (b, ((k, q), c))) =
+            let w : v ≡ viewOf u = sym (f ∙ q) in
+            ((((k, subst (λ x. T (below 16 (viewOf u) x)) (sym is-top) (subst (λ v. T (below 16 v (top R (greatest R X)))) w b)), subst (λ l. viewOf u ∈ l) (sym same) (subst (λ v. v ∈ greatest R X) w m)), tt), c)
+
+  pub reported-all : (b : Bool) → all (reportedOn R sender X) G ≡ b → b ≡ reportedAll R sender X
+  unfolding reportedAll
+  reported-all b f = sym f ∙ ap (all (reportedOn R sender X)) (settled .of .greatest (settled .agree))
+
+-- ---- two payloads that the sender prepared
+
+module _ (W ids : List ℕ) (len sender : ℕ) where
+  -- those before i are of one payload
+  pub record OnePayload (i : ℕ) (some : Bool) (payload : ℕ) : Type 0 where
+    pub sound : some ≡ true → (j : ℕ) × (j < i) × T (prepares sender (entry W ids j)) × (entry W ids j .payload ≡ payload)
+    pub all : (j : ℕ) → j < i → T (prepares sender (entry W ids j)) → (some ≡ true) × (entry W ids j .payload ≡ payload)
+
+  says-prepare : (s : Stmt) → Says (prepares sender s) ((s .kind ≡ 6) × (s .origin ≡ sender))
+  unfolding prepares
+  says-prepare s = says-and (says-kind 6 s) says-eqb
+
+  pub payload-first : (payload : ℕ) → OnePayload 0 false payload
+  payload-first payload = record { sound = λ t. absurd (subst (λ b. T (not b)) t tt); all = λ j l. absurd (omega arith) }
+
+  next : {i payload : ℕ} {some : Bool} → (T (prepares sender (entry W ids i)) → (some ≡ true) × (entry W ids i .payload ≡ payload))
+      → (some ≡ true → (j : ℕ) × (j < i + 1) × T (prepares sender (entry W ids j)) × (entry W ids j .payload ≡ payload))
+      → ((j : ℕ) → j < i → T (prepares sender (entry W ids j)) → (some ≡ true) × (entry W ids j .payload ≡ payload)) → OnePayload (i + 1) some payload
+  next {i} {payload} {some} f s c = record {
+    sound = s;
+    all = λ j l. elim (ℕ-discrete j i) [
+      | yes e ↦ subst (λ j. T (prepares sender (entry W ids j)) → (some ≡ true) × (entry W ids j .payload ≡ payload)) (sym e) f
+      | no n ↦ c j (omega arith)
+    ];
+  }
+
+  later : {i payload : ℕ} {some : Bool} → OnePayload i some payload → some ≡ true → (j : ℕ) × (j < i + 1) × T (prepares sender (entry W ids j)) × (entry W ids j .payload ≡ payload)
+  later c t = let (j, l, p, q) = c .sound t in (j, omega arith, p, q)
+
+  pub payload-skip : {i payload : ℕ} {some : Bool} (r : Bool) → r ≡ prepares sender (entry W ids i) → r ≡ false → OnePayload i some payload → OnePayload (i + 1) some payload
+  payload-skip r e f c = next (λ t. absurd (subst T (sym e ∙ f) t)) (later c) (c .all)
+
+  module _ (i payload m : ℕ) (some r : Bool) (asked : r ≡ prepares sender (entry W ids i)) (yes : r ≡ true) (is : m ≡ entry W ids i .payload) (c : OnePayload i some payload) where
+    here : T (prepares sender (entry W ids i))
+    here = subst T (sym yes ∙ asked) tt
+
+    pub payload-start : some ≡ false → OnePayload (i + 1) true m
+    payload-start f = next (λ t. (refl, sym is)) (λ t. (i, omega arith, here, sym is)) (λ j l t. absurd (subst T (sym (c .all j l t .0) ∙ f) tt))
+
+    pub payload-same : some ≡ true → m ≡ payload → OnePayload (i + 1) some payload
+    payload-same t e = next (λ q. (t, sym is ∙ e)) (later c) (c .all)
+
+    inside : (j : ℕ) → j < min len 512 → entry W ids j ∈ recordOf W ids len
+    unfolding recordOf
+    inside j l = table-in (min len 512) (λ i. stmtAt W (getD ids i 0)) j l
+
+    pub twofold-found : i < min len 512 → some ≡ true → (m ≡ payload → ⊥) → true ≡ twoPrepares sender (recordOf W ids len)
+    twofold-found l t d =
+        let (j, h, p, q) = c .sound t in
+        let (k, o) = says-prepare (entry W ids j) .sound p in
+        let (a, b) = says-prepare (entry W ids i) .sound here in
+        sym (passes (says-twoPrepares sender (recordOf W ids len)) (
+          m,
+          payload,
+          d,
+          (entry W ids i, inside i l, record { kind = a; origin = b; payload = sym is }),
+          (entry W ids j, inside j (omega arith), record { kind = k; origin = o; payload = q }),
+        ))
+
+  pub twofold-none : (i payload : ℕ) (some : Bool) → i ≡ min len 512 → OnePayload i some payload → false ≡ twoPrepares sender (recordOf W ids len)
+  twofold-none i payload some e c = sym (fails (says-twoPrepares sender (recordOf W ids len)) (λ (m, n, d, (s, p, a), (x, q, b)).
+      d (is p (a .kind) (a .origin) (a .payload) ∙ sym (is q (b .kind) (b .origin) (b .payload)))))
+    where
+      is : {s : Stmt} {m : ℕ} → s ∈ recordOf W ids len → s .kind ≡ 6 → s .origin ≡ sender → s .payload ≡ m → m ≡ payload
+      is {s} p k o f =
+          let (j, l, g) = placed W ids len 0 p in
+          let t : T (prepares sender (entry W ids j)) = subst (λ s. T (prepares sender s)) (sym g) (says-prepare s .complete (k, o)) in
+          sym f ∙ ap (λ s. s .payload) (sym g) ∙ c .all j (omega arith) t .1

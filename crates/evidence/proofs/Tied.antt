@@ -1,0 +1,150 @@
+-- The tables and verdicts mark the candidates and the sealed histories; the parts of the evidence, put together.
+-- Assumes nothing.
+use mathlib.Core.Path.{_≡_, refl, sym, ap, ap₂, subst, _∙_}
+use mathlib.Core.Logic.{_⊎_, inl, inr}
+use mathlib.Core.Bool.{Bool, true, false, not, _||_}
+use mathlib.Core.List.{List, [], _∷_}
+use Prim.Native.Nat.{ℕ, _%_, _<_}
+use native.Mathlib.Omega.{arith}
+use lib.Dec.{T, eqb, eqb→eq}
+use lib.ListN.{getD}
+use Rattle.protocol.specs.Lists.{any, pairwise}
+use Rattle.protocol.specs.View.{View, comparable}
+use Rattle.protocol.specs.History.{sameViews, holds}
+use Rattle.protocol.specs.Statement.{Stmt}
+use Rattle.protocol.specs.Evidence.{wished, candidate, sealed, Candidate, initial, chosen, isCandidate, candidates, sealedHistories, certificates, isConflict, isStored, greatest}
+use Rattle.protocol.specs.Grounds.{isTop}
+use Rattle.protocol.proofs.Says.{Says, says-self, says-and, says-or, says-eqb, says-any}
+use Rattle.protocol.proofs.Quorums.{someone}
+use Rattle.protocol.proofs.Decided.{says-sames, says-shown}
+use Rattle.protocol.proofs.Asked.{greatest-holds}
+use Rattle.views.specs.View.{viewOf, ring}
+use Rattle.views.proofs.Views.{view-low}
+use Rattle.pool.specs.Pool.{word, stmtAt, recordOf}
+use Rattle.votes.specs.Tables.{low, high, upTo, gives, sealsAt, sealsAs, Tables, Verdicts}
+use Rattle.evidence.specs.declared.candidates.Ranked.{Ranked}
+use Rattle.evidence.specs.declared.histories.Summit.{Summit}
+use Rattle.evidence.specs.declared.certificates.Certified.{Certified}
+use Rattle.evidence.specs.Slots.{viewsOf}
+use Rattle.evidence.specs.Shown.{Choices, Agreements, CandidatesOf, HistoriesOf, CertificatesOf}
+use Rattle.evidence.specs.Evidence.{EvidenceOf}
+use Rattle.evidence.proofs.Members.{table-in, table-out}
+use Rattle.evidence.proofs.Backing.{placed}
+use Rattle.evidence.proofs.Summits.{held-same}
+
+-- ---- the marks
+
+module _ (W ids : List ℕ) (len init : ℕ) (C : List ℕ) (nc : ℕ) (A E : List ℕ) (na : ℕ) (mc ma : List ℕ)
+    (tables : Tables W ids len init C nc A E na) (verdicts : Verdicts W ids len init C nc A E na mc ma) where
+  abbrev X : List Stmt
+  X = recordOf W ids len
+
+  -- a number below n that has p
+  some-of : (p : ℕ → Bool) (n : ℕ) → T (any p (upTo n)) → (i : ℕ) × (i < n) × T (p i)
+  some-of p n t =
+      let (i, m, h) = says-any (λ i. says-self (p i)) (upTo n) .sound t in
+      let (j, l, e) = table-out n (λ i. i) m in
+      (i, omega arith, h)
+
+  of-some : (p : ℕ → Bool) (n i : ℕ) → i < n → T (p i) → T (any p (upTo n))
+  of-some p n i l h = says-any (λ i. says-self (p i)) (upTo n) .complete (i, table-in n (λ i. i) i l, h)
+
+  -- a candidate is the view of a word
+  word-of : {v : View} → Candidate (ring init) X v → (v ≡ viewOf init) ⊎ ((w : ℕ) × (w < 4294967296) × (viewOf w ≡ v))
+  unfolding stmtAt
+  word-of (initial e) = inl e
+  word-of (chosen g b n i q) =
+      let (_, (s, m, _, a)) = someone q in
+      let (j, l, e) = placed W ids len init m in
+      let w = word W (getD ids j 0) 3 in
+      inr (w % 4294967296, omega arith, view-low w ∙ ap (λ s. s .view) e ∙ a .view)
+
+  says-gives : (w c : ℕ) → Says (gives W ids len init C w c) ((high (getD C c 0) ≡ w) × T (isTop (ring init) X (viewOf (low (getD C c 0)))))
+  unfolding gives
+  says-gives w c = says-and says-eqb (says-self (isTop (ring init) X (viewOf (low (getD C c 0)))))
+
+  pub choices-marked : Choices init X C mc nc
+  choices-marked = record {
+    sound = λ c l e. says-shown (ring init) X (candidate (viewOf (high (getD C c 0)))) .sound (subst T (verdicts .candidate c l) (says-eqb .complete e));
+    complete = λ v k. elim (word-of k) [ inl e ↦ inl e | inr (w, l, e) ↦ go v k w l e ];
+  }
+    where
+      go : (v : View) → Candidate (ring init) X v → (w : ℕ) → w < 4294967296 → viewOf w ≡ v
+          → (v ≡ viewOf init) ⊎ ((c : ℕ) × (c < nc) × (getD mc c 0 ≡ 1) × (viewOf (high (getD C c 0)) ≡ v))
+      go v k w l e =
+          let shown : (u : View) → u ≡ v → T (isCandidate (ring init) X u) = λ u q. subst (λ u. T (isCandidate (ring init) X u)) (sym q) (says-shown (ring init) X (candidate v) .complete k) in
+          elim (says-or (says-eqb {m = w} {n = init}) (says-self (any (gives W ids len init C w) (upTo nc))) .sound (subst T (tables .candidates w l) (shown (viewOf w) e))) [
+            | inl q ↦ inl (sym e ∙ ap viewOf q)
+            | inr t ↦ (let (c, h, g) = some-of (gives W ids len init C w) nc t in
+                let is : viewOf (high (getD C c 0)) ≡ v = ap viewOf (says-gives w c .sound g .0) ∙ e in
+                inr (c, h, eqb→eq _ _ (subst T (sym (verdicts .candidate c h)) (shown _ is)), is))
+          ]
+
+  says-seals : (H : List View) (a : ℕ) → Says (sealsAs W ids len init A E H a) ((stmtAt W (getD E a 0) .views ≡ H) × T (sealsAt W ids len init A E a))
+  unfolding sealsAs
+  says-seals H a = says-and (says-sames (stmtAt W (getD E a 0) .views) H) (says-self (sealsAt W ids len init A E a))
+
+  says-listed : (H : List View) → Says (sameViews H (viewOf init ∷ []) || any (sealsAs W ids len init A E H) (upTo na)) ((H ≡ viewOf init ∷ []) ⊎ T (any (sealsAs W ids len init A E H) (upTo na)))
+  says-listed H = says-or (says-sames H (viewOf init ∷ [])) (says-self (any (sealsAs W ids len init A E H) (upTo na)))
+
+  pub agreements-marked : Agreements init X W E ma na
+  agreements-marked = record {
+    sound = λ a l e.
+        let H = stmtAt W (getD E a 0) .views in
+        says-shown (ring init) X (sealed H) .sound (subst T (sym (tables .histories H))
+        (says-listed H .complete (inr (of-some (sealsAs W ids len init A E H) na a l (says-seals H a .complete (refl, subst T (verdicts .sealed a l) (says-eqb .complete e)))))));
+    complete = λ H k.
+        elim (says-listed H .sound (subst T (tables .histories H) (says-shown (ring init) X (sealed H) .complete k))) [
+          | inl e ↦ inl e
+          | inr t ↦ (let (a, l, g) = some-of (sealsAs W ids len init A E H) na t in
+              let (e, h) = says-seals H a .sound g in
+              inr (a, l, eqb→eq _ _ (subst T (sym (verdicts .sealed a l)) h), e))
+        ];
+  }
+
+-- ---- the whole
+
+none : (a b c : Bool) → (a || b || c) ≡ false → (a ≡ false) × (b ≡ false) × (c ≡ false)
+none true b c e = absurd (subst T e tt)
+none false true c e = absurd (subst T e tt)
+none false false c e = (refl, refl, e)
+
+conflict-of : (init sender : ℕ) (X : List Stmt) {a b c : Bool} → a ≡ not (pairwise (comparable 16) (candidates (ring init) X))
+    → b ≡ not (pairwise (λ H K. holds H K || holds K H) (sealedHistories (ring init) X)) → c ≡ not (pairwise eqb (certificates (ring init) sender X))
+    → (a || b || c) ≡ isConflict (ring init) sender X
+unfolding isConflict
+conflict-of init sender X e f g = ap₂ (λ x y. x || y) (ap₂ _||_ e f) g
+
+pub tied : (wish : ℕ) (r : Ranked) (h : Summit) (c : Certified) (stored b : Bool) → b ≡ (r .conflict || h .conflict || c .conflict)
+    → (init sender : ℕ) (X : List Stmt) → viewOf wish ≡ wished (ring init) X → CandidatesOf init X r → HistoriesOf init X h → CertificatesOf init sender X c
+    → stored ≡ isStored (ring init) X (c .payload)
+    → EvidenceOf (ring init) sender X (record {
+      conflict = b;
+      many = r .many;
+      wished = wish;
+      candidates = r .views;
+      count = r .count;
+      greatest = h .views;
+      length = h .length;
+      certified = c .some;
+      payload = c .payload;
+      stored = stored;
+    })
+tied wish r h c stored b e init sender X w p q s t = record {
+  wished = w;
+  conflict = is;
+  many = λ f. p .many (parts f .0);
+  candidates = λ f. p .views (parts f .0);
+  greatest = λ f.
+      let (g, k) = greatest-holds (ring init) sender X (subst (λ b. T (not b)) (sym f ∙ is) tt) in
+      let z = parts f .1 in
+      held-same init X (q .sealed z) g (q .holds z (greatest (ring init) X) g) (k (viewsOf (h .views) (h .length)) (q .sealed z));
+  certificate = λ f. s .certificate (parts f .2);
+  stored = λ f y. t;
+}
+  where
+    is : b ≡ isConflict (ring init) sender X
+    is = e ∙ conflict-of init sender X (p .conflict) (q .conflict) (s .conflict)
+
+    parts : b ≡ false → (r .conflict ≡ false) × (h .conflict ≡ false) × (c .conflict ≡ false)
+    parts f = none (r .conflict) (h .conflict) (c .conflict) (sym e ∙ f)

@@ -1,0 +1,17 @@
+-- What the reports are to a turn: `reported` and `merged` answer rule 2.
+-- Assumes nothing.
+use mathlib.Core.Path.{_≡_, refl}
+use mathlib.Core.List.{List}
+use Rattle.protocol.specs.Statement.{Stmt}
+use Rattle.protocol.specs.Controller.{Controller}
+use Rattle.protocol.specs.Turn.{G, T, isReported, countedReports}
+use Rattle.evidence.specs.Evidence.{reportedOn, reportedAll, countsBelow, reportsBelow}
+
+module _ (c : Controller) (X : List Stmt) where
+  pub reported-turn : isReported c X ≡ reportedAll (c .ring) (c .sender) X
+  unfolding isReported reportedAll reportedOn G T
+  reported-turn = refl
+
+  pub counted-turn : countedReports c X ≡ reportsBelow (c .ring) (c .sender) X
+  unfolding countedReports reportsBelow countsBelow G T
+  counted-turn = refl

@@ -1,0 +1,16 @@
+use Rattle.votes.proofs.Tabled.{tables-are}
+use borrow.Author.Needs.{needs}
+use Rattle.evidence.proofs.whole.of_record.Statement.{statement}
+use Rattle.evidence.proofs.whole.of_record.Tie as tie
+
+pub of-record-spec : {M : Type 1} → statement M
+of-record-spec =
+    tie.close
+    (tie.spec
+    (λ c κs. search needs)
+    (λ c κs. search needs)
+    (λ c κs. search needs)
+    (λ c κs. search needs)
+    (λ c κs. tables-are _ _ _ _ _ _ _ (c .before .before .before .before .before .before .before .before .before .before .before .before .before .before .gather .ensures) _ _ _ _ _ (c .before .before .before .before .before .before .before .before .before .before .before .before .before .before .before .before .before .before .fits .init .fits) (c .before .before .before .before .before .before .before .before .before .before .choices .ensures) (c .before .before .before .before .before .agreements .ensures))
+    (λ c κs. (c .before .before .before .before .before .before .before .before .before .before .before .before .before .before .before .before .before .before .before .before .before .before .before .before .before .wished-view .ensures, c .before .before .before .before .before .before .before .before .before .before .before .before .before .before .before .before .before .before .before .before .before .before .gather .ensures, tables-are _ _ _ _ _ _ _ (c .before .before .before .before .before .before .before .before .before .before .before .before .before .before .before .before .before .before .before .before .before .before .gather .ensures) _ _ _ _ _ (c .before .before .before .before .before .before .before .before .before .before .before .before .before .before .before .before .before .before .before .before .before .before .before .before .before .before .fits .init .fits) (c .before .before .before .before .before .before .before .before .before .before .before .before .before .before .before .before .before .before .choices .ensures) (c .before .before .before .before .before .before .before .before .before .before .before .before .before .agreements .ensures), c .before .before .before .before .before .before .before .verdicts .ensures))
+    (λ c. search needs))

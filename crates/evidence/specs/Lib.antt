@@ -1,0 +1,4 @@
+pub mod Slots
+pub mod Shown
+pub mod Bound
+pub mod Evidence

@@ -1,0 +1,354 @@
+// Which reports count, whether each view below the top has a quorum of them, and what they bind to.
+ghost use mathlib.Core.Path.{_≡_};
+ghost use Prim.Native.Nat.{_≤_, _<_};
+ghost use lib.ListN.{getD};
+ghost use Rattle.protocol.specs.Sets.{bit};
+ghost use Rattle.protocol.specs.Lists.{any};
+ghost use Rattle.protocol.specs.View.{sameView, member};
+ghost use Rattle.protocol.specs.History.{holds, top};
+ghost use Rattle.protocol.specs.Evidence.{signs, twoPrepares, isCounted, isCountedOn};
+ghost use Rattle.protocol.specs.Turn.{mergeAll};
+ghost use Rattle.views.specs.Sets.{IsSet};
+ghost use Rattle.views.specs.View.{viewOf, ring};
+ghost use Rattle.pool.specs.Pool.{stmtAt, recordOf};
+ghost use Rattle.evidence.specs.Slots.{viewsOf};
+ghost use Rattle.evidence.specs.Bound.{bindingIs};
+ghost use Rattle.evidence.specs.Evidence.{Settled, bindingHolds, keptHolds, reportedOn, reportedAll, countsBelow, reportsBelow};
+use crate::Evidence;
+use crate::binding;
+use crate::binding::Binding;
+use crate::certificates;
+use pool::POOL_WORDS;
+
+// Whether the set has k.
+fn has(set: u32, k: u64) -> bool
+    ensures { λ r. ⌜ r ≡ bit set k ⌝ }
+{
+    if k >= 32 {
+        return false;
+    }
+    (set >> k) % 2 == 1
+}
+
+// Whether k is a member of v.
+fn is_member(v: u32, k: u64) -> bool
+    ensures { λ r. ⌜ r ≡ member (viewOf v) k ⌝ }
+{
+    if !has(v % 65536, k) {
+        return false;
+    }
+    !has(v / 65536, k)
+}
+
+// View i of a list.
+fn view_in(list: &[u32; 16], i: usize) -> u32
+    requires { ⌜ i < 16 ⌝ }
+    ensures { λ r. ⌜ r ≡ getD (now (list .entry)) i 0 ⌝ }
+{
+    list[i]
+}
+
+// Whether v is one of the first n views.
+fn is_in(list: &[u32; 16], n: usize, v: u32) -> bool
+    requires { ⌜ n ≤ 16 ⌝ }
+    ensures { λ r. ⌜ r ≡ any (sameView (viewOf v)) (viewsOf (now (list .entry)) n) ⌝ }
+{
+    let mut i = 0usize;
+    while i < n {
+        if view_in(list, i) == v {
+            return true;
+        }
+        i += 1;
+    }
+    false
+}
+
+// The last of the first n views; the initial view, if there is none.
+fn top_of(list: &[u32; 16], n: usize, init: u32) -> u32
+    requires { ⌜ n ≤ 16 ⌝ }
+    ensures { λ r. ⌜ viewOf r ≡ top (ring init) (viewsOf (now (list .entry)) n) ⌝ }
+{
+    if n == 0 {
+        return init;
+    }
+    view_in(list, n - 1)
+}
+
+// Whether all views of statement s are among the first n.
+fn all_in(words: &[u64; POOL_WORDS], s: u16, list: &[u32; 16], n: usize) -> bool
+    requires { ⌜ n ≤ 16 ⌝ }
+    ensures { λ r. ⌜ r ≡ holds (viewsOf (now (list .entry)) n) (stmtAt (now (words .entry)) s .views) ⌝ }
+{
+    let c = pool::count(words, s);
+    let mut p = 0usize;
+    while p < c {
+        if !is_in(list, n, pool::nth(words, s, p)) {
+            return false;
+        }
+        p += 1;
+    }
+    true
+}
+
+// Whether the sender prepared two payloads.
+pub fn is_twofold(words: &[u64; POOL_WORDS], ids: &[u16; 512], len: usize, sender: u8) -> bool
+    ensures { λ r. ⌜ r ≡ twoPrepares sender (recordOf (now (words .entry)) (now (ids .entry)) len) ⌝ }
+{
+    let end = pool::limit(len);
+    let mut some = false;
+    let mut payload = 0u64;
+    let mut i = 0usize;
+    while i < end {
+        let s = ids[i];
+        if !certificates::is_prepare(words, s, sender) {
+            i += 1;
+            continue;
+        }
+        let m = pool::payload(words, s);
+        if !some {
+            some = true;
+            payload = m;
+            i += 1;
+            continue;
+        }
+        if m != payload {
+            return true;
+        }
+        i += 1;
+    }
+    false
+}
+
+// Whether the binding of report s is explained by what the sender prepared; `two` tells whether that is two payloads.
+fn binding_holds(
+    words: &[u64; POOL_WORDS],
+    ids: &[u16; 512],
+    len: usize,
+    sender: u8,
+    two: bool,
+    s: u16,
+) -> bool
+    requires { ⌜ two ≡ twoPrepares sender (recordOf (now words) (now ids) len) ⌝ }
+    ensures { λ r. ⌜ r ≡ bindingHolds sender (recordOf (now (words .entry)) (now (ids .entry)) len) (stmtAt (now (words .entry)) s) ⌝ }
+{
+    let b = pool::binding(words, s);
+    if b == 1 {
+        return certificates::is_prepared(words, ids, len, sender, pool::payload(words, s));
+    }
+    if b == 2 {
+        return two;
+    }
+    true
+}
+
+// Whether the payload that report s kept, if it kept one, has a certificate.
+fn kept_holds(
+    words: &[u64; POOL_WORDS],
+    ids: &[u16; 512],
+    len: usize,
+    init: u32,
+    sender: u8,
+    e: Evidence,
+    s: u16,
+) -> bool
+    requires { ⌜ Settled (ring init) sender (recordOf (now words) (now ids) len) e ⌝ }
+    ensures { λ r. ⌜ r ≡ keptHolds (ring init) sender (recordOf (now (words .entry)) (now (ids .entry)) len) (stmtAt (now (words .entry)) s) ⌝ }
+{
+    if pool::stored(words, s) != 1 {
+        return true;
+    }
+    if !e.certified {
+        return false;
+    }
+    pool::kept(words, s) == e.payload
+}
+
+// Whether report s counts.
+fn counts(
+    words: &[u64; POOL_WORDS],
+    ids: &[u16; 512],
+    len: usize,
+    init: u32,
+    sender: u8,
+    e: Evidence,
+    two: bool,
+    s: u16,
+) -> bool
+    requires { ⌜ Settled (ring init) sender (recordOf (now words) (now ids) len) e × (two ≡ twoPrepares sender (recordOf (now words) (now ids) len)) ⌝ }
+    ensures { λ r. ⌜ r ≡ isCounted (ring init) sender (recordOf (now (words .entry)) (now (ids .entry)) len) (stmtAt (now (words .entry)) s) ⌝ }
+{
+    let list = e.candidates;
+    let n = e.count;
+    if !is_member(pool::at(words, s), pool::origin(words, s)) {
+        return false;
+    }
+    if !views::within_view(pool::view(words, s), e.wished) {
+        return false;
+    }
+    if !all_in(words, s, &list, n) {
+        return false;
+    }
+    if !binding_holds(words, ids, len, sender, two, s) {
+        return false;
+    }
+    kept_holds(words, ids, len, init, sender, e, s)
+}
+
+// Whether statement s is a report on u that counts.
+fn counts_on(
+    words: &[u64; POOL_WORDS],
+    ids: &[u16; 512],
+    len: usize,
+    init: u32,
+    sender: u8,
+    e: Evidence,
+    two: bool,
+    u: u32,
+    s: u16,
+) -> bool
+    requires { ⌜ Settled (ring init) sender (recordOf (now words) (now ids) len) e × (two ≡ twoPrepares sender (recordOf (now words) (now ids) len)) ⌝ }
+    ensures { λ r. ⌜ r ≡ isCountedOn (ring init) sender (recordOf (now (words .entry)) (now (ids .entry)) len) (viewOf u) (stmtAt (now (words .entry)) s) ⌝ }
+{
+    if pool::kind(words, s) != 5 {
+        return false;
+    }
+    if pool::at(words, s) != u {
+        return false;
+    }
+    counts(words, ids, len, init, sender, e, two, s)
+}
+
+// Who signed a report on u that counts.
+fn reporters(
+    words: &[u64; POOL_WORDS],
+    ids: &[u16; 512],
+    len: usize,
+    init: u32,
+    sender: u8,
+    e: Evidence,
+    two: bool,
+    u: u32,
+) -> u32
+    requires { ⌜ Settled (ring init) sender (recordOf (now words) (now ids) len) e × (two ≡ twoPrepares sender (recordOf (now words) (now ids) len)) ⌝ }
+    ensures { λ r. ⌜ IsSet r (signs (isCountedOn (ring init) sender (recordOf (now (words .entry)) (now (ids .entry)) len) (viewOf u)) (recordOf (now (words .entry)) (now (ids .entry)) len)) ⌝ }
+{
+    let end = pool::limit(len);
+    let mut seen: u32 = 0;
+    let mut i = 0usize;
+    while i < end {
+        let s = ids[i];
+        let hit = counts_on(words, ids, len, init, sender, e, two, u, s);
+        seen = views::note(seen, hit, pool::origin(words, s));
+        i += 1;
+    }
+    seen
+}
+
+// Whether u, if it lies below the top t of the greatest history, has a quorum of reports that count.
+fn is_reported_on(
+    words: &[u64; POOL_WORDS],
+    ids: &[u16; 512],
+    len: usize,
+    init: u32,
+    sender: u8,
+    e: Evidence,
+    two: bool,
+    t: u32,
+    u: u32,
+) -> bool
+    requires { ⌜ Settled (ring init) sender (recordOf (now words) (now ids) len) e × (two ≡ twoPrepares sender (recordOf (now words) (now ids) len)) × (viewOf t ≡ top (ring init) (viewsOf (e .greatest) (e .length))) ⌝ }
+    ensures { λ r. ⌜ r ≡ reportedOn (ring init) sender (recordOf (now (words .entry)) (now (ids .entry)) len) (viewOf u) ⌝ }
+{
+    if !views::below_view(u, t) {
+        return true;
+    }
+    let seen = reporters(words, ids, len, init, sender, e, two, u);
+    views::quorum_in(u, seen)
+}
+
+// Whether each view of the greatest history below its top has a quorum of reports that count.
+pub fn reported(
+    words: &[u64; POOL_WORDS],
+    ids: &[u16; 512],
+    len: usize,
+    init: u32,
+    sender: u8,
+    e: Evidence,
+) -> bool
+    requires { ⌜ Settled (ring init) sender (recordOf (now words) (now ids) len) e ⌝ }
+    ensures { λ r. ⌜ r ≡ reportedAll (ring init) sender (recordOf (now (words .entry)) (now (ids .entry)) len) ⌝ }
+{
+    let two = is_twofold(words, ids, len, sender);
+    let list = e.greatest;
+    let n = e.length;
+    let t = top_of(&list, n, init);
+    let mut i = 0usize;
+    while i < n {
+        let u = view_in(&list, i);
+        if !is_reported_on(words, ids, len, init, sender, e, two, t, u) {
+            return false;
+        }
+        i += 1;
+    }
+    true
+}
+
+// Whether statement s is a report that counts, on a view of the greatest history below its top t.
+fn counts_below(
+    words: &[u64; POOL_WORDS],
+    ids: &[u16; 512],
+    len: usize,
+    init: u32,
+    sender: u8,
+    e: Evidence,
+    two: bool,
+    t: u32,
+    s: u16,
+) -> bool
+    requires { ⌜ Settled (ring init) sender (recordOf (now words) (now ids) len) e × (two ≡ twoPrepares sender (recordOf (now words) (now ids) len)) × (viewOf t ≡ top (ring init) (viewsOf (e .greatest) (e .length))) ⌝ }
+    ensures { λ r. ⌜ r ≡ countsBelow (ring init) sender (recordOf (now (words .entry)) (now (ids .entry)) len) (stmtAt (now (words .entry)) s) ⌝ }
+{
+    let list = e.greatest;
+    let n = e.length;
+    let u = pool::at(words, s);
+    if pool::kind(words, s) != 5 {
+        return false;
+    }
+    if !views::below_view(u, t) {
+        return false;
+    }
+    if !is_in(&list, n, u) {
+        return false;
+    }
+    counts(words, ids, len, init, sender, e, two, s)
+}
+
+// The binding `own`, merged with those of the reports that count on the views of the greatest history below its top.
+pub fn merged(
+    words: &[u64; POOL_WORDS],
+    ids: &[u16; 512],
+    len: usize,
+    init: u32,
+    sender: u8,
+    e: Evidence,
+    own: Binding,
+) -> Binding
+    requires { ⌜ Settled (ring init) sender (recordOf (now words) (now ids) len) e ⌝ }
+    ensures { λ r. ⌜ bindingIs r ≡ mergeAll (bindingIs own) (reportsBelow (ring init) sender (recordOf (now (words .entry)) (now (ids .entry)) len)) ⌝ }
+{
+    let two = is_twofold(words, ids, len, sender);
+    let list = e.greatest;
+    let t = top_of(&list, e.length, init);
+    let mut b = own;
+    let mut i = pool::limit(len);
+    while 0 < i {
+        i -= 1;
+        let s = ids[i];
+        if !counts_below(words, ids, len, init, sender, e, two, t, s) {
+            continue;
+        }
+        let next = binding::both(binding::told(words, s), b);
+        b = next;
+    }
+    b
+}

@@ -1,0 +1,166 @@
+// All the evidence of a record, from its votes.
+ghost use mathlib.Core.Path.{_≡_};
+ghost use mathlib.Core.Bool.{_||_};
+ghost use mathlib.Core.List.{List};
+ghost use Prim.Native.Nat.{ℕ};
+ghost use Rattle.protocol.specs.Statement.{Stmt};
+ghost use Rattle.protocol.specs.Evidence.{wished, isStored};
+ghost use Rattle.views.specs.View.{viewOf, ring};
+ghost use Rattle.pool.specs.Pool.{recordOf};
+ghost use Rattle.votes.specs.Votes.{Groups};
+ghost use Rattle.votes.specs.Tables.{Tables, Verdicts};
+ghost use Rattle.evidence.specs.Shown.{CandidatesOf, HistoriesOf, CertificatesOf};
+ghost use Rattle.evidence.specs.Evidence.{EvidenceOf};
+use crate::Evidence;
+use crate::candidates;
+use crate::candidates::Ranked;
+use crate::certificates;
+use crate::certificates::Certified;
+use crate::histories;
+use crate::histories::Summit;
+use pool::POOL_WORDS;
+
+// Whether one of the three is true.
+fn one_of(a: bool, b: bool, c: bool) -> bool
+    ensures { λ r. ⌜ r ≡ (a || b || c) ⌝ }
+{
+    if a {
+        return true;
+    }
+    if b {
+        return true;
+    }
+    c
+}
+
+// The evidence, put together from its parts.
+fn tie(wish: u32, r: Ranked, h: Summit, c: Certified, stored: bool) -> Evidence
+    ensures { λ e. ⌜ ((init sender : ℕ) (X : List Stmt) → viewOf wish ≡ wished (ring init) X → CandidatesOf init X r → HistoriesOf init X h → CertificatesOf init sender X c → stored ≡ isStored (ring init) X (c .payload) → EvidenceOf (ring init) sender X e) ⌝ }
+{
+    let candidates = r.views;
+    let greatest = h.views;
+    let conflict = one_of(r.conflict, h.conflict, c.conflict);
+    Evidence {
+        conflict,
+        many: r.many,
+        wished: wish,
+        candidates,
+        count: r.count,
+        greatest,
+        length: h.length,
+        certified: c.some,
+        payload: c.payload,
+        stored,
+    }
+}
+
+// The evidence, from the tables and the verdicts on them.
+fn judged(
+    words: &[u64; POOL_WORDS],
+    ids: &[u16; 512],
+    len: usize,
+    init: u32,
+    sender: u8,
+    wish: u32,
+    first: &[u16; 512],
+    seen: &[u32; 512],
+    n: usize,
+    chosen: &[u64; 512],
+    nc: usize,
+    agreed: &[u64; 512],
+    entry: &[u16; 512],
+    na: usize,
+    mc: &[u8; 512],
+    ma: &[u8; 512],
+) -> Evidence
+    requires { ⌜ (viewOf wish ≡ wished (ring init) (recordOf (now words) (now ids) len)) × Groups (now words) (now ids) len (now first) (now seen) n × Tables (now words) (now ids) len init (now chosen) nc (now agreed) (now entry) na × Verdicts (now words) (now ids) len init (now chosen) nc (now agreed) (now entry) na (now mc) (now ma) ⌝ }
+    ensures { λ e. ⌜ EvidenceOf (ring init) sender (recordOf (now (words .entry)) (now (ids .entry)) len) e ⌝ }
+{
+    let mut marks = [0u8; 512];
+    certificates::mark_backed(
+        words,
+        ids,
+        len,
+        init,
+        chosen,
+        nc,
+        agreed,
+        entry,
+        na,
+        mc,
+        ma,
+        first,
+        seen,
+        n,
+        &mut marks,
+    );
+    let r = candidates::rank(chosen, nc, mc, init);
+    let h = histories::climb(words, entry, na, ma, init);
+    let c = certificates::certificate(words, ids, len, init, sender, first, n, &marks);
+    let stored = certificates::is_stored(words, ids, len, init, first, n, &marks, c.payload);
+    tie(wish, r, h, c, stored)
+}
+
+// The evidence of a record.
+pub fn of_record(
+    words: &[u64; POOL_WORDS],
+    ids: &[u16; 512],
+    len: usize,
+    init: u32,
+    sender: u8,
+) -> Evidence
+    ensures { λ e. ⌜ EvidenceOf (ring init) sender (recordOf (now (words .entry)) (now (ids .entry)) len) e ⌝ }
+{
+    let wish = votes::wished_view(words, ids, len, init);
+    let mut first = [0u16; 512];
+    let mut seen = [0u32; 512];
+    let n = votes::gather(words, ids, len, &mut first, &mut seen);
+    let mut chosen = [0u64; 512];
+    let nc = votes::choices(words, ids, len, init, wish, &first, &seen, n, &mut chosen);
+    let mut agreed = [0u64; 512];
+    let mut entry = [0u16; 512];
+    let na = votes::agreements(
+        words,
+        ids,
+        len,
+        init,
+        &first,
+        &seen,
+        n,
+        &mut agreed,
+        &mut entry,
+    );
+    let mut mc = [0u8; 512];
+    let mut ma = [0u8; 512];
+    sealing::verdicts(
+        words,
+        ids,
+        len,
+        init,
+        &chosen,
+        nc,
+        &agreed,
+        &entry,
+        na,
+        &mut mc,
+        &mut ma,
+    );
+    judged(
+        words,
+        ids,
+        len,
+        init,
+        sender,
+        wish,
+        &first,
+        &seen,
+        n,
+        &chosen,
+        nc,
+        &agreed,
+        &entry,
+        na,
+        &mc,
+        &ma,
+    )
+}

@@ -1,0 +1,218 @@
+-- Laws of comparing, finding and appending statements, and of what stays as it was.
+-- Assumes nothing.
+use mathlib.Core.Path.{_≡_, refl, sym, ap, ap₂, _∙_}
+use mathlib.Core.Logic.{_⊎_, inl, inr}
+use mathlib.Core.Bool.{Bool, true, false, not, _&&_, _||_}
+use mathlib.Core.List.{List, [], _∷_, _++_}
+use mathlib.Core.Option.{Option, some, none}
+use Prim.Native.Nat.{ℕ, zero, suc, _+_, _*_, _%_, _≤_, _<_, min}
+use native.Mathlib.Decide.{decLt}
+use native.Mathlib.Numerals.{add-one}
+use native.Mathlib.Omega.{arith}
+use lib.Dec.{ltb}
+use lib.ListN.{length, getD, set}
+use lib.Seq.{getD-set-same, getD-set-other}
+use borrow.Author.Tests.{lt-ltb, le-ltb}
+use Rattle.protocol.specs.Lists.{if_then_else_, any, find}
+use Rattle.protocol.specs.History.{sameViews}
+use Rattle.protocol.specs.Statement.{Stmt, sameStmt}
+use Rattle.protocol.proofs.Says.{Says, says-map, says-unique}
+use Rattle.protocol.proofs.Decided.{says-sames}
+use Rattle.protocol.proofs.Asked.{says-same-stmt}
+use Rattle.views.specs.Table.{table}
+use Rattle.views.specs.View.{viewOf}
+use Rattle.views.proofs.Tables.{table-cong, any-more, any-zero}
+use Rattle.views.proofs.Views.{fails}
+use Rattle.statements.specs.declared.Statement.{Statement}
+use Rattle.statements.specs.Meaning.{stmtOf}
+use Rattle.pool.specs.declared.Found.the-variants as found
+use Rattle.pool.specs.declared.Placed.the-variants as placed
+use Rattle.pool.specs.declared.Record.{Record}
+use Rattle.pool.specs.Pool.{word, countOf, viewAt, stmtAt, poolLen, poolOf, recordOf}
+use Rattle.pool.specs.Changes.{Put, numberOf, foundOf, placedAt, Grown, Appended, Pushed}
+use Rattle.pool.proofs.Records.{entry, whole}
+use Rattle.pool.proofs.Writes.{stmts}
+
+-- ---- two statements
+
+-- they differ if a part of them does
+pub differs : {A : Type 0} (g : Stmt → A) (a b : Stmt) → (g a ≡ g b → ⊥) → false ≡ sameStmt a b
+differs g a b d = sym (fails says-same-stmt (λ e. d (ap g e)))
+
+-- where all else is the same, the views tell
+pub views-tell : (a b : Stmt) (r : Bool) → a .kind ≡ b .kind → a .origin ≡ b .origin → a .at ≡ b .at → a .view ≡ b .view → a .binding ≡ b .binding → a .payload ≡ b .payload → a .stored ≡ b .stored → a .kept ≡ b .kept
+    → r ≡ sameViews (a .views) (b .views) → r ≡ sameStmt a b
+views-tell a b r e1 e2 e3 e4 e5 e6 e7 e8 q = q ∙ says-unique (says-map (stmts e1 e2 e3 e4 e5 e6 e7 e8) (ap (λ s. s .views)) (says-sames (a .views) (b .views))) says-same-stmt
+
+-- ---- the first of a list
+
+abbrev orElse : {A : Type 0} → Option A → Option A → Option A
+orElse none b = b
+orElse (some a) b = some a
+
+pick : {A : Type 0} (b : Bool) (x : A) (m n k : Option A) → m ≡ orElse n k → (if b then some x else m) ≡ orElse (if b then some x else n) k
+pick true x m n k e = refl
+pick false x m n k e = e
+
+module _ {A : Type 0} (p : A → Bool) where
+  find-append : (l k : List A) → find p (l ++ k) ≡ orElse (find p l) (find p k)
+  unfolding find
+  find-append [] k = refl
+  find-append (x ∷ l) k = pick (p x) x (find p (l ++ k)) (find p l) (find p k) (find-append l k)
+
+  find-one : (a : A) (b : Bool) → p a ≡ b → find p (a ∷ []) ≡ (if b then some a else none)
+  unfolding find
+  find-one a b e = ap (λ c. if c then some a else none) e
+
+  find-next : (l : List A) (a : A) (b : Bool) → find p l ≡ none → p a ≡ b → find p (l ++ (a ∷ [])) ≡ (if b then some a else none)
+  find-next l a b e f = find-append l (a ∷ []) ∙ ap₂ orElse e (find-one a b f)
+
+  find-at : (f : ℕ → A) (n i : ℕ) → i < n → find p (table i f) ≡ none → p (f i) ≡ true → find p (table n f) ≡ some (f i)
+  unfolding table
+  find-at f zero i l e t = absurd (omega arith)
+  find-at f (suc n) i l e t = elim (decLt i n) [
+    | yes m ↦ find-append (table n f) (f n ∷ []) ∙ ap (λ o. orElse o (find p (f n ∷ []))) (find-at f n i m e t)
+    | no m ↦ (let q : i ≡ n = omega arith in ap (λ k. find p (table k f ++ (f k ∷ []))) (sym q) ∙ find-next (table i f) (f i) true e t)
+  ]
+
+  find-more : (f : ℕ → A) (n : ℕ) → find p (table n f) ≡ none → p (f n) ≡ false → find p (table (n + 1) f) ≡ none
+  unfolding table
+  find-more f n e t = rw add-one (find-next (table n f) (f n) false e t)
+
+-- ---- a number of the pool
+
+module _ (W : List ℕ) (s : Stmt) where
+  -- the first number below n whose statement is s
+  abbrev pub numberTo : ℕ → Option ℕ
+  numberTo n = find (λ i. sameStmt s (stmtAt W i)) (table n (λ i. i))
+
+  pub seek-none : numberTo 0 ≡ none
+  unfolding table find
+  seek-none = refl
+
+  pub seek-more : (i : ℕ) (b : Bool) → numberTo i ≡ none → b ≡ sameStmt s (stmtAt W i) → b ≡ false → numberTo (i + 1) ≡ none
+  seek-more i b e f g = find-more (λ i. sameStmt s (stmtAt W i)) (λ i. i) i e (sym f ∙ g)
+
+  pub seek-found : (i n : ℕ) (b : Bool) → i < n → n ≡ poolLen W → numberTo i ≡ none → b ≡ sameStmt s (stmtAt W i) → b ≡ true → found.At i ≡ foundOf (numberOf W s)
+  unfolding numberOf
+  seek-found i n b l m e f g = ap foundOf (sym (find-at (λ i. sameStmt s (stmtAt W i)) (λ i. i) (poolLen W) i (omega arith) e (sym f ∙ g)))
+
+  pub seek-all : (i : ℕ) → i ≡ poolLen W → numberTo i ≡ none → found.Nothing ≡ foundOf (numberOf W s)
+  unfolding numberOf
+  seek-all i e f = ap foundOf (sym (rw e at f))
+
+-- what was found is a number, or none
+
+pub found-at : (o : Option ℕ) (i : ℕ) → found.At i ≡ foundOf o → o ≡ some i
+found-at none i e = absurd (let n : _≡_ {A = ℕ} 0 1 = cc in omega arith)
+found-at (some j) i e = cc
+
+pub found-none : (o : Option ℕ) → found.Nothing ≡ foundOf o → o ≡ none
+found-none none e = refl
+found-none (some j) e = absurd (let n : _≡_ {A = ℕ} 0 1 = cc in omega arith)
+
+-- ---- what stays as it was
+
+pub stmt-kept : (W W′ : List ℕ) (m : ℕ) → ((f : ℕ) → f < 32 → word W′ m f ≡ word W m f) → stmtAt W′ m ≡ stmtAt W m
+unfolding stmtAt countOf
+stmt-kept W W′ m k =
+    stmts (ap (λ x. x % 256) (k 0 (omega arith))) (ap (λ x. x % 256) (k 1 (omega arith))) (ap viewOf (k 2 (omega arith))) (ap viewOf (k 3 (omega arith)))
+    (ap (λ x. min x 2) (k 4 (omega arith))) (k 5 (omega arith)) (ap (λ x. min x 1) (k 6 (omega arith))) (k 7 (omega arith))
+    (ap (λ n. table (min n 16) (viewAt W′ m)) (k 8 (omega arith)) ∙ table-cong (min (word W m 8) 16) (viewAt W′ m) (viewAt W m) (λ p l. ap viewOf (k (9 + p) (omega arith))))
+
+-- another statement than the one that was written
+put-kept : (W W′ : List ℕ) (n m : ℕ) (st : Statement) → Put W W′ n st → (min m 511 ≡ min n 511 → ⊥) → stmtAt W′ m ≡ stmtAt W m
+unfolding word
+put-kept W W′ n m st p d = stmt-kept W W′ m (λ f l. p .others (min m 511 * 32 + f) (apart f l (decLt (min m 511) (min n 511))))
+  where
+    apart : (f : ℕ) → f < 32 → Dec (min m 511 < min n 511) → (min m 511 * 32 + f < min n 511 * 32) ⊎ (min n 511 * 32 + 32 ≤ min m 511 * 32 + f)
+    apart f l (yes h) = inl (omega arith)
+    apart f l (no h) = inr (omega (arith, other (decLt (min n 511) (min m 511))))
+      where
+        other : Dec (min n 511 < min m 511) → min n 511 < min m 511
+        other (yes g) = g
+        other (no g) = absurd (d (omega arith))
+
+-- the number of statements lies behind them all
+count-kept : (W : List ℕ) (v m : ℕ) → stmtAt (set W 16384 v) m ≡ stmtAt W m
+unfolding word
+count-kept W v m = stmt-kept W (set W 16384 v) m (λ f l. getD-set-other W 16384 (min m 511 * 32 + f) v 0 (λ e. omega arith))
+
+counted : (U : List ℕ) (v : ℕ) → 16384 < length U → v ≤ 512 → poolLen (set U 16384 v) ≡ v
+unfolding poolLen
+counted U v l h = let g : getD (set U 16384 v) 16384 0 ≡ v = getD-set-same U 16384 v 0 l in omega arith
+
+-- ---- one statement more
+
+module _ (W : List ℕ) (st : Statement) where
+  pub append-old : (i : ℕ) → found.At i ≡ foundOf (numberOf W (stmtOf st)) → Appended W W st (placed.At i)
+  append-old i e =
+      let o : numberOf W (stmtOf st) ≡ some i = found-at (numberOf W (stmtOf st)) i e in
+      record { answer = ap (λ x. placedAt x (poolLen W)) (sym o); old = λ j f. refl; full = λ l. refl; new = λ f l. absurd (let n : _≡_ {A = ℕ} 0 1 = cc in omega arith) }
+
+  pub append-full : (n : ℕ) → found.Nothing ≡ foundOf (numberOf W (stmtOf st)) → n ≡ poolLen W → 512 ≤ n → Appended W W st placed.Full
+  append-full n e q l =
+      let o : numberOf W (stmtOf st) ≡ none = found-none (numberOf W (stmtOf st)) e in
+      record {
+        answer = sym (ap (λ x. placedAt x (poolLen W)) o ∙ ap (λ b. if b then placed.At (poolLen W) else placed.Full) (le-ltb (poolLen W) 512 (omega arith)));
+        old = λ j f. refl;
+        full = λ l. refl;
+        new = λ f h. absurd (omega arith);
+      }
+
+  pub append-new : (n : ℕ) (U : List ℕ) → length W ≡ 16385 → found.Nothing ≡ foundOf (numberOf W (stmtOf st)) → n ≡ poolLen W → n < 512 → Put W U n st → Appended W (set U 16384 (n + 1)) st (placed.At n)
+  append-new n U long e q l p =
+      let o : numberOf W (stmtOf st) ≡ none = found-none (numberOf W (stmtOf st)) e in
+      record {
+        answer = sym (ap (λ x. placedAt x (poolLen W)) o ∙ ap (λ b. if b then placed.At (poolLen W) else placed.Full) (lt-ltb (poolLen W) 512 (omega arith)) ∙ ap placed.At (sym q));
+        old = λ i f. absurd (let z : _≡_ {A = ℕ} 0 1 = cc in omega arith);
+        full = λ h. absurd (omega arith);
+        new = λ f h. record { len = counted U (n + 1) (omega (arith, p .long)) (omega arith) ∙ ap (λ x. x + 1) q; there = λ k. ap (stmtAt (set U 16384 (n + 1))) (sym q) ∙ count-kept U (n + 1) n ∙ p .there k; others = λ m d. count-kept U (n + 1) m ∙ put-kept W U n m st p (λ z. d (omega arith)) };
+      }
+
+-- ---- for callers: the pool and the records after an addition
+
+pub pool-grown : (W W′ : List ℕ) (st : Statement) → Grown W W′ st → poolLen W < 512 → st .history .len ≤ 16 → poolOf W′ ≡ poolOf W ++ (stmtOf st ∷ [])
+unfolding poolOf table
+pool-grown W W′ st g l h =
+    ap (λ n. table n (stmtAt W′)) (g .len ∙ add-one (poolLen W))
+    ∙ ap₂ (λ k s. k ++ (s ∷ [])) (table-cong (poolLen W) (stmtAt W′) (stmtAt W) (λ i m. g .others i (λ e. omega arith))) (g .there h)
+
+-- a record whose numbers are all in the pool
+pub record-grown : (W W′ ids : List ℕ) (len : ℕ) (st : Statement) → Grown W W′ st → poolLen W < 512 → ((i : ℕ) → i < min len 512 → getD ids i 0 < poolLen W) → recordOf W′ ids len ≡ recordOf W ids len
+unfolding recordOf
+record-grown W W′ ids len st g l all = table-cong (min len 512) (entry W′ ids) (entry W ids) (λ i m. g .others (getD ids i 0) (λ e. omega (arith, all i m)))
+
+-- ---- one number more in a record
+
+pub push-full : (from to : Record) (id n : ℕ) → n ≡ min (from .len) 512 → 512 ≤ n → to .ids ≡ from .ids → to .len ≡ n → Pushed from id to
+push-full from to id n e l p q = record { len = omega arith; first = λ i h. ap (λ k. getD k i 0) p; last = λ h. absurd (omega arith); means = λ W. same W ∙ sym (pass W) }
+  where
+    same : (W : List ℕ) → recordOf W (to .ids) (to .len) ≡ recordOf W (from .ids) (from .len)
+    same W = ap₂ (λ k m. recordOf W k m) p q ∙ whole W (from .ids) (from .len) n e
+
+    pass : (W : List ℕ) → (if ltb (min (from .len) 512) 512 then recordOf W (from .ids) (from .len) ++ (stmtAt W id ∷ []) else recordOf W (from .ids) (from .len)) ≡ recordOf W (from .ids) (from .len)
+    pass W = ap (λ b. if b then recordOf W (from .ids) (from .len) ++ (stmtAt W id ∷ []) else recordOf W (from .ids) (from .len)) (le-ltb (min (from .len) 512) 512 (omega arith))
+
+record-set : (W ids : List ℕ) (id n : ℕ) → n < 512 → length ids ≡ 512 → recordOf W (set ids n id) (n + 1) ≡ recordOf W ids n ++ (stmtAt W id ∷ [])
+unfolding recordOf table
+record-set W ids id n l h =
+    let z : min (n + 1) 512 ≡ suc n = omega arith in
+    let y : min n 512 ≡ n = omega arith in
+    ap (λ m. table m (entry W (set ids n id))) z
+    ∙ ap₂ (λ k s. k ++ (s ∷ [])) (table-cong n (entry W (set ids n id)) (entry W ids) (λ i m. ap (stmtAt W) (getD-set-other ids n i id 0 (λ q. omega arith)))) (ap (stmtAt W) (getD-set-same ids n id 0 (omega arith)))
+    ∙ ap (λ m. table m (entry W ids) ++ (stmtAt W id ∷ [])) (sym y)
+
+pub push-room : (from to : Record) (id n : ℕ) → n ≡ min (from .len) 512 → n < 512 → length (from .ids) ≡ 512 → to .ids ≡ set (from .ids) n id → to .len ≡ n + 1 → Pushed from id to
+push-room from to id n e l h p q = record {
+  len = omega arith;
+  first = λ i m. ap (λ k. getD k i 0) p ∙ getD-set-other (from .ids) n i id 0 (λ d. omega arith);
+  last = λ m. ap₂ (λ k i. getD k i 0) p (sym e) ∙ getD-set-same (from .ids) n id 0 (omega arith);
+  means = λ W. one W ∙ sym (pass W);
+}
+  where
+    one : (W : List ℕ) → recordOf W (to .ids) (to .len) ≡ recordOf W (from .ids) (from .len) ++ (stmtAt W id ∷ [])
+    one W = ap₂ (λ k m. recordOf W k m) p q ∙ record-set W (from .ids) id n l h ∙ ap (λ k. k ++ (stmtAt W id ∷ [])) (whole W (from .ids) (from .len) n e)
+
+    pass : (W : List ℕ) → (if ltb (min (from .len) 512) 512 then recordOf W (from .ids) (from .len) ++ (stmtAt W id ∷ []) else recordOf W (from .ids) (from .len)) ≡ recordOf W (from .ids) (from .len) ++ (stmtAt W id ∷ [])
+    pass W = ap (λ b. if b then recordOf W (from .ids) (from .len) ++ (stmtAt W id ∷ []) else recordOf W (from .ids) (from .len)) (lt-ltb (min (from .len) 512) 512 (omega arith))

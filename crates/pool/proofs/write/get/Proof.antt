@@ -1,0 +1,45 @@
+use native.Mathlib.Omega.{arith}
+use mathlib.Core.Path.{sym, ap, _∙_}
+use Rattle.statements.specs.Meaning.{stmtOf}
+use Rattle.pool.proofs.Writes.{stmts, flag-is}
+use borrow.Author.Needs.{needs}
+use Rattle.pool.proofs.write.get.Statement.{statement}
+use Rattle.pool.proofs.write.get.Tie as tie
+use Rattle.pool.proofs.write.get.Reads as reads
+use Rattle.pool.proofs.write.get.Lts as lts
+use Rattle.pool.proofs.read.at.Reads as at-reads
+use Rattle.pool.proofs.read.binding.Reads as binding-reads
+use Rattle.pool.proofs.read.kept.Reads as kept-reads
+use Rattle.pool.proofs.read.kind.Reads as kind-reads
+use Rattle.pool.proofs.read.origin.Reads as origin-reads
+use Rattle.pool.proofs.read.payload.Reads as payload-reads
+use Rattle.pool.proofs.read.stored.Reads as stored-reads
+use Rattle.pool.proofs.read.view.Reads as view-reads
+use Rattle.pool.proofs.write.binding_of.Reads as binding-of-reads
+use Rattle.pool.proofs.write.get_views.Reads as get-views-reads
+use Rattle.views.proofs.View.of_word.Reads as of-word-reads
+
+-- src/write.rt:82:1
+returns : tie.Need-returns
+unfolding stmtOf
+returns c = stmts (c .before .before .before .kind .ensures .0) (c .before .before .origin .ensures .0) (c .before .before .before .before .before .before .before .of-word .ensures ∙ c .before .before .before .before .before .before .before .before .at .ensures) (c .before .before .before .before .before .of-word2 .ensures ∙ c .before .before .before .before .before .before .view .ensures) (c .before .before .before .before .before .before .before .before .before .binding-of .ensures .0 ∙ omega (arith, c .before .before .before .before .before .before .before .before .before .before .binding .ensures .0, c .before .before .before .before .before .before .before .before .before .before .binding .ensures .1)) (c .before .before .before .before .before .before .before .before .before .binding-of .ensures .1 ∙ c .before .before .before .before .before .before .before .before .before .before .before .payload .ensures) (flag-is _ (c .before .stored .ensures .1) ∙ c .before .stored .ensures .0) (c .kept .ensures) (c .before .before .before .before .get-views .ensures .0)
+
+pub get-spec : {M : Type 1} → statement M
+get-spec =
+    tie.close
+    (tie.spec
+    (λ c κs. search needs)
+    (λ c κs. search needs)
+    (λ c κs. search needs)
+    (λ c κs. search needs)
+    (λ c κs. search needs)
+    (λ c κs. search needs)
+    (λ c κs. search needs)
+    (λ c κs. search needs)
+    (λ c κs. search needs)
+    (λ c. search needs)
+    (λ c κs. search needs)
+    (λ c. search needs)
+    (λ c κs. search needs)
+    (λ c κs. search needs)
+    returns)

@@ -1,0 +1,42 @@
+use borrow.Author.Needs.{needs}
+use native.Mathlib.Omega.{arith}
+use mathlib.Core.Path.{_≡_, refl, sym, _∙_}
+use Prim.Native.Nat.{_-_, _≤_}
+use lib.ListN.{length, length-set}
+use Rattle.views.specs.Table.{table}
+use Rattle.views.specs.Held.{heldAt}
+use Rattle.views.proofs.Tables.{table-none}
+use Rattle.views.proofs.Held.{held-more}
+use Rattle.statements.proofs.FieldLaws.{views-table}
+use Rattle.pool.specs.Pool.{viewAt}
+use Rattle.pool.proofs.Laws.{views-of}
+use Rattle.pool.proofs.write.get_views.Statement.{statement}
+use Rattle.pool.proofs.write.get_views.Tie as tie
+use Rattle.pool.proofs.write.get_views.Reads as reads
+use Rattle.pool.proofs.write.get_views.Lts as lts
+use Rattle.pool.proofs.read.count.Reads as count-reads
+use Rattle.pool.proofs.read.nth.Reads as nth-reads
+use Rattle.views.proofs.View.of_word.Reads as of-word-reads
+
+abbrev Inv-loop : tie.InvT-loop
+Inv-loop words n c views₀ p₀ views p = (p ≤ c) × (length views ≡ 16) × (table p (heldAt views) ≡ table p (viewAt words n))
+
+abbrev μ-loop : tie.MeasureT-loop
+μ-loop words n c views₀ p₀ views p = c - p
+
+pub get-views-spec : {M : Type 1} → statement M
+get-views-spec =
+    tie.close
+    (tie.spec
+    Inv-loop
+    μ-loop
+    (λ c κs. search needs)
+    (λ c. (omega arith, refl, table-none _ _))
+    (λ c κs. omega (arith, c .before .before .count .ensures .1))
+    (λ c κs. search needs)
+    (λ c. omega (arith, c .before .before .before .before .count .ensures .1))
+    (λ c. omega (arith, c .before .before .before .before .count .ensures .1))
+    (λ c. omega (arith, c .before .before .before .before .count .ensures .1))
+    (λ c. search needs)
+    (λ c. (omega arith, length-set (c .before .before .before .loop .views) (c .before .before .before .loop .p) (c .of-word .result) ∙ c .before .before .before .loop .inv .1, held-more (c .before .before .before .loop .views) (c .before .before .before .loop .p) (c .of-word .result) _ (omega (arith, c .before .before .before .loop .inv .1, c .before .before .before .before .count .ensures .1)) (c .before .before .before .loop .inv .2) (c .of-word .ensures ∙ c .before .nth .ensures)))
+    (λ c. (views-table _ _ ∙ let e : c .before .loop .p ≡ c .before .before .count .result = omega arith in (rw e at (c .before .loop .inv .2)) ∙ views-of _ _ _ (c .before .before .count .ensures .0), c .before .before .count .ensures .1)))

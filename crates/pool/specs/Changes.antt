@@ -1,0 +1,70 @@
+-- What writing to the pool does, and where a statement is found in it.
+-- Words that no statement uses, and the places after a statement's last view, may hold anything.
+-- Assumes nothing.
+use mathlib.Core.Path.{_≡_}
+use mathlib.Core.Logic.{_⊎_}
+use mathlib.Core.List.{List, _∷_, [], _++_}
+use mathlib.Core.Option.{Option, some, none}
+use Prim.Native.Nat.{ℕ, _+_, _*_, _≤_, _<_, min}
+use lib.Dec.{ltb}
+use lib.ListN.{length, getD}
+use Rattle.protocol.specs.Lists.{if_then_else_, find}
+use Rattle.protocol.specs.Statement.{Stmt, sameStmt}
+use Rattle.views.specs.declared.History.{History}
+use Rattle.views.specs.Held.{heldAt}
+use Rattle.views.specs.Table.{table}
+use Rattle.views.specs.View.{viewOf}
+use Rattle.statements.specs.declared.Statement.{Statement}
+use Rattle.statements.specs.Meaning.{stmtOf}
+use Rattle.pool.specs.declared.Found.{Found}
+use Rattle.pool.specs.declared.Found.the-variants as found
+use Rattle.pool.specs.declared.Placed.{Placed}
+use Rattle.pool.specs.declared.Placed.the-variants as placed
+use Rattle.pool.specs.declared.Record.{Record}
+use Rattle.pool.specs.Pool.{stmtAt, poolLen, recordOf}
+
+-- The views of h went into the 16 words from s on.
+pub record WroteViews (W W′ : List ℕ) (s : ℕ) (h : History) : Type 0 where
+  pub long : length W′ ≡ length W
+  pub views : (p : ℕ) → p < min (h .len) 16 → viewOf (getD W′ (s + p) 0) ≡ heldAt (h .views) p
+  pub others : (i : ℕ) → (i < s) ⊎ (s + 16 ≤ i) → getD W′ i 0 ≡ getD W i 0
+
+-- Statement n is st now, and no other word changed. A number above 511 counts as 511.
+pub record Put (W W′ : List ℕ) (n : ℕ) (st : Statement) : Type 0 where
+  pub long : length W′ ≡ length W
+  pub there : st .history .len ≤ 16 → stmtAt W′ n ≡ stmtOf st
+  pub others : (i : ℕ) → (i < min n 511 * 32) ⊎ (min n 511 * 32 + 32 ≤ i) → getD W′ i 0 ≡ getD W i 0
+
+-- The first number of the pool whose statement is s.
+unfoldable pub numberOf : List ℕ → Stmt → Option ℕ
+numberOf W s = find (λ i. sameStmt s (stmtAt W i)) (table (poolLen W) (λ i. i))
+
+abbrev pub foundOf : Option ℕ → Found
+foundOf none = found.Nothing
+foundOf (some i) = found.At i
+
+-- Where a statement goes that was found there, in a pool of this length: its number is used again, or it goes to the end.
+abbrev pub placedAt : Option ℕ → ℕ → Placed
+placedAt none n = if ltb n 512 then placed.At n else placed.Full
+placedAt (some i) n = placed.At i
+
+-- One statement more, which is st, and all others as before.
+pub record Grown (W W′ : List ℕ) (st : Statement) : Type 0 where
+  pub len : poolLen W′ ≡ poolLen W + 1
+  pub there : st .history .len ≤ 16 → stmtAt W′ (poolLen W) ≡ stmtOf st
+  pub others : (m : ℕ) → (min m 511 ≡ poolLen W → ⊥) → stmtAt W′ m ≡ stmtAt W m
+
+-- st is in the pool where r says, and the pool has grown only where st was not in it and there was room.
+pub record Appended (W W′ : List ℕ) (st : Statement) (r : Placed) : Type 0 where
+  pub answer : r ≡ placedAt (numberOf W (stmtOf st)) (poolLen W)
+  pub old : (i : ℕ) → numberOf W (stmtOf st) ≡ some i → W′ ≡ W
+  pub full : 512 ≤ poolLen W → W′ ≡ W
+  pub new : numberOf W (stmtOf st) ≡ none → poolLen W < 512 → Grown W W′ st
+
+-- The number id at the end of a record, if that has room.
+pub record Pushed (from : Record) (id : ℕ) (to : Record) : Type 0 where
+  pub len : to .len ≡ min (min (from .len) 512 + 1) 512
+  pub first : (i : ℕ) → i < min (from .len) 512 → getD (to .ids) i 0 ≡ getD (from .ids) i 0
+  pub last : min (from .len) 512 < 512 → getD (to .ids) (min (from .len) 512) 0 ≡ id
+  pub means : (W : List ℕ)
+      → recordOf W (to .ids) (to .len) ≡ (if ltb (min (from .len) 512) 512 then recordOf W (from .ids) (from .len) ++ (stmtAt W id ∷ []) else recordOf W (from .ids) (from .len))

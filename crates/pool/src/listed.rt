@@ -1,0 +1,43 @@
+// Records: lists of pool numbers.
+ghost use mathlib.Core.Path.{_≡_};
+ghost use Rattle.protocol.specs.Lists.{any};
+ghost use Rattle.protocol.specs.Statement.{sameStmt};
+ghost use Rattle.statements.specs.Meaning.{stmtOf};
+ghost use Rattle.pool.specs.Pool.{recordOf};
+ghost use Rattle.pool.specs.Changes.{Pushed};
+use crate::POOL_WORDS;
+use crate::Record;
+use crate::read;
+use crate::seek;
+use statements::Statement;
+
+// Whether a record holds st.
+pub fn record_has(words: &[u64; POOL_WORDS], rec: Record, st: Statement) -> bool
+    ensures { λ r. ⌜ r ≡ any (sameStmt (stmtOf st)) (recordOf (now (words .entry)) (rec .ids) (rec .len)) ⌝ }
+{
+    let end = read::limit(rec.len);
+    let ids = rec.ids;
+    let mut i = 0usize;
+    while i < end {
+        if seek::same_at(words, ids[i], st) {
+            return true;
+        }
+        i += 1;
+    }
+    false
+}
+
+// The number id at the end of a record. A record of 512 stays as it is.
+pub fn push(rec: Record, id: u16) -> Record
+    ensures { λ r. ⌜ Pushed rec id r ⌝ }
+{
+    let n = read::limit(rec.len);
+    let mut out = rec;
+    out.len = n;
+    if n >= 512 {
+        return out;
+    }
+    out.ids[n] = id;
+    out.len = n + 1;
+    out
+}

@@ -1,0 +1,101 @@
+// Where a statement is in the pool, and one more at its end.
+ghost use mathlib.Core.Path.{_≡_};
+ghost use Rattle.protocol.specs.History.{sameViews};
+ghost use Rattle.protocol.specs.Statement.{sameStmt};
+ghost use Rattle.statements.specs.Meaning.{firstViews, stmtOf};
+ghost use Rattle.pool.specs.Pool.{stmtAt};
+ghost use Rattle.pool.specs.Changes.{foundOf, numberOf, Appended};
+use crate::Found;
+use crate::POOL_WORDS;
+use crate::Placed;
+use crate::read;
+use crate::write;
+use statements::Statement;
+use views::History;
+
+// Whether h has just the views of statement n.
+fn same_history(words: &[u64; POOL_WORDS], n: u16, h: History) -> bool
+    ensures { λ r. ⌜ r ≡ sameViews (firstViews (h .len) (h .views)) (stmtAt (now (words .entry)) n .views) ⌝ }
+{
+    let c = read::count(words, n);
+    if h.len != c {
+        return false;
+    }
+    let views = h.views;
+    let mut p = 0usize;
+    while p < c {
+        let v = views[p];
+        if v.word() != read::nth(words, n, p) {
+            return false;
+        }
+        p += 1;
+    }
+    true
+}
+
+// Whether statement n is st. Most statements differ in the first fields that are asked.
+pub fn same_at(words: &[u64; POOL_WORDS], n: u16, st: Statement) -> bool
+    ensures { λ r. ⌜ r ≡ sameStmt (stmtOf st) (stmtAt (now (words .entry)) n) ⌝ }
+{
+    if st.kind as u64 != read::kind(words, n) {
+        return false;
+    }
+    if st.origin as u64 != read::origin(words, n) {
+        return false;
+    }
+    let t = st.at;
+    if t.word() != read::at(words, n) {
+        return false;
+    }
+    let v = st.view;
+    if v.word() != read::view(words, n) {
+        return false;
+    }
+    if statements::payload_of(st) != read::payload(words, n) {
+        return false;
+    }
+    if statements::binding_number(st) != read::binding(words, n) {
+        return false;
+    }
+    if read::flag(st.stored) != read::stored(words, n) {
+        return false;
+    }
+    if st.kept != read::kept(words, n) {
+        return false;
+    }
+    let h = st.history;
+    same_history(words, n, h)
+}
+
+// The number of st in the pool.
+pub fn find(words: &[u64; POOL_WORDS], st: Statement) -> Found
+    ensures { λ r. ⌜ r ≡ foundOf (numberOf (now (words .entry)) (stmtOf st)) ⌝ }
+{
+    let end = read::pool_len(words);
+    let mut i = 0usize;
+    while i < end {
+        if same_at(words, i as u16, st) {
+            return Found::At(i as u16);
+        }
+        i += 1;
+    }
+    Found::Nothing
+}
+
+// The number of st, which goes to the end of the pool if it is not in it. Nothing changes where the pool is full.
+pub fn append(words: &mut [u64; POOL_WORDS], st: Statement) -> Placed
+    ensures { λ r. ⌜ Appended (now (words .entry)) (now (words .exit)) st r ⌝ }
+{
+    read::size(words);
+    let f = find(words, st);
+    if let Found::At(i) = f {
+        return Placed::At(i);
+    }
+    let n = read::pool_len(words);
+    if n >= 512 {
+        return Placed::Full;
+    }
+    write::put(words, n as u16, st);
+    words[16384] = n as u64 + 1;
+    Placed::At(n as u16)
+}

@@ -1,0 +1,102 @@
+// A whole statement, into the pool and out of it.
+ghost use mathlib.Core.Path.{_≡_};
+ghost use Prim.Native.Nat.{_+_, _≤_, min};
+ghost use lib.ListN.{length};
+ghost use Rattle.statements.specs.Meaning.{firstViews, bindingNumber, payloadOf, stmtOf};
+ghost use Rattle.pool.specs.Pool.{stmtAt};
+ghost use Rattle.pool.specs.Changes.{Put, WroteViews};
+use crate::POOL_WORDS;
+use crate::read;
+use statements::Binding;
+use statements::Statement;
+use views::History;
+use views::View;
+
+// The views of h from word s on.
+fn put_views(words: &mut [u64; POOL_WORDS], s: usize, h: History)
+    requires { ⌜ (length (now words) ≡ 16385) × (s + 16 ≤ 16384) ⌝ }
+    ensures { λ r. ⌜ WroteViews (now (words .entry)) (now (words .exit)) s h ⌝ }
+{
+    let n = h.count();
+    let views = h.views;
+    let mut p = 0usize;
+    while p < n {
+        let v = views[p];
+        words[s + p] = v.word() as u64;
+        p += 1;
+    }
+}
+
+// Statement n is st from now on. Where st has more than 16 views, only 16 are kept.
+pub fn put(words: &mut [u64; POOL_WORDS], n: u16, st: Statement)
+    ensures { λ r. ⌜ Put (now (words .entry)) (now (words .exit)) n st ⌝ }
+{
+    read::size(words);
+    let s = read::start(n);
+    let t = st.at;
+    let v = st.view;
+    let h = st.history;
+    words[s] = st.kind as u64;
+    words[s + 1] = st.origin as u64;
+    words[s + 2] = t.word() as u64;
+    words[s + 3] = v.word() as u64;
+    words[s + 4] = statements::binding_number(st);
+    words[s + 5] = statements::payload_of(st);
+    words[s + 6] = read::flag(st.stored);
+    words[s + 7] = st.kept;
+    words[s + 8] = h.len as u64;
+    put_views(words, s + 9, h);
+}
+
+// The binding that a number and a payload stand for.
+fn binding_of(number: u64, payload: u64) -> Binding
+    ensures { λ r. ⌜ (bindingNumber r ≡ min number 2) × (payloadOf r payload ≡ payload) ⌝ }
+{
+    if number == 0 {
+        return Binding::Unbound;
+    }
+    if number == 1 {
+        return Binding::Bound(payload);
+    }
+    Binding::Barred
+}
+
+// The views of statement n.
+fn get_views(words: &[u64; POOL_WORDS], n: u16) -> History
+    ensures { λ r. ⌜ (firstViews (r .len) (r .views) ≡ stmtAt (now (words .entry)) n .views) × (r .len ≤ 16) ⌝ }
+{
+    let c = read::count(words, n);
+    let mut views = [View { joined: 0, left: 0 }; 16];
+    let mut p = 0usize;
+    while p < c {
+        let v = View::of_word(read::nth(words, n, p));
+        views[p] = v;
+        p += 1;
+    }
+    History {
+        views: views,
+        len: c,
+    }
+}
+
+// Statement n.
+pub fn get(words: &[u64; POOL_WORDS], n: u16) -> Statement
+    ensures { λ r. ⌜ stmtOf r ≡ stmtAt (now (words .entry)) n ⌝ }
+{
+    let payload = read::payload(words, n);
+    let binding = binding_of(read::binding(words, n), payload);
+    let t = View::of_word(read::at(words, n));
+    let v = View::of_word(read::view(words, n));
+    let h = get_views(words, n);
+    Statement {
+        kind: read::kind(words, n) as u8,
+        origin: read::origin(words, n) as u8,
+        at: t,
+        view: v,
+        binding: binding,
+        payload: payload,
+        stored: read::stored(words, n) == 1,
+        kept: read::kept(words, n),
+        history: h,
+    }
+}
