@@ -1,15 +1,14 @@
 -- A text that was read, and written again.
 -- Assumes nothing.
-use Prim.Native.Nat.{ℕ, _<_, _≤_}
+use Prim.Native.Nat.{ℕ, _≤_}
 use native.Mathlib.Omega.{arith}
-use mathlib.Core.Path.{_≡_, refl, sym, ap, subst, _∙_}
-use mathlib.Core.Bool.{Bool, true, false, _&&_, false≢true}
+use mathlib.Core.Path.{_≡_, refl, sym, ap, _∙_}
+use mathlib.Core.Bool.{Bool, true, false, false≢true}
 use mathlib.Core.List.{List}
-use lib.Dec.{T, leb}
+use lib.Dec.{T}
 use lib.ListN.{length}
-use lib.Seq.{sets}
 use borrow.Author.Tests.{le-leb}
-use Rattle.protocol.specs.Statement.{Stmt, fieldRules}
+use Rattle.protocol.specs.Statement.{fieldRules}
 use Rattle.statements.specs.declared.Statement.{Statement}
 use Rattle.statements.specs.declared.ReadStatement.{ReadStatement}
 use Rattle.statements.specs.Text.{text}
@@ -22,24 +21,27 @@ use Rattle.pekdrav.specs.Statement.{IsStatement, Again}
 is-true : (b : Bool) → T b → b ≡ true
 is-true true t = refl
 
-from-true : (b : Bool) → b ≡ true → T b
+pub from-true : (b : Bool) → b ≡ true → T b
 from-true true e = tt
 from-true false e = absurd (false≢true e)
 
-module _ (S : List ℕ) (r : ReadStatement) (p : ReadOf S r) (out : List ℕ) where
-  -- nothing is written for what is the text of no statement
-  nothing : (IsStatement S → ⊥) → Again S out 0 out
-  nothing f = record { only = λ l. absurd (omega arith); none = λ e. refl; back = λ s l. absurd (f s) }
+module _ (S : List ℕ) (r : ReadStatement) (p : ReadOf S r) where
+  pub not-read : r .ok ≡ false → IsStatement S → ⊥
+  not-read e s = refused p e (s .statement) (rules-fit (s .statement) (s .rules)) (s .is)
 
-  pub unread : r .ok ≡ false → Again S out 0 out
-  unread e = nothing (λ s. refused p e (s .statement) (rules-fit (s .statement) (s .rules)) (s .is))
-
-  pub unruled : (keeps : Bool) → keeps ≡ fieldRules 16 (stmtOf (r .statement)) → keeps ≡ false → Again S out 0 out
-  unruled keeps k e =
-      nothing (λ s.
+  pub not-kept : (keeps : Bool) → keeps ≡ fieldRules 16 (stmtOf (r .statement)) → keeps ≡ false → IsStatement S → ⊥
+  not-kept keeps k e s =
       let same : stmtOf (r .statement) ≡ s .statement = p .back (s .statement) (rules-fit (s .statement) (s .rules)) (s .is) .1 in
-      false≢true (sym e ∙ k ∙ ap (fieldRules 16) same ∙ is-true (fieldRules 16 (s .statement)) (s .rules)))
+      false≢true (sym e ∙ k ∙ ap (fieldRules 16) same ∙ is-true (fieldRules 16 (s .statement)) (s .rules))
 
+  unfoldable pub is-statement : r .ok ≡ true → fieldRules 16 (stmtOf (r .statement)) ≡ true → IsStatement S
+  is-statement ok k = record { statement = stmtOf (r .statement); rules = from-true (fieldRules 16 (stmtOf (r .statement))) k; is = p .only ok }
+
+-- nothing is written for what is the text of no statement
+pub nothing : (S out : List ℕ) → (IsStatement S → ⊥) → Again S out 0 out
+nothing S out f = record { only = λ l. absurd (omega arith); none = λ e. refl; back = λ s l. absurd (f s) }
+
+module _ (S : List ℕ) (r : ReadStatement) (p : ReadOf S r) (out : List ℕ) where
   roomy : (s : Statement) → s .history .len ≤ 16 → length (text (stmtOf s)) ≤ length out → hasRoom s out ≡ true
   unfolding hasRoom
   roomy s h l = rw (le-leb (s .history .len) 16 h, le-leb (length (text (stmtOf s))) (length out) l)
@@ -50,7 +52,7 @@ module _ (S : List ℕ) (r : ReadStatement) (p : ReadOf S r) (out : List ℕ) wh
     room true e =
         let is : S ≡ text (stmtOf (r .statement)) = p .only ok in
         rw (e, ← is) record {
-          only = λ l. (record { statement = stmtOf (r .statement); rules = from-true (fieldRules 16 (stmtOf (r .statement))) rules; is = is }, refl, refl);
+          only = λ l. (is-statement S r p ok rules, refl, refl);
           none = λ z. absurd (omega (arith, text-some (stmtOf (r .statement)), ap length is));
           back = λ s l. refl;
         }

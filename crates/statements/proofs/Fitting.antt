@@ -1,18 +1,18 @@
 -- A statement that keeps the field rules fits a Statement: so its text is read, and read as that statement.
 -- Assumes nothing.
-use Prim.Native.Nat.{ℕ, _<_, _≤_}
+use Prim.Native.Nat.{_≤_}
 use native.Mathlib.Decide.{decLt}
 use native.Mathlib.Omega.{arith}
-use mathlib.Core.Path.{_≡_, refl, sym, _∙_}
+use mathlib.Core.Path.{_≡_, refl, _∙_}
 use mathlib.Core.Logic.{inr, ⊎-elim}
 use mathlib.Core.Bool.{Bool, true, false, false≢true}
 use mathlib.Core.List.{List, [], _∷_, List·Memᴰ·head, List·Memᴰ·tail}
-use lib.Dec.{T, eqb}
+use lib.Dec.{T}
 use lib.ListN.{length}
 use Rattle.protocol.specs.Lists.{_∈_, all}
 use Rattle.protocol.specs.View.{View, Ring, isView, hasMembers}
 use Rattle.protocol.specs.Statement.{Stmt, noView, noAt, noViewField, noPayload, isRising, viewsRule, reportRule, kindRule, fieldRules}
-use Rattle.protocol.proofs.Says.{Says, says-self, says-and, says-or, says-eqb, says-leb}
+use Rattle.protocol.proofs.Says.{says-self, says-and, says-or, says-eqb, says-leb}
 use Rattle.protocol.proofs.Order.{says-view}
 use Rattle.protocol.proofs.FieldRules.{Fields, says-fields}
 use Rattle.statements.specs.Meaning.{FitsView, EachFits, Fits}
