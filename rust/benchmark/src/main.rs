@@ -1,5 +1,6 @@
 //! How fast the proved code is beside the reference: one run, the same inputs, both built for release.
 
+mod evidence;
 mod measure;
 mod scan;
 mod statements;
@@ -8,4 +9,6 @@ fn main() {
     statements::print();
     println!();
     scan::print();
+    println!();
+    evidence::print();
 }
