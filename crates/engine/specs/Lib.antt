@@ -1,3 +1,4 @@
 -- What the engine's values mean, and what its calls promise.
 pub mod Meaning
 pub mod Promise
+pub mod Rules

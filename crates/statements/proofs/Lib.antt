@@ -8,3 +8,4 @@ pub mod Fitting
 pub mod Laws
 pub mod Example
 pub mod Fits
+pub mod One

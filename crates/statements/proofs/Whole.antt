@@ -61,7 +61,7 @@ pub text-is : (t : Stmt) → text t ≡ decText (t .kind) ++ fromOrigin t
 unfolding text parted
 text-is t = rw (parted-tail (decText (length (t .views))) (t .views))
 
-tail-stops : (l : List View) → Stops (tailText l)
+pub tail-stops : (l : List View) → Stops (tailText l)
 unfolding tailText
 tail-stops [] = tt
 tail-stops (v ∷ l) = refl
@@ -167,10 +167,10 @@ stored-back zero h = refl
 stored-back (suc zero) h = refl
 stored-back (suc (suc n)) h = absurd (omega arith)
 
-abbrev make : ℕ → ℕ → View → View → ℕ → ℕ → ℕ → ℕ → List View → Stmt
+abbrev pub make : ℕ → ℕ → View → View → ℕ → ℕ → ℕ → ℕ → List View → Stmt
 make k o a v b p s e l = record { kind = k; origin = o; at = a; view = v; binding = b; payload = p; stored = s; kept = e; views = l }
 
-made : {k k′ o o′ b b′ p p′ s s′ e e′ : ℕ} {a a′ v v′ : View} {l l′ : List View} → k ≡ k′ → o ≡ o′ → a ≡ a′ → v ≡ v′ → b ≡ b′ → p ≡ p′ → s ≡ s′ → e ≡ e′ → l ≡ l′
+pub made : {k k′ o o′ b b′ p p′ s s′ e e′ : ℕ} {a a′ v v′ : View} {l l′ : List View} → k ≡ k′ → o ≡ o′ → a ≡ a′ → v ≡ v′ → b ≡ b′ → p ≡ p′ → s ≡ s′ → e ≡ e′ → l ≡ l′
     → make k o a v b p s e l ≡ make k′ o′ a′ v′ b′ p′ s′ e′ l′
 made ek eo ea ev eb ep es ee el = rw (ek, eo, ea, ev, eb, ep, es, ee, el)
 

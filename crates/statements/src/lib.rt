@@ -100,7 +100,7 @@ fn bounded(s: &[u8], r: Read, most: u64) -> Part
     }
 }
 
-fn number_at(s: &[u8], at: usize, most: u64) -> Part
+pub fn number_at(s: &[u8], at: usize, most: u64) -> Part
     ensures { λ p. ⌜ NumberAt (now (s .entry)) at most p ⌝ }
 {
     if text::comma_at(s, at) {
@@ -219,7 +219,7 @@ pub fn read(s: &[u8]) -> ReadStatement
 }
 
 // Writes a comma and a number from a position with room for them, and answers the next position.
-fn put_number(out: &mut [u8], at: usize, v: u64) -> usize
+pub fn put_number(out: &mut [u8], at: usize, v: u64) -> usize
     requires { ⌜ at + 1 + length (decText v) ≤ length (now out) ⌝ }
     ensures { λ r. ⌜ (r ≡ at + 1 + length (decText v)) × (now (out .exit) ≡ sets (now (out .entry)) at (44 ∷ decText v)) ⌝ }
 {
@@ -227,7 +227,7 @@ fn put_number(out: &mut [u8], at: usize, v: u64) -> usize
     text::write_dec(out, at + 1, v)
 }
 
-fn put_view(out: &mut [u8], at: usize, v: View) -> usize
+pub fn put_view(out: &mut [u8], at: usize, v: View) -> usize
     requires { ⌜ at + 9 ≤ length (now out) ⌝ }
     ensures { λ r. ⌜ (r ≡ at + 9) × (now (out .exit) ≡ sets (now (out .entry)) at (44 ∷ viewText (viewIs v))) ⌝ }
 {

@@ -58,7 +58,7 @@ one-longer n g = ap length (dec-grow n g) ∙ length-append (decText (n / 10)) (
 pub some-long : (n : ℕ) → 0 < length (decText n)
 some-long n = ⊎-elim (λ l. omega (arith, one-long n l)) (λ g. omega (arith, one-longer n g)) (below? n 10)
 
-long-below : (f n : ℕ) → n < 10 ^ suc f → length (decText n) ≤ suc f
+pub long-below : (f n : ℕ) → n < 10 ^ suc f → length (decText n) ≤ suc f
 long-below zero n h = omega (arith, one-long n h)
 long-below (suc f) n h = ⊎-elim (λ l. omega (arith, one-long n l)) (λ g.
     omega (arith, one-longer n g, long-below f (n / 10) (div-lt-iff-lt-mul {k = 10} (omega arith) .1 (rw pow-suc at h)))) (below? n 10)

@@ -1,13 +1,14 @@
 -- The laws of the fields, for whoever reads or writes a line. Each is said of what is left of the line at a position, `drop at S`, so that a field's law takes one such fact to the next.
 --     dec-at, hex-at       what is written is read back
 --     dec-only, hex-only   only what is written is accepted
+--     dec-same, hex-same   two fields with one text are one
 --     comma-is, comma-only a comma, both ways
 -- Assumes nothing.
 use Prim.Native.Nat.{ℕ, _+_, _^_, _<_, _≤_}
 use native.Mathlib.Nat.{add-zero}
 use native.Mathlib.Numerals.{add-one}
 use native.Mathlib.Omega.{arith}
-use mathlib.Core.Path.{_≡_, sym, ap, _∙_}
+use mathlib.Core.Path.{_≡_, refl, sym, ap, _∙_}
 use mathlib.Core.Bool.{true}
 use mathlib.Core.Logic.{⊎-elim}
 use mathlib.Core.List.{List, [], _∷_, _++_}
@@ -49,6 +50,23 @@ dec-only S at v n e = let o = dec-taken at (drop at S) v n e in (left S at n (de
 pub hex-only : (k : ℕ) (S : List ℕ) (at v n : ℕ) → hexAt S at k ≡ Got v n → (drop at S ≡ hexText k v ++ drop n S) × (n ≡ at + length (hexText k v)) × (v < 16 ^ k)
 unfolding hexAt
 hex-only k S at v n e = let o = hex-taken k at (drop at S) v n e in (left S at n (hexText k v) (o .taken), o .taken .next, o .fits)
+
+-- ---- ONE TEXT, ONE VALUE, whatever may follow
+pub dec-same : (v v′ : ℕ) (r r′ : List ℕ) → v < 18446744073709551616 → v′ < 18446744073709551616 → Stops r → Stops r′ → decText v ++ r ≡ decText v′ ++ r′ → (v ≡ v′) × (r ≡ r′)
+dec-same v v′ r r′ h h′ st st′ e =
+    let S : List ℕ = decText v ++ r in
+    let a = dec-at S 0 v r h st refl in
+    let b = dec-at S 0 v′ r′ h′ st′ e in
+    let ev : v ≡ v′ = cc in
+    (ev, sym (after S 0 (decText v) r refl) ∙ ap (λ (k : ℕ). drop (0 + length (decText k)) S) ev ∙ after S 0 (decText v′) r′ e)
+
+pub hex-same : (k v v′ : ℕ) (r r′ : List ℕ) → v < 16 ^ k → v′ < 16 ^ k → hexText k v ++ r ≡ hexText k v′ ++ r′ → (v ≡ v′) × (r ≡ r′)
+hex-same k v v′ r r′ h h′ e =
+    let S : List ℕ = hexText k v ++ r in
+    let a = hex-at k S 0 v r h refl in
+    let b = hex-at k S 0 v′ r′ h′ e in
+    let ev : v ≡ v′ = cc in
+    (ev, sym (after S 0 (hexText k v) r refl) ∙ ap (λ (n : ℕ). drop (0 + length (hexText k n)) S) ev ∙ after S 0 (hexText k v′) r′ e)
 
 -- ---- commas
 pub comma-is : (S : List ℕ) (n : ℕ) (rest : List ℕ) → drop n S ≡ 44 ∷ rest → isComma S n ≡ true

@@ -1,0 +1,8 @@
+pub mod Scan
+pub mod Words
+pub mod Fields
+pub mod Commands
+pub mod Lies
+pub mod Whole
+pub mod Rows
+pub mod One

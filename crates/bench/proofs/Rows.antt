@@ -1,0 +1,102 @@
+-- The rows: their text in runs, how long it is, and that it is the text of the reply that it shows.
+--     row-most   no row has more than 40 bytes
+--     shown      the row that is written is that of the reply
+-- Assumes nothing.
+use Prim.Native.Nat.{ℕ, _+_, _<_, _≤_}
+use native.Mathlib.Omega.{arith}
+use native.Mathlib.Numerals.{add-one}
+use mathlib.Core.Path.{_≡_, refl, sym, ap, _∙_}
+use mathlib.Core.List.{List, [], _∷_, _++_}
+use lib.ListN.{length, take, getD, set, length-append}
+use lib.Seq.{sets, take-suc, length-take-le}
+use Rattle.protocol.specs.Controller.{Answer, taken, signed, entered, delivered, left, quiet, refused}
+use Rattle.text.specs.Text.{decText}
+use Rattle.text.proofs.Decimal.{long-below, most-long}
+use Rattle.text.proofs.Stores.{sets-append}
+use Rattle.views.specs.Held.{viewIs}
+use Rattle.statements.specs.Text.{parted}
+use Rattle.statements.proofs.Fields.{view-long}
+use Rattle.statements.proofs.Written.{four-runs}
+use Rattle.bench.specs.declared.row.Word.{Word}
+use Rattle.bench.specs.declared.row.Word.the-variants.{Taken, Signed, Entered, Delivered, Left, Quiet, Refused}
+use Rattle.bench.specs.declared.row.Value.{Value}
+use Rattle.bench.specs.declared.row.Value.the-variants.{Number, View}
+use Rattle.bench.specs.Bench.{Reply}
+use Rattle.bench.specs.Rows.{wordText, rowText}
+use Rattle.bench.specs.Writing.{wordFor, wordIs, shownText, rowOf, Shows}
+
+-- ---- one byte more of a text
+pub put-next : (out₀ out t : List ℕ) (at i : ℕ) → i < length t → out ≡ sets out₀ at (take i t) → set out (at + i) (getD t i 0) ≡ sets out₀ at (take (i + 1) t)
+put-next out₀ out t at i h e =
+    let n : length (take i t) ≡ i = length-take-le i t (omega arith) in
+    ap (λ (o : List ℕ). set o (at + i) (getD t i 0)) e ∙ ap (λ (k : ℕ). sets (sets out₀ at (take i t)) (at + k) (getD t i 0 ∷ [])) (sym n)
+    ∙ sym (sets-append (take i t) (getD t i 0 ∷ []) out₀ at) ∙ ap (sets out₀ at) (sym (ap (λ (k : ℕ). take k t) (add-one i) ∙ take-suc t i 0 h))
+
+-- ---- how long the fields are
+pub word-most : (w : Word) → length (wordIs w) ≤ 9
+word-most Taken = omega arith
+word-most Signed = omega arith
+word-most Entered = omega arith
+word-most Delivered = omega arith
+word-most Left = omega arith
+word-most Quiet = omega arith
+word-most Refused = omega arith
+
+-- The value is of 64 bits.
+abbrev pub FitsValue : Value → Type 0
+FitsValue (Number n) = n < 18446744073709551616
+FitsValue (View v) = Unit {0}
+
+pub value-most : (v : Value) → FitsValue v → length (shownText v) ≤ 20
+value-most (Number n) h = most-long n h
+value-most (View v) h = omega (arith, view-long (viewIs v))
+
+pub line-most : (n : ℕ) → n < 100000 → length (decText n) ≤ 5
+line-most n h = long-below 4 n (omega arith)
+
+pub who-most : (n : ℕ) → n < 100 → length (decText n) ≤ 2
+who-most n h = long-below 1 n (omega arith)
+
+-- ---- a row, in runs
+module _ (n who : ℕ) (w : Word) (v : Value) where
+  runs : rowOf n who w v ≡ (decText n ++ ((44 ∷ decText who) ++ ((44 ∷ wordIs w) ++ (44 ∷ shownText v)))) ++ (10 ∷ [])
+  unfolding rowOf parted
+  runs = refl
+
+  pub row-size : length (rowOf n who w v) ≡ length (decText n) + length (decText who) + length (wordIs w) + length (shownText v) + 4
+  row-size =
+      ap length runs
+      ∙ omega (
+        arith,
+        length-append (decText n ++ ((44 ∷ decText who) ++ ((44 ∷ wordIs w) ++ (44 ∷ shownText v)))) (10 ∷ []),
+        length-append (decText n) ((44 ∷ decText who) ++ ((44 ∷ wordIs w) ++ (44 ∷ shownText v))),
+        length-append (decText who) ((44 ∷ wordIs w) ++ (44 ∷ shownText v)),
+        length-append (wordIs w) (44 ∷ shownText v),
+      )
+
+  -- NO ROW HAS MORE THAN 40 BYTES
+  pub row-most : n < 100000 → who < 100 → FitsValue v → length (rowOf n who w v) ≤ 40
+  row-most hn hw hv = omega (arith, row-size, line-most n hn, who-most who hw, word-most w, value-most v hv)
+
+  pub row-runs : (out : List ℕ) (at a b c d : ℕ) → a ≡ at + length (decText n) → b ≡ a + 1 + length (decText who) → c ≡ b + 1 + length (wordIs w) → d ≡ c + 1 + length (shownText v)
+      → set (sets (sets (sets (sets out at (decText n)) a (44 ∷ decText who)) b (44 ∷ wordIs w)) c (44 ∷ shownText v)) d 10 ≡ sets out at (rowOf n who w v)
+  row-runs out at a b c d ea eb ec ed =
+      let front : List ℕ = decText n ++ ((44 ∷ decText who) ++ ((44 ∷ wordIs w) ++ (44 ∷ shownText v))) in
+      let place : d ≡ at + length front = ed ∙ omega (arith, row-size, ap length runs ∙ length-append front (10 ∷ [])) in
+      ap (λ (o : List ℕ). set o d 10) (four-runs out at a b c (decText n) (44 ∷ decText who) (44 ∷ wordIs w) (44 ∷ shownText v) ea (omega arith) (omega arith))
+      ∙ ap (λ (k : ℕ). set (sets out at front) k 10) place ∙ sym (sets-append front (10 ∷ []) out at) ∙ ap (sets out at) (sym runs)
+
+-- ---- the reply that a row shows
+word-for : (a : Answer) → wordIs (wordFor a) ≡ wordText a
+word-for taken = refl
+word-for (signed s) = refl
+word-for (entered v) = refl
+word-for (delivered m) = refl
+word-for left = refl
+word-for quiet = refl
+word-for (refused r) = refl
+
+-- THE ROW IS THAT OF THE REPLY
+pub shown : (n : ℕ) {r : Reply} {who : ℕ} {w : Word} {v : Value} → Shows r who w v → rowOf n who w v ≡ rowText n r
+unfolding rowOf rowText
+shown n {r} {who} {w} {v} s = rw (← s .named, ← s .word, ← s .value, word-for (r .answer))

@@ -1,0 +1,19 @@
+use native.Mathlib.Omega.{arith}
+use mathlib.Core.Path.{_∙_}
+use lib.ListN.{length-set}
+use Rattle.bench.proofs.Rows.{line-most, who-most, word-most, row-size, row-runs}
+use Rattle.bench.proofs.row.put_row.Statement.{statement}
+use Rattle.bench.proofs.row.put_row.Tie as tie
+
+pub put-row-spec : {M : Type 1} → statement M
+put-row-spec =
+    tie.close
+    (tie.spec
+    (λ c κs. omega (arith, c .before .before .pre .0, line-most (c .before .before .args .n) (c .before .before .pre .1)))
+    (λ c κs. omega (arith, c .before .before .before .before .before .before .pre .0, line-most (c .before .before .before .before .before .before .args .n) (c .before .before .before .before .before .before .pre .1), who-most (c .before .before .before .before .before .before .args .who) (c .before .before .before .before .before .before .pre .2), word-most (c .before .before .before .before .before .before .args .word), c .before .before .before .write-dec .ensures .0, c .before .before .before .write-dec .kept))
+    (λ c κs. omega (arith, c .before .before .before .before .before .before .before .before .before .before .pre .0, line-most (c .before .before .before .before .before .before .before .before .before .before .args .n) (c .before .before .before .before .before .before .before .before .before .before .pre .1), who-most (c .before .before .before .before .before .before .before .before .before .before .args .who) (c .before .before .before .before .before .before .before .before .before .before .pre .2), word-most (c .before .before .before .before .before .before .before .before .before .before .args .word), c .before .before .before .before .before .before .before .write-dec .ensures .0, c .before .before .before .before .before .before .before .write-dec .kept, c .before .before .before .put-number .ensures .0, c .before .before .before .put-number .kept))
+    (λ c κs. omega (arith, c .before .before .before .before .before .before .before .before .before .before .before .before .before .before .pre .0, line-most (c .before .before .before .before .before .before .before .before .before .before .before .before .before .before .args .n) (c .before .before .before .before .before .before .before .before .before .before .before .before .before .before .pre .1), who-most (c .before .before .before .before .before .before .before .before .before .before .before .before .before .before .args .who) (c .before .before .before .before .before .before .before .before .before .before .before .before .before .before .pre .2), word-most (c .before .before .before .before .before .before .before .before .before .before .before .before .before .before .args .word), c .before .before .before .before .before .before .before .before .before .before .before .write-dec .ensures .0, c .before .before .before .before .before .before .before .before .before .before .before .write-dec .kept, c .before .before .before .before .before .before .before .put-number .ensures .0, c .before .before .before .before .before .before .before .put-number .kept, c .before .before .before .put-word .ensures .0, c .before .before .before .put-word .kept))
+    (λ c. omega (arith, c .before .before .before .before .before .before .before .before .before .before .before .before .before .before .before .before .before .pre .0, line-most (c .before .before .before .before .before .before .before .before .before .before .before .before .before .before .before .before .before .args .n) (c .before .before .before .before .before .before .before .before .before .before .before .before .before .before .before .before .before .pre .1), who-most (c .before .before .before .before .before .before .before .before .before .before .before .before .before .before .before .before .before .args .who) (c .before .before .before .before .before .before .before .before .before .before .before .before .before .before .before .before .before .pre .2), word-most (c .before .before .before .before .before .before .before .before .before .before .before .before .before .before .before .before .before .args .word), c .before .before .before .before .before .before .before .before .before .before .before .before .before .before .write-dec .ensures .0, c .before .before .before .before .before .before .before .before .before .before .before .before .before .before .write-dec .kept, c .before .before .before .before .before .before .before .before .before .before .put-number .ensures .0, c .before .before .before .before .before .before .before .before .before .before .put-number .kept, c .before .before .before .before .before .before .put-word .ensures .0, c .before .before .before .before .before .before .put-word .kept, c .before .before .put-value .ensures .0, c .before .before .put-value .kept, c .before .before .put-value .ensures .2))
+    (λ c. omega (arith, c .before .before .before .before .before .before .before .before .before .before .before .before .before .before .before .before .before .pre .0, line-most (c .before .before .before .before .before .before .before .before .before .before .before .before .before .before .before .before .before .args .n) (c .before .before .before .before .before .before .before .before .before .before .before .before .before .before .before .before .before .pre .1), who-most (c .before .before .before .before .before .before .before .before .before .before .before .before .before .before .before .before .before .args .who) (c .before .before .before .before .before .before .before .before .before .before .before .before .before .before .before .before .before .pre .2), word-most (c .before .before .before .before .before .before .before .before .before .before .before .before .before .before .before .before .before .args .word), c .before .before .before .before .before .before .before .before .before .before .before .before .before .before .write-dec .ensures .0, c .before .before .before .before .before .before .before .before .before .before .before .before .before .before .write-dec .kept, c .before .before .before .before .before .before .before .before .before .before .put-number .ensures .0, c .before .before .before .before .before .before .before .before .before .before .put-number .kept, c .before .before .before .before .before .before .put-word .ensures .0, c .before .before .before .before .before .before .put-word .kept, c .before .before .put-value .ensures .0, c .before .before .put-value .kept, c .before .before .put-value .ensures .2))
+    (λ c. length-set (c .before .before .put-value .last .0) (c .before .before .put-value .result) 10 ∙ c .before .before .put-value .kept .0 ∙ c .before .before .before .before .before .before .put-word .kept .0 ∙ c .before .before .before .before .before .before .before .before .before .before .put-number .kept .0 ∙ c .before .before .before .before .before .before .before .before .before .before .before .before .before .before .write-dec .kept .0)
+    (λ c. (omega (arith, row-size (c .before .before .before .before .before .before .before .before .before .before .before .before .before .before .before .before .before .args .n) (c .before .before .before .before .before .before .before .before .before .before .before .before .before .before .before .before .before .args .who) (c .before .before .before .before .before .before .before .before .before .before .before .before .before .before .before .before .before .args .word) (c .before .before .before .before .before .before .before .before .before .before .before .before .before .before .before .before .before .args .value), c .before .before .before .before .before .before .before .before .before .before .before .before .before .before .write-dec .ensures .0, c .before .before .before .before .before .before .before .before .before .before .put-number .ensures .0, c .before .before .before .before .before .before .put-word .ensures .0, c .before .before .put-value .ensures .0), rw (c .before .before .put-value .ensures .1) (rw (c .before .before .before .before .before .before .put-word .ensures .1) (rw (c .before .before .before .before .before .before .before .before .before .before .put-number .ensures .1) (rw (c .before .before .before .before .before .before .before .before .before .before .before .before .before .before .write-dec .ensures .1) (row-runs (c .before .before .before .before .before .before .before .before .before .before .before .before .before .before .before .before .before .args .n) (c .before .before .before .before .before .before .before .before .before .before .before .before .before .before .before .before .before .args .who) (c .before .before .before .before .before .before .before .before .before .before .before .before .before .before .before .before .before .args .word) (c .before .before .before .before .before .before .before .before .before .before .before .before .before .before .before .before .before .args .value) (c .before .before .before .before .before .before .before .before .before .before .before .before .before .before .before .before .before .args .out .now) (c .before .before .before .before .before .before .before .before .before .before .before .before .before .before .before .before .before .args .at) _ _ _ _ (c .before .before .before .before .before .before .before .before .before .before .before .before .before .before .write-dec .ensures .0) (c .before .before .before .before .before .before .before .before .before .before .put-number .ensures .0) (c .before .before .before .before .before .before .put-word .ensures .0) (c .before .before .put-value .ensures .0))))))))

@@ -1,0 +1,52 @@
+-- What the bench prints (document 01, "Bench schedule").
+-- Assumes nothing.
+use mathlib.Core.Path.{_≡_}
+use mathlib.Core.Bool.{_||_}
+use mathlib.Core.List.{List, [], _∷_, _++_}
+use mathlib.Core.Option.{Option}
+use Prim.Native.Nat.{ℕ, suc}
+use lib.Dec.{eqb, ltb}
+use lib.ListN.{length}
+use Rattle.protocol.specs.Lists.{if_then_else_}
+use Rattle.protocol.specs.Controller.{Answer, taken, signed, entered, delivered, left, quiet, refused, outOfPlace, Value, number, view, answerValue}
+use Rattle.text.specs.Text.{decText}
+use Rattle.statements.specs.Text.{parted, viewText}
+use Rattle.bench.specs.Line.{Line, lines, ReadAll}
+use Rattle.bench.specs.Bench.{Bench, newBench, Reply, step, nobody}
+
+-- The answers' words, in ASCII.
+abbrev pub wordText : Answer → List ℕ
+wordText taken = 116 ∷ 97 ∷ 107 ∷ 101 ∷ 110 ∷ []
+wordText (signed s) = 115 ∷ 105 ∷ 103 ∷ 110 ∷ 101 ∷ 100 ∷ []
+wordText (entered v) = 101 ∷ 110 ∷ 116 ∷ 101 ∷ 114 ∷ 101 ∷ 100 ∷ []
+wordText (delivered m) = 100 ∷ 101 ∷ 108 ∷ 105 ∷ 118 ∷ 101 ∷ 114 ∷ 101 ∷ 100 ∷ []
+wordText left = 108 ∷ 101 ∷ 102 ∷ 116 ∷ []
+wordText quiet = 113 ∷ 117 ∷ 105 ∷ 101 ∷ 116 ∷ []
+wordText (refused r) = 114 ∷ 101 ∷ 102 ∷ 117 ∷ 115 ∷ 101 ∷ 100 ∷ []
+
+abbrev pub valueText : Value → List ℕ
+valueText (number n) = decText n
+valueText (view v) = viewText v
+
+-- "It prints line number, controller, answer, value."
+unfoldable pub rowText : ℕ → Reply → List ℕ
+rowText n r = parted (decText n ∷ decText (r .who) ∷ wordText (r .answer) ∷ valueText (answerValue (r .number) (r .answer)) ∷ []) ++ (10 ∷ [])
+
+-- "line,who,answer,value"
+abbrev pub headerText : List ℕ
+headerText = 108 ∷ 105 ∷ 110 ∷ 101 ∷ 44 ∷ 119 ∷ 104 ∷ 111 ∷ 44 ∷ 97 ∷ 110 ∷ 115 ∷ 119 ∷ 101 ∷ 114 ∷ 44 ∷ 118 ∷ 97 ∷ 108 ∷ 117 ∷ 101 ∷ 10 ∷ []
+
+-- The rows of the lines from number n on, one after the other.
+unfoldable pub rowsFrom : ℕ → Bench → List (Option Line) → List ℕ
+rowsFrom n b [] = []
+rowsFrom n b (l ∷ L) = rowText n (step b l .reply) ++ rowsFrom (suc n) (step b l .bench) L
+
+-- "an empty or longer one prints the header and 0,16,refused,8 alone"
+abbrev pub refusedRow : List ℕ
+refusedRow = rowText 0 (record { who = nobody; answer = refused outOfPlace; number = 0 })
+
+-- out is what is printed for the schedule.
+pub record Printed (schedule out : List ℕ) : Type 0 where
+  pub reading : List (Option Line)
+  pub reads : ReadAll (lines schedule) reading
+  pub prints : out ≡ headerText ++ (if eqb (length schedule) 0 || ltb 65536 (length schedule) then refusedRow else rowsFrom 1 newBench reading)

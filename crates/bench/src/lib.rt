@@ -1,0 +1,3 @@
+// The bench: a schedule to its rows.
+pub mod line;
+pub mod row;
