@@ -15,7 +15,7 @@ use Rattle.statements.specs.Text.{text}
 use Rattle.statements.specs.Meaning.{stmtOf}
 use Rattle.statements.specs.Promise.{ReadOf, hasRoom, writtenCount, written}
 use Rattle.statements.proofs.Laws.{refused, text-some}
-use Rattle.statements.proofs.Fitting.{rules-fit}
+use Rattle.statements.proofs.Fits.{keeps-fits}
 use Rattle.pekdrav.specs.Statement.{IsStatement, Again}
 
 is-true : (b : Bool) → T b → b ≡ true
@@ -27,11 +27,11 @@ from-true false e = absurd (false≢true e)
 
 module _ (S : List ℕ) (r : ReadStatement) (p : ReadOf S r) where
   pub not-read : r .ok ≡ false → IsStatement S → ⊥
-  not-read e s = refused p e (s .statement) (rules-fit (s .statement) (s .rules)) (s .is)
+  not-read e s = refused p e (s .statement) (keeps-fits (s .statement) (s .rules)) (s .is)
 
   pub not-kept : (keeps : Bool) → keeps ≡ fieldRules 16 (stmtOf (r .statement)) → keeps ≡ false → IsStatement S → ⊥
   not-kept keeps k e s =
-      let same : stmtOf (r .statement) ≡ s .statement = p .back (s .statement) (rules-fit (s .statement) (s .rules)) (s .is) .1 in
+      let same : stmtOf (r .statement) ≡ s .statement = p .back (s .statement) (keeps-fits (s .statement) (s .rules)) (s .is) .1 in
       false≢true (sym e ∙ k ∙ ap (fieldRules 16) same ∙ is-true (fieldRules 16 (s .statement)) (s .rules))
 
   unfoldable pub is-statement : r .ok ≡ true → fieldRules 16 (stmtOf (r .statement)) ≡ true → IsStatement S

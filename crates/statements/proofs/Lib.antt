@@ -4,7 +4,6 @@ pub mod Views
 pub mod Whole
 pub mod Written
 pub mod FieldLaws
-pub mod Fitting
 pub mod Laws
 pub mod Example
 pub mod Fits
