@@ -3,14 +3,13 @@
 use Prim.Native.Nat.{ℕ, _+_, _^_, _<_, _≤_}
 use native.Mathlib.Omega.{arith}
 use mathlib.Core.Path.{_≡_, refl, sym, ap, subst, _∙_}
-use mathlib.Core.Bool.{Bool, true, false, true≢false, false≢true}
+use mathlib.Core.Bool.{true, false, false≢true}
 use mathlib.Core.List.{List, [], _∷_, _++_, append-nil}
 use lib.ListN.{length, drop, drop-of-length-le}
 use lib.Seq.{drop-append-seam}
 use types.Run.{OneOf, miss}
 use denote.Enum.Declared.{tagOf}
 use Rattle.bench.proofs.line.Verb as verb
-use Rattle.protocol.specs.Statement.{Stmt}
 use Rattle.text.specs.Text.{decText, hexText}
 use Rattle.statements.specs.declared.Part.{Part}
 use Rattle.statements.specs.Text.{parted}
@@ -18,12 +17,11 @@ use Rattle.statements.specs.Parts.{NumberAt}
 use Rattle.statements.proofs.Views.{ok-before}
 use Rattle.bench.specs.declared.line.Line as held
 use Rattle.bench.specs.declared.line.Line.the-variants as is
-use Rattle.bench.specs.declared.line.Parsed.{Parsed}
 use Rattle.bench.specs.declared.line.Parsed.the-variants.{Readable, Unreadable}
 use Rattle.bench.specs.declared.line.Verb.{Verb}
 use Rattle.bench.specs.declared.line.Verb.the-variants.{Setup, Join, Leave, Send, Give, All, Turn, Lie, Unknown}
 use Rattle.bench.specs.Line.{setupWord, ended, Written}
-use Rattle.bench.specs.Reading.{wordOf, verbOf, LastAt, SetAt, IsNamed, IsNumbered, NamedBy, NumberedBy, SetBy, CommandBy, Understood}
+use Rattle.bench.specs.Reading.{wordOf, LastAt, SetAt, IsNamed, IsNumbered, NamedBy, NumberedBy, SetBy, CommandBy, Understood}
 use Rattle.bench.proofs.Words.{begins, ended-same, OfVerb, reads-none}
 use Rattle.bench.proofs.Fields.{left-none}
 

@@ -4,8 +4,8 @@ use Prim.Native.Nat.{ℕ, _-_, _≤_}
 use native.Mathlib.Omega.{arith}
 use mathlib.Core.Path.{_≡_, refl, sym, ap, _∙_}
 use mathlib.Core.Bool.{Bool, true, false, _&&_, true≢false, false≢true}
-use mathlib.Core.List.{List, [], _∷_, _++_}
-use mathlib.Core.Option.{some, none}
+use mathlib.Core.List.{List, _∷_, _++_}
+use mathlib.Core.Option.{none}
 use lib.Dec.{T}
 use lib.ListN.{length, take, drop, length-drop}
 use lib.Seq.{take-all}
@@ -18,7 +18,7 @@ use Rattle.statements.specs.Meaning.{stmtOf}
 use Rattle.statements.specs.Promise.{ReadOf}
 use Rattle.bench.specs.declared.line.Verb.the-variants.{Lie}
 use Rattle.bench.specs.Line.{lie, noStatement, lieWord, ended, Written, Reads}
-use Rattle.bench.specs.Reading.{LieBy, verbOf}
+use Rattle.bench.specs.Reading.{LieBy}
 use Rattle.bench.proofs.Words.{begins, reads-none}
 use Rattle.bench.proofs.Commands.{follows, put-together}
 use Rattle.statements.proofs.Fits.{keeps-fits}

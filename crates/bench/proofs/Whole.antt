@@ -1,6 +1,9 @@
 -- The first line of a schedule: where it ends, and what is left.
+--     line-last, line-read   what was read is the first line
+--     read-next, read-none   the lines of a schedule, one after the other
+--     in-range               the controller that a line names is one of the sixteen
 -- Assumes nothing.
-use Prim.Native.Nat.{ℕ, zero, suc, _+_, _<_, _≤_}
+use Prim.Native.Nat.{ℕ, suc, _+_, _<_, _≤_}
 use native.Mathlib.Omega.{arith}
 use native.Mathlib.Numerals.{add-one}
 use mathlib.Core.Path.{_≡_, refl, sym, ap, subst, _∙_}
@@ -14,10 +17,14 @@ use borrow.Author.Tests.{eqb-true}
 use Rattle.text.specs.Text.{decText, hexText}
 use Rattle.statements.specs.Text.{parted, text}
 use Rattle.statements.specs.declared.Statement.{Statement}
-use Rattle.bench.specs.declared.line.Parsed.the-variants.{Unreadable}
+use Rattle.statements.specs.Meaning.{stmtOf}
+use Rattle.bench.specs.declared.line.Line as held
+use Rattle.bench.specs.declared.line.Line.the-variants as is
+use Rattle.bench.specs.declared.line.Parsed.{Parsed}
+use Rattle.bench.specs.declared.line.Parsed.the-variants.{Readable, Unreadable}
 use Rattle.bench.specs.declared.line.ReadLine.{ReadLine}
-use Rattle.bench.specs.Line.{Line, setup, join, leave, send, give, all, turn, lie, noStatement, setupWord, joinWord, leaveWord, sendWord, giveWord, allWord, turnWord, lieWord, ended, Written, Reads, before, lines}
-use Rattle.bench.specs.Reading.{bodyLength, BodyOf, LineOf}
+use Rattle.bench.specs.Line.{Line, setup, join, leave, send, give, all, turn, lie, noStatement, setupWord, joinWord, leaveWord, sendWord, giveWord, allWord, turnWord, lieWord, ended, Written, Reads, before, lines, ReadAll}
+use Rattle.bench.specs.Reading.{lineIs, InRange, bodyLength, BodyOf, LineOf}
 
 -- ---- the length of a line without its newline
 pub body-most : (S : List ℕ) → bodyLength S ≤ length S
@@ -111,3 +118,26 @@ module _ (S : List ℕ) (end : ℕ) (e : end ≡ bodyLength S) where
         reads = rw whole (b .reads);
         short = b .short;
       }
+
+-- ---- what a loop over the lines cites
+module _ (S : List ℕ) (r : ReadLine) (of : LineOf S r) where
+  pub read-next : 0 < length S → (O : List (Option Line)) → ReadAll (lines (drop (r .next) S)) O → ReadAll (lines S) (lineIs (r .parsed) (stmtOf (r .statement)) ∷ O)
+  read-next h O rest = subst (λ (L : List (List ℕ)). ReadAll L (lineIs (r .parsed) (stmtOf (r .statement)) ∷ O)) (sym (of .first h)) (of .reads, rest)
+
+  pub in-range : (l : held.Line) → r .parsed ≡ Readable l → InRange l (stmtOf (r .statement))
+  in-range l e = go l (subst (λ (p : Parsed). Reads (take (r .next) S) (lineIs p (stmtOf (r .statement)))) e (of .reads))
+    where
+      go : (l : held.Line) → Reads (take (r .next) S) (lineIs (Readable l) (stmtOf (r .statement))) → InRange l (stmtOf (r .statement))
+      go (is.Setup m s f) w = tt
+      go (is.Join k) w = w .0
+      go (is.Leave k) w = w .0
+      go (is.Send k n) w = w .0
+      go (is.Give k n) w = w .0
+      go (is.All k) w = w .0
+      go (is.Turn k) w = w .0
+      go is.Lie w = w .0
+      go is.NoStatement w = tt
+
+pub read-none : ReadAll (lines []) []
+unfolding lines
+read-none = tt

@@ -5,9 +5,9 @@ use mathlib.Core.Path.{_≡_}
 use mathlib.Core.Bool.{Bool, true, false, cond}
 use mathlib.Core.List.{List, [], _∷_, _++_}
 use mathlib.Core.Option.{Option, some, none}
-use lib.Dec.{eqb}
+use lib.Dec.{T, eqb}
 use lib.ListN.{length, take, drop}
-use Rattle.protocol.specs.Statement.{Stmt}
+use Rattle.protocol.specs.Statement.{Stmt, fieldRules}
 use Rattle.text.specs.Text.{decText, hexText}
 use Rattle.statements.specs.declared.Part.{Part}
 use Rattle.statements.specs.Meaning.{stmtOf}
@@ -35,6 +35,18 @@ meant is.NoStatement s = noStatement
 abbrev pub lineIs : Parsed → Stmt → Option Line
 lineIs (Readable l) s = some (meant l s)
 lineIs Unreadable s = none
+
+-- The controller that a line names is one of the sixteen, and a lie's statement keeps the field rules.
+abbrev pub InRange : held.Line → Stmt → Type 0
+InRange (is.Setup members sender faulty) s = Unit {0}
+InRange (is.Join k) s = k < 16
+InRange (is.Leave k) s = k < 16
+InRange (is.Send k payload) s = k < 16
+InRange (is.Give k n) s = k < 16
+InRange (is.All k) s = k < 16
+InRange (is.Turn k) s = k < 16
+InRange is.Lie s = T (fieldRules 16 s)
+InRange is.NoStatement s = Unit {0}
 
 -- The line T reads so, whatever statement stands beside it.
 pub record Understood (T : List ℕ) (p : Parsed) : Type 0 where

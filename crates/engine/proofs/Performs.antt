@@ -123,7 +123,7 @@ module _ (W W′ : List ℕ) (c : Controller) (s : Stmt) (k : Kept) (p : Placed 
 
 -- ---- a view is entered, a payload delivered
 
-pub entering : (c : Controller) (v : held.View) (b : Binding) (h : History) (d : List View) → viewsIs h ≡ d
+pub entering : (c : Controller) (b : Binding) (h : History) (d : List View) → viewsIs h ≡ d
     → controllerIs (record {
       ready = c .ready;
       number = c .number;
@@ -138,7 +138,7 @@ pub entering : (c : Controller) (v : held.View) (b : Binding) (h : History) (d :
       statements = c .statements;
     }) ≡ controller.withEntered d (controller.withBinding (bindingIs b) (controllerIs c))
 unfolding controllerIs
-entering c v b h d e = rw e
+entering c b h d e = rw e
 
 -- ---- each deed
 

@@ -3,10 +3,14 @@ mod add;
 mod calls;
 mod keep;
 mod perform;
+mod rules;
 mod turn;
 
 pub use calls::refuse;
 use pool::Record;
+pub use rules::Sight;
+pub use rules::first_rule;
+pub use rules::has_left;
 use statements::Binding;
 use statements::Statement;
 use views::History;

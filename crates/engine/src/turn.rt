@@ -1,4 +1,4 @@
-// A turn.
+// A turn: the first rule that applies is done.
 ghost use Rattle.protocol.specs.Pool.{hasRoom};
 ghost use Rattle.protocol.specs.Turn as protocol;
 ghost use Rattle.engine.specs.Meaning.{controllerIs, recordIs, poolIs};
@@ -7,13 +7,31 @@ use crate::Controller;
 use crate::Outcome;
 use crate::Refusal;
 use crate::calls;
+use crate::perform;
+use crate::rules;
 use pool::POOL_WORDS;
 
 impl Controller {
     pub fn turn(self, words: &mut [u64; POOL_WORDS]) -> Outcome
         ensures { λ r. ⌜ Turns (now (words .entry)) self (protocol.turn (controllerIs self) (recordIs (now (words .entry)) self) (hasRoom (poolIs (now (words .entry))))) r (now (words .exit)) ⌝ }
     {
-        words[0] = 0;
-        calls::refuse(self, Refusal::OutOfPlace)
+        if !self.ready {
+            return calls::refuse(self, Refusal::OutOfPlace);
+        }
+        let init = self.init;
+        let statements = self.statements;
+        let ids = statements.ids;
+        let e = evidence::of_record(words, &ids, statements.len, init.word(), self.sender);
+        if e.conflict {
+            return calls::refuse(self, Refusal::Conflict);
+        }
+        if e.many {
+            return calls::refuse(self, Refusal::ManyCandidates);
+        }
+        let a = rules::first_rule(words, self, e);
+        let s = rules::look(self, e);
+        let top = s.top;
+        let gone = rules::has_left(top, self.number);
+        perform::perform(self, words, a, gone)
     }
 }

@@ -14,9 +14,9 @@ use Rattle.protocol.specs.Turn.{merge, mergeAll}
 use Rattle.views.specs.Table.{table}
 use Rattle.pool.specs.Pool.{recordOf}
 use Rattle.pool.proofs.Records.{entry, so-far, whole}
-use Rattle.evidence.specs.declared.binding.Binding.{Binding}
-use Rattle.evidence.specs.declared.binding.Binding.the-variants.{Unbound, Bound, Barred}
-use Rattle.evidence.specs.Bound.{bindingIs}
+use Rattle.statements.specs.declared.Binding.{Binding}
+use Rattle.statements.specs.declared.Binding.the-variants.{Unbound, Bound, Barred}
+use Rattle.statements.specs.Meaning.{bindingIs}
 
 -- ---- the binding that a report tells
 

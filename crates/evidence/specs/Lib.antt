@@ -1,4 +1,3 @@
 pub mod Slots
 pub mod Shown
-pub mod Bound
 pub mod Evidence

@@ -3,14 +3,9 @@ ghost use mathlib.Core.Path.{_≡_};
 ghost use Rattle.protocol.specs.Statement.{bindingOf};
 ghost use Rattle.protocol.specs.Turn.{merge};
 ghost use Rattle.pool.specs.Pool.{stmtAt};
-ghost use Rattle.evidence.specs.Bound.{bindingIs};
+ghost use Rattle.statements.specs.Meaning.{bindingIs};
 use pool::POOL_WORDS;
-
-pub enum Binding {
-    Unbound,
-    Bound(u64),
-    Barred,
-}
+use statements::Binding;
 
 // The binding that report s tells.
 pub fn told(words: &[u64; POOL_WORDS], s: u16) -> Binding

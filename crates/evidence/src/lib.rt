@@ -6,7 +6,6 @@ mod histories;
 mod reports;
 mod whole;
 
-pub use binding::Binding;
 pub use candidates::Ranked;
 pub use candidates::rank;
 pub use certificates::Certified;

@@ -12,13 +12,13 @@ ghost use Rattle.views.specs.Sets.{IsSet};
 ghost use Rattle.views.specs.View.{viewOf, ring};
 ghost use Rattle.pool.specs.Pool.{stmtAt, recordOf};
 ghost use Rattle.evidence.specs.Slots.{viewsOf};
-ghost use Rattle.evidence.specs.Bound.{bindingIs};
+ghost use Rattle.statements.specs.Meaning.{bindingIs};
 ghost use Rattle.evidence.specs.Evidence.{Settled, bindingHolds, keptHolds, reportedOn, reportedAll, countsBelow, reportsBelow};
 use crate::Evidence;
 use crate::binding;
-use crate::binding::Binding;
 use crate::certificates;
 use pool::POOL_WORDS;
+use statements::Binding;
 
 // Whether the set has k.
 fn has(set: u32, k: u64) -> bool

@@ -1,17 +1,17 @@
 -- A statement that keeps the field rules fits a Statement, so that its text is read.
 -- Assumes nothing.
-use Prim.Native.Nat.{ℕ, zero, suc, _^_, _<_, _≤_}
+use Prim.Native.Nat.{ℕ, _≤_}
 use native.Mathlib.Omega.{arith}
 use mathlib.Core.Path.{_≡_, refl}
 use mathlib.Core.Logic.{_⊎_, inl, inr}
-use mathlib.Core.Bool.{Bool, true, false, _&&_, _||_}
+use mathlib.Core.Bool.{_&&_, _||_}
 use mathlib.Core.List.{List, [], _∷_, List·Memᴰ·head, List·Memᴰ·tail}
-use lib.Dec.{T, eqb, leb}
+use lib.Dec.{T, eqb}
 use lib.ListN.{length}
 use Rattle.protocol.specs.Lists.{_∈_, all}
-use Rattle.protocol.specs.View.{View, Ring, isView, hasMembers}
+use Rattle.protocol.specs.View.{View, isView, hasMembers}
 use Rattle.protocol.specs.Statement.{Stmt, noView, noAt, noViewField, noPayload, isRising, viewsRule, reportRule, kindRule, fieldRules}
-use Rattle.protocol.proofs.Says.{Says, says-map, says-self, says-and, says-or, says-eqb, says-leb}
+use Rattle.protocol.proofs.Says.{Says, says-self, says-and, says-or, says-eqb, says-leb}
 use Rattle.protocol.proofs.Order.{says-view}
 use Rattle.protocol.proofs.FieldRules.{says-fields}
 use Rattle.statements.specs.Meaning.{FitsView, EachFits, Fits}

@@ -1,11 +1,11 @@
 -- Two statements that fit and have one text are one.
 -- Assumes nothing.
-use Prim.Native.Nat.{ℕ, _^_, _<_, _≤_}
+use Prim.Native.Nat.{ℕ}
 use native.Mathlib.Omega.{arith}
 use mathlib.Core.Path.{_≡_, refl, sym, ap, _∙_}
 use mathlib.Core.List.{List, [], _∷_, _++_, append-assoc}
 use lib.ListN.{length, drop}
-use Rattle.text.specs.Text.{decText, hexText}
+use Rattle.text.specs.Text.{hexText}
 use Rattle.text.proofs.Laws.{dec-same, hex-same}
 use Rattle.protocol.specs.View.{View}
 use Rattle.protocol.specs.Statement.{Stmt}

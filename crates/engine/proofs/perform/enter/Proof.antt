@@ -14,7 +14,7 @@ push-requires c κs = search needs
 
 -- src/perform.rt:43:1
 returns : tie.Need-returns
-returns c = (refl, entering _ _ _ _ _ (c .before .before .push .ensures .0), refl)
+returns c = (refl, entering _ _ _ _ (c .before .before .push .ensures .0), refl)
 
 pub enter-spec : {M : Type 1} → statement M
 enter-spec = tie.close (tie.spec push-requires returns)

@@ -7,7 +7,7 @@ use Rattle.protocol.specs.Lists.{filter}
 use Rattle.protocol.specs.Turn.{mergeAll}
 use Rattle.views.specs.View.{ring}
 use Rattle.pool.specs.Pool.{recordOf}
-use Rattle.evidence.specs.Bound.{bindingIs}
+use Rattle.statements.specs.Meaning.{bindingIs}
 use Rattle.evidence.specs.Evidence.{countsBelow, reportsBelow}
 use Rattle.evidence.proofs.Merging as laws
 use Rattle.evidence.proofs.Reporting.{length-most}

@@ -1,0 +1,209 @@
+-- What the rules look at is what the record shows.
+-- Assumes nothing.
+use mathlib.Core.Path.{_≡_, refl, sym, ap, ap₂, _∙_}
+use mathlib.Core.Bool.{Bool, true, false, not, _&&_}
+use mathlib.Core.List.{List, [], _∷_, List·Memᴰ·not-nil}
+use mathlib.Core.Option.{Option}
+use Prim.Native.Nat.{ℕ, _-_, _≤_, _<_, min}
+use native.Mathlib.Omega.{arith}
+use lib.Dec.{ltb}
+use lib.ListN.{length, getD}
+use borrow.Author.Tests.{ltb-false}
+use Rattle.protocol.specs.Lists.{_∈_, any, all, when}
+use Rattle.protocol.specs.View.{View, Ring, sameView, below}
+use Rattle.protocol.specs.History.{top}
+use Rattle.protocol.specs.Statement.{Stmt}
+use Rattle.protocol.specs.Evidence.{Shown, initial, start, agreed, Sealed, candidates, greatest}
+use Rattle.protocol.specs.Controller as protocol
+use Rattle.protocol.specs.Turn.{G, T, hasEntered, stands, certificate}
+use Rattle.protocol.proofs.Asked.{candidates-exact, greatest-holds}
+use Rattle.views.specs.declared.View as held
+use Rattle.views.specs.declared.History.{History}
+use Rattle.views.specs.Table.{table}
+use Rattle.views.specs.View.{viewOf, ring}
+use Rattle.views.specs.Held.{viewIs, viewsIs, heldAt}
+use Rattle.views.proofs.Tables.{table-length}
+use Rattle.views.proofs.Held.{views-of}
+use Rattle.views.proofs.Histories.{top-some}
+use Rattle.evidence.specs.declared.Evidence.{Evidence}
+use Rattle.evidence.specs.Evidence.{EvidenceOf, Settled}
+use Rattle.evidence.specs.Slots.{viewsOf}
+use Rattle.engine.specs.declared.Controller.{Controller}
+use Rattle.engine.specs.declared.Step.{Step}
+use Rattle.engine.specs.declared.rules.Sight.{Sight}
+use Rattle.engine.specs.Meaning.{controllerIs, recordIs}
+use Rattle.engine.specs.Rules.{Seen, SightOf, notAbove, Looks, Entering}
+
+some-in : {A : Type 0} {a : A} (l : List A) → a ∈ l → 0 < length l
+some-in [] m = absurd (List·Memᴰ·not-nil m)
+some-in (x ∷ l) m = omega arith
+
+views-count : (h : History) → length (viewsIs h) ≡ min (h .len) 16
+unfolding viewsIs
+views-count h = table-length (min (h .len) 16) (heldAt (h .views))
+
+slots-count : (W : List ℕ) (n : ℕ) → length (viewsOf W n) ≡ n
+unfolding viewsOf
+slots-count W n = table-length n _
+
+slots-top : (R : Ring) (W : List ℕ) (n : ℕ) → 0 < n → viewOf (getD W (n - 1) 0) ≡ top R (viewsOf W n)
+unfolding viewsOf
+slots-top R W n h = top-some _ R n (λ e. omega arith)
+
+sealed-size : {R : Ring} {X : List Stmt} {H : List View} → Sealed R X H → (0 < length H) × (length H ≤ 16)
+sealed-size (start e) = (omega (arith, ap length e), omega (arith, ap length e))
+sealed-size (agreed g h t n v q) = (omega (arith, ap length (h .begins)), h .short)
+
+pub record Looking (c : Controller) (e : Evidence) (s : Sight) : Type 0 where
+  pub top : viewIs (s .top) ≡ viewOf (getD (e .greatest) (e .length - 1) 0)
+  pub wished : viewIs (s .wished) ≡ viewOf (e .wished)
+  pub entered : s .entered ≡ any (sameView (viewIs (s .top))) (viewsIs (c .entered))
+  pub stands : s .stands ≡ (s .entered && all (notAbove (viewIs (s .top))) (viewsIs (c .entered)))
+  pub active : s .active ≡ ltb 0 (min (c .entered .len) 16)
+
+module _ (W : List ℕ) (c : Controller) (e : Evidence) (k : Seen W c e) where
+  abbrev X : List Stmt
+  X = recordIs W c
+
+  abbrev d : protocol.Controller
+  d = controllerIs c
+
+  abbrev shown : EvidenceOf (d .ring) (c .sender) X e
+  shown = k .settled .of
+
+  agrees : e .conflict ≡ false
+  agrees = k .settled .agree
+
+  pub few-candidates : e .count ≤ 16
+  few-candidates =
+      omega (arith, ltb-false 16 (length (candidates (d .ring) X)) (sym (shown .many agrees) ∙ k .settled .few), ap length (shown .candidates agrees (k .settled .few)), slots-count (e .candidates) (e .count))
+
+  pub some-candidate : 0 < e .count
+  some-candidate =
+      let m = candidates-exact (d .ring) X (d .ring .init) .1 (initial refl) in
+      omega (arith, some-in _ m, ap length (shown .candidates agrees (k .settled .few)), slots-count (e .candidates) (e .count))
+
+  sealed-greatest : Sealed (d .ring) X (viewsOf (e .greatest) (e .length))
+  sealed-greatest = rw (shown .greatest agrees) (greatest-holds (d .ring) (c .sender) X (rw (sym (shown .conflict) ∙ agrees) tt) .0)
+
+  pub some-view : 0 < e .length
+  some-view = omega (arith, sealed-size sealed-greatest .0, slots-count (e .greatest) (e .length))
+
+  pub few-views : e .length ≤ 16
+  few-views = omega (arith, sealed-size sealed-greatest .1, slots-count (e .greatest) (e .length))
+
+  module _ (s : Sight) (l : Looking c e s) where
+    the-greatest : G d X ≡ viewsOf (e .greatest) (e .length)
+    unfolding G
+    the-greatest = sym (shown .greatest agrees)
+
+    the-top : T d X ≡ viewIs (s .top)
+    unfolding T
+    the-top = ap (top (d .ring)) the-greatest ∙ sym (slots-top (d .ring) (e .greatest) (e .length) some-view) ∙ sym (l .top)
+
+    has-entered : (v : View) → hasEntered d X v ≡ any (sameView v) (viewsIs (c .entered))
+    unfolding hasEntered controllerIs
+    has-entered v = refl
+
+    the-entered : hasEntered d X (viewIs (s .top)) ≡ s .entered
+    the-entered = has-entered (viewIs (s .top)) ∙ sym (l .entered)
+
+    at-the-top : (t : View) → all (λ u. not (below (d .ring .width) t u)) (d .entered) ≡ all (notAbove t) (viewsIs (c .entered))
+    unfolding controllerIs notAbove
+    at-the-top t = refl
+
+    it-stands : stands d X ≡ s .stands
+    unfolding stands
+    it-stands =
+        ap (λ t. hasEntered d X t && all (λ u. not (below (d .ring .width) t u)) (d .entered)) the-top
+        ∙ ap₂ _&&_ the-entered (at-the-top (viewIs (s .top))) ∙ sym (l .stands)
+
+    the-certificate : certificate d X ≡ when (e .certified) (e .payload)
+    unfolding certificate controllerIs
+    the-certificate = sym (shown .certificate agrees)
+
+    some-entered : ltb 0 (length (d .entered)) ≡ s .active
+    unfolding controllerIs
+    some-entered = ap (ltb 0) (views-count (c .entered)) ∙ sym (l .active)
+
+-- what `look` makes of the controller and the evidence
+abbrev pub sight : Controller → Evidence → held.View → held.View → Bool → Bool → Bool → Sight
+sight c e t w active entered stands = record {
+  number = c .number;
+  sender = c .sender;
+  binding = c .binding;
+  delivered = c .delivered;
+  joining = c .joining;
+  leaving = c .leaving;
+  sending = c .sending;
+  active = active;
+  entered = entered;
+  stands = stands;
+  top = t;
+  wished = w;
+  candidates = e .candidates;
+  count = e .count;
+  greatest = e .greatest;
+  length = e .length;
+  certified = e .certified;
+  payload = e .payload;
+  stored = e .stored;
+}
+
+module _ (c : Controller) (e : Evidence) (t w : held.View) (active entered stands : Bool) (l : Looking c e (sight c e t w active entered stands)) where
+  seen : (W : List ℕ) → Seen W c e → SightOf (controllerIs c) (recordIs W c) (sight c e t w active entered stands)
+  unfolding controllerIs
+  seen W k = record {
+    number = refl;
+    width = refl;
+    sender = refl;
+    binding = refl;
+    delivered = refl;
+    joining = refl;
+    leaving = refl;
+    sending = refl;
+    active = some-entered W c e k _ l;
+    entered = the-entered W c e k _ l;
+    stands = it-stands W c e k _ l;
+    top = the-top W c e k _ l;
+    wished = sym (k .settled .of .wished) ∙ sym (l .wished);
+    candidates = sym (k .settled .of .candidates (k .settled .agree) (k .settled .few));
+    greatest = the-greatest W c e k _ l;
+    certificate = the-certificate W c e k _ l;
+    stored = λ q. sym (k .settled .of .stored (k .settled .agree) q);
+  }
+
+  pub looked : Looks c e (sight c e t w active entered stands)
+  looked = record { sight = seen; sender = refl; count = refl; length = refl }
+
+-- a view that t is below, and one that it is not
+module _ (t u : View) (b : Bool) (e : b ≡ below 16 t u) where
+  pub above : b ≡ true → notAbove t u ≡ false
+  unfolding notAbove
+  above f = ap not (sym e ∙ f)
+
+  pub level : b ≡ false → notAbove t u ≡ true
+  unfolding notAbove
+  level f = ap not (sym e ∙ f)
+
+-- ---- the ring by the word of the initial view
+
+module _ (c : Controller) (w : ℕ) (is : viewOf w ≡ viewIs (c .init)) where
+  ring-of : ring w ≡ controllerIs c .ring
+  unfolding controllerIs
+  ring-of i = record { width = 16; init = is i }
+
+  pub settled-word : {W : List ℕ} {e : Evidence} {s : Sight} → Looks c e s → Seen W c e → Settled (ring w) (s .sender) (recordIs W c) e
+  settled-word {W} {e} l k = rw (ring-of, l .sender) (k .settled)
+
+  pub entering-word : {X : List Stmt} {s : Sight} {r : Step} → Entering X (ring w) s r → Entering X (controllerIs c .ring) s r
+  entering-word n = record { means = λ d k q. n .means d k (q ∙ sym ring-of); short = n .short }
+
+-- what the first rule asks of the counts
+
+module _ {W : List ℕ} {c : Controller} {e : Evidence} {s : Sight} (l : Looks c e s) (k : Seen W c e) where
+  pub short-views : s .length ≤ 16
+  short-views = omega (arith, l .length, few-views W c e k)
+
+  pub short-candidates : (0 < s .count) × (s .count ≤ 16)
+  short-candidates = (omega (arith, l .count, some-candidate W c e k), omega (arith, l .count, few-candidates W c e k))

@@ -1,0 +1,4 @@
+pub mod Written
+pub mod Keys
+pub mod Told
+pub mod Placing

@@ -1,0 +1,5 @@
+-- What is promised of what a host calls.
+pub mod Statement
+pub mod Scan
+pub mod Pooled
+pub mod Evidence

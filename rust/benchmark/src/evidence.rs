@@ -1,0 +1,47 @@
+//! All that a record shows, as a turn asks it.
+
+use std::hint::black_box;
+
+use compare::evidence::{lend, word, Lent};
+use compare::records::{breadth, depth, mixed, pool_of, Case};
+use pekdrav::{tell, TOLD};
+use reference::Evidence;
+
+use crate::measure::{head, measure, row};
+
+/// Records of the first `count` statements of honest runs that fill the pool.
+fn honest(count: usize) -> Vec<Case> {
+    let pools = (0..8).filter_map(|seed| pool_of(&generate::schedule("ring-512", seed, 0)?));
+    pools.map(|case| case.first(count)).filter(|case| case.statements.len() == count).collect()
+}
+
+fn mine(cases: &[(Case, Lent)]) {
+    let mut out = [0; TOLD];
+    for (case, lent) in cases {
+        tell(&lent.words, black_box(&lent.ids), lent.len, word(case.initial), case.sender, &mut out);
+        black_box(&out);
+    }
+}
+
+fn theirs(cases: &[(Case, Lent)]) {
+    for (case, _) in cases {
+        black_box(Evidence::of(case.initial, case.sender, black_box(&case.statements)));
+    }
+}
+
+fn compared(name: &str, cases: Vec<Case>) {
+    let lent: Vec<(Case, Lent)> = cases.into_iter().filter_map(|case| lend(&case).ok().map(|lent| (case, lent))).collect();
+    if !lent.is_empty() {
+        row(name, &measure(&lent, 1, mine, theirs));
+    }
+}
+
+pub fn print() {
+    head("All that a record shows", "record");
+    for count in [64, 256, 512] {
+        compared(&format!("honest, {count} statements"), honest(count));
+        compared(&format!("breadth, {count}"), vec![breadth(count)]);
+        compared(&format!("depth, {count}"), vec![depth(count)]);
+        compared(&format!("mixed, {count}"), vec![mixed(count)]);
+    }
+}

@@ -1,0 +1,21 @@
+//! How fast the proved code is beside the reference: one run, the same inputs, both built for release.
+//!
+//! `ring-benchmark [PART ..]`, with parts `statements`, `scan` and `evidence`; all of them without an argument.
+
+mod evidence;
+mod measure;
+mod scan;
+mod statements;
+
+const PARTS: [(&str, fn()); 3] = [("statements", statements::print), ("scan", scan::print), ("evidence", evidence::print)];
+
+fn main() {
+    let asked: Vec<String> = std::env::args().skip(1).collect();
+    let wanted = |name: &str| asked.is_empty() || asked.iter().any(|word| word == name);
+    for (name, print) in PARTS {
+        if wanted(name) {
+            print();
+            println!();
+        }
+    }
+}

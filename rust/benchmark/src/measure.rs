@@ -1,0 +1,53 @@
+//! Times of two ways to do the same work, taken in turns.
+
+use std::time::Instant;
+
+const ROUNDS: usize = 2_000;
+
+/// Medians over the rounds, in nanoseconds for one piece of work.
+pub struct Times {
+    pub mine: f64,
+    pub theirs: f64,
+    pub ratio: f64,
+}
+
+impl Times {
+    /// The times of one of the `count` parts of a piece.
+    pub fn of(self, count: usize) -> Times {
+        Times { mine: self.mine / count as f64, theirs: self.theirs / count as f64, ..self }
+    }
+}
+
+fn time<T>(work: &mut impl FnMut(&[T]), pieces: &[T]) -> f64 {
+    let from = Instant::now();
+    work(pieces);
+    from.elapsed().as_nanos() as f64 / pieces.len() as f64
+}
+
+fn median(mut values: Vec<f64>) -> f64 {
+    values.sort_by(f64::total_cmp);
+    values[values.len() / 2]
+}
+
+/// Does the work on `share` pieces a round, going through all of them again and again.
+///
+/// A round times the one and then the other, so that both meet the same noise, and is short, so that few are interrupted. There are
+/// many more pieces than a round takes, so that the processor learns none of them.
+pub fn measure<T>(all: &[T], share: usize, mut mine: impl FnMut(&[T]), mut theirs: impl FnMut(&[T])) -> Times {
+    let shares = all.chunks_exact(share).cycle().take(ROUNDS);
+    let rounds: Vec<(f64, f64)> = shares.map(|pieces| (time(&mut mine, pieces), time(&mut theirs, pieces))).collect();
+    Times {
+        mine: median(rounds.iter().map(|round| round.0).collect()),
+        theirs: median(rounds.iter().map(|round| round.1).collect()),
+        ratio: median(rounds.iter().map(|round| round.0 / round.1).collect()),
+    }
+}
+
+pub fn head(work: &str, piece: &str) {
+    println!("| {work} | Rattle, ns a {piece} | reference, ns a {piece} | ratio |");
+    println!("|---|---|---|---|");
+}
+
+pub fn row(name: &str, times: &Times) {
+    println!("| {name} | {:.1} | {:.1} | {:.2} |", times.mine, times.theirs, times.ratio);
+}

@@ -1,0 +1,79 @@
+//! Who signed a kind of statement at a view: one pass over a record of 512 in lent memory.
+
+use std::hint::black_box;
+
+use generate::Rng;
+use pekdrav::{signers, POOL_WORDS, RECORD, STRIDE};
+use reference::{Body, Statement, View};
+
+use crate::measure::{head, measure, row};
+
+const ORDERS: usize = 400;
+
+/// A view as a word of the pool: the joined set below, the left set above.
+fn word(view: View) -> u32 {
+    u32::from(view.left()) << 16 | u32::from(view.joined())
+}
+
+/// Acks and stores at eight views, in no order.
+fn record() -> Vec<Statement> {
+    let mut rng = Rng::new(3);
+    let at = |place: usize| View::new(0xff, ((1u32 << place) - 1) as u16);
+    let body = |rng: &mut Rng| {
+        let (at, payload) = (at(rng.below(8)), rng.draw());
+        if rng.chance(50) { Body::Ack { at, payload } } else { Body::Store { at, payload } }
+    };
+    (0..RECORD).map(|_| Statement::new(rng.below(16) as u8, body(&mut rng))).collect()
+}
+
+fn pool(record: &[Statement]) -> Box<[u64; POOL_WORDS]> {
+    let mut words = Box::new([0; POOL_WORDS]);
+    for (statement, place) in record.iter().zip(words.chunks_mut(STRIDE)) {
+        let fields = statement.fields();
+        place[0] = u64::from(fields.kind);
+        place[1] = u64::from(fields.origin);
+        place[2] = u64::from(word(fields.at));
+        place[5] = fields.payload;
+    }
+    words[POOL_WORDS - 1] = record.len() as u64;
+    words
+}
+
+fn theirs(record: &[Statement], ids: &[u16; RECORD], at: View) -> u32 {
+    let mut set = 0;
+    for &id in ids {
+        let statement = &record[usize::from(id)];
+        if matches!(statement.body, Body::Ack { at: mine, .. } if mine == at) {
+            set |= 1 << statement.origin;
+        }
+    }
+    set
+}
+
+/// Many orders of the same record, so that no scan goes by what the processor learnt from the one before.
+fn orders() -> Vec<[u16; RECORD]> {
+    let mut rng = Rng::new(5);
+    let mut ids: [u16; RECORD] = std::array::from_fn(|place| place as u16);
+    let mut shuffled = || {
+        (1..RECORD).for_each(|place| ids.swap(place, rng.below(place + 1)));
+        ids
+    };
+    (0..ORDERS).map(|_| shuffled()).collect()
+}
+
+pub fn print() {
+    let record = record();
+    let words = pool(&record);
+    let orders = orders();
+    head("Who acknowledged at a view, in a record of 512", "statement");
+    for (name, at) in [("one in sixteen did", View::new(0xff, 0)), ("nobody did", View::new(0xff, 0xff00))] {
+        let mine = |ids: &[u16; RECORD]| signers(&words, black_box(ids), RECORD, 7, word(at));
+        let theirs = |ids: &[u16; RECORD]| theirs(&record, black_box(ids), at);
+        assert!(orders.iter().all(|ids| mine(ids) == theirs(ids)), "the scans differ");
+        let all = |scan: &dyn Fn(&[u16; RECORD]) -> u32, orders: &[[u16; RECORD]]| {
+            black_box(orders.iter().fold(0, |set, ids| set ^ scan(ids)));
+        };
+        let times = measure(&orders, 16, |orders| all(&mine, orders), |orders| all(&theirs, orders));
+        row(name, &times.of(RECORD));
+    }
+}

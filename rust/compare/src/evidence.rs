@@ -1,0 +1,120 @@
+//! What a record shows, compared.
+
+use pekdrav::{append, tell, told, Evidence, Shown, POOL_WORDS, RECORD, TOLD};
+use reference::{Record, View};
+
+use crate::records::Case;
+
+/// A view as a word of the pool: the joined set below, the left set above.
+pub fn word(view: View) -> u32 {
+    u32::from(view.left()) << 16 | u32::from(view.joined())
+}
+
+/// A record in memory to lend.
+pub struct Lent {
+    pub words: Box<[u64; POOL_WORDS]>,
+    pub ids: Box<[u16; RECORD]>,
+    pub len: usize,
+}
+
+/// Puts the statements into a pool by their lines; each gets the number of its place.
+pub fn lend(case: &Case) -> Result<Lent, String> {
+    let mut lent = Lent { words: Box::new([0; POOL_WORDS]), ids: Box::new([0; RECORD]), len: 0 };
+    for (place, statement) in case.statements.iter().enumerate() {
+        let number = append(&mut lent.words, &statement.write());
+        if number != Ok(place as u16) {
+            return Err(format!("{statement:?} at {place} went to {number:?}"));
+        }
+        lent.ids[place] = place as u16;
+        lent.len = place + 1;
+    }
+    Ok(lent)
+}
+
+pub fn mine(case: &Case, lent: &Lent) -> Evidence {
+    let mut out = [0; TOLD];
+    tell(&lent.words, &lent.ids, lent.len, word(case.initial), case.sender, &mut out);
+    told(&out)
+}
+
+/// The reference's evidence in the same words.
+pub fn theirs(case: &Case) -> Evidence {
+    let evidence = reference::Evidence::of(case.initial, case.sender, &case.statements);
+    let words = |views: &[View]| views.iter().map(|&view| word(view)).collect::<Vec<u32>>();
+    let shown = || Shown {
+        candidates: (evidence.candidates.len() <= 16).then(|| words(&evidence.candidates)),
+        greatest: evidence.greatest().map_or(Vec::new(), |history| words(history.views())),
+        certificate: evidence.certificate().map(|payload| (payload, evidence.stored.contains(&payload))),
+    };
+    Evidence { wished: word(evidence.wished), shown: (!evidence.conflict()).then(shown) }
+}
+
+/// What the compared records showed.
+#[derive(Default)]
+pub struct Tally {
+    pub records: u64,
+    pub statements: u64,
+    pub longest: usize,
+    pub conflicts: u64,
+    /// More than sixteen candidates.
+    pub many: u64,
+    /// A view after the initial one was entered into a sealed history.
+    pub sealed: u64,
+    pub certified: u64,
+    pub stored: u64,
+}
+
+impl Tally {
+    fn add(&mut self, case: &Case, evidence: &Evidence) {
+        self.records += 1;
+        self.statements += case.statements.len() as u64;
+        self.longest = self.longest.max(case.statements.len());
+        let Some(shown) = &evidence.shown else {
+            self.conflicts += 1;
+            return;
+        };
+        self.many += u64::from(shown.candidates.is_none());
+        self.sealed += u64::from(shown.greatest.len() > 1);
+        self.certified += u64::from(shown.certificate.is_some());
+        self.stored += u64::from(shown.certificate.is_some_and(|(_, stored)| stored));
+    }
+}
+
+impl std::fmt::Display for Tally {
+    fn fmt(&self, f: &mut std::fmt::Formatter<'_>) -> std::fmt::Result {
+        write!(
+            f,
+            "{} records of {} statements, the longest of {}: {} conflicts, {} with more than 16 candidates, {} sealed, {} certified, {} stored",
+            self.records, self.statements, self.longest, self.conflicts, self.many, self.sealed, self.certified, self.stored
+        )
+    }
+}
+
+/// The fewest statements found in which they still differ.
+fn shrink(case: &Case) -> Case {
+    let differs = |case: &Case| lend(case).is_ok_and(|lent| mine(case, &lent) != theirs(case));
+    let mut least = case.clone();
+    let mut place = least.statements.len();
+    while place > 0 {
+        place -= 1;
+        let mut fewer = least.clone();
+        fewer.statements.remove(place);
+        if differs(&fewer) {
+            least = fewer;
+        }
+    }
+    least
+}
+
+pub fn compare(case: &Case, tally: &mut Tally) -> Result<(), String> {
+    assert!(case.statements.len() <= Record::LIMIT, "a record has at most 512 statements");
+    let (mine_now, theirs_now) = (mine(case, &lend(case)?), theirs(case));
+    if mine_now != theirs_now {
+        let least = shrink(case);
+        let lines: Vec<String> = least.statements.iter().map(|s| String::from_utf8_lossy(&s.write()).into_owned()).collect();
+        let (one, other) = (mine(&least, &lend(&least)?), theirs(&least));
+        return Err(format!("initial {} sender {}\n{}\nproved: {one:x?}\nreference: {other:x?}", least.initial, least.sender, lines.join("\n")));
+    }
+    tally.add(case, &theirs_now);
+    Ok(())
+}

@@ -1,0 +1,8 @@
+//! The proved code against the reference, on generated inputs.
+
+pub mod evidence;
+pub mod lines;
+pub mod records;
+pub mod rows;
+pub mod schedules;
+pub mod statements;

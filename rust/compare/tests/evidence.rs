@@ -1,0 +1,61 @@
+//! What records show, by the proved code and by the reference.
+
+use compare::evidence::{compare, Tally};
+use compare::records::{breadth, changed, depth, mixed, pool_of, quorums, Case};
+use compare::schedules;
+use generate::Rng;
+use pekdrav::{append, Unplaced, POOL_WORDS};
+
+fn agree(name: &str, cases: impl Iterator<Item = Case>) -> Tally {
+    let mut tally = Tally::default();
+    for case in cases {
+        compare(&case, &mut tally).unwrap_or_else(|difference| panic!("{name}: they differ\n{difference}"));
+    }
+    println!("{name}: {tally}");
+    tally
+}
+
+#[test]
+fn records_of_runs() {
+    let made = (0..120).flat_map(|seed| schedules::random(seed, 100 + 80 * (seed as usize % 8))).chain(schedules::limits(1));
+    let tally = agree("records of runs", made.filter_map(|schedule| pool_of(&schedule)));
+    assert!(tally.conflicts > 20 && tally.sealed > 100 && tally.certified > 100 && tally.stored > 50, "too few of a kind");
+    assert_eq!(tally.longest, 512);
+}
+
+#[test]
+fn changed_records() {
+    let mut rng = Rng::new(17);
+    let made = (1_000..1_120).flat_map(|seed| schedules::random(seed, 100 + 80 * (seed as usize % 8))).chain(schedules::limits(2));
+    let pools: Vec<Case> = made.filter_map(|schedule| pool_of(&schedule)).collect();
+    let tally = agree("changed records", pools.iter().flat_map(|case| (0..6).map(|_| changed(&mut rng, case)).collect::<Vec<_>>()));
+    assert!(tally.conflicts > 100 && tally.many > 5 && tally.sealed > 500 && tally.certified > 500, "too few of a kind");
+}
+
+#[test]
+fn worst_records() {
+    let sizes = [16, 17, 64, 256, 511, 512];
+    let made = sizes.into_iter().flat_map(|count| [breadth(count), depth(count), mixed(count)]).chain([quorums()]);
+    let mut rng = Rng::new(19);
+    let cases: Vec<Case> = made.collect();
+    let shuffled: Vec<Case> = cases.iter().flat_map(|case| (0..8).map(|_| changed(&mut rng, case)).collect::<Vec<_>>()).collect();
+    let tally = agree("worst records", cases.into_iter().chain(shuffled));
+    assert!(tally.conflicts > 50 && tally.sealed > 10, "too few of a kind");
+    assert_eq!(tally.longest, 512);
+}
+
+#[test]
+fn a_pool_takes_512_statements_and_no_line_that_is_none() {
+    let mut words = Box::new([0; POOL_WORDS]);
+    for number in 0..512u16 {
+        let line = format!("6,3,00000000,00000000,0,{number},0,0,0");
+        assert_eq!(append(&mut words, line.as_bytes()), Ok(number));
+        assert_eq!(append(&mut words, line.as_bytes()), Ok(number), "a number is reused");
+    }
+    let full = words.clone();
+    assert_eq!(append(&mut words, b"6,3,00000000,00000000,0,512,0,0,0"), Err(Unplaced::Full));
+    assert_eq!(append(&mut words, b"6,16,00000000,00000000,0,512,0,0,0"), Err(Unplaced::NoStatement));
+    assert_eq!(append(&mut words, b""), Err(Unplaced::NoStatement));
+    assert_eq!(append(&mut words, b"6,3,00000000,00000000,0,0,0,0,0"), Ok(0));
+    assert!(words == full, "the pool is as it was");
+}

@@ -1,0 +1,94 @@
+//! The proved code, called from Rust.
+//!
+//! The functions are those of `crates/pekdrav`; their contracts stand there. None asks anything of its caller but memory of
+//! the right size, which the types here give.
+
+/// The words of a pool: 512 statements of 32 words, and the number of statements.
+pub const POOL_WORDS: usize = 16_385;
+
+/// The words of one statement of a pool.
+pub const STRIDE: usize = 32;
+
+/// The longest record.
+pub const RECORD: usize = 512;
+
+/// The words that evidence is told in.
+pub const TOLD: usize = 40;
+
+mod exported {
+    // A slice is a pointer and then a length, an array a pointer. Nothing checks these lines against the Rattle source.
+    extern "C" {
+        pub fn pekdrav_statement(line: *const u8, line_len: usize, out: *mut u8, out_len: usize) -> usize;
+        pub fn pekdrav_signers(words: *const u64, ids: *const u16, len: usize, kind: u8, at: u32) -> u32;
+        pub fn pekdrav_append(words: *mut u64, line: *const u8, line_len: usize) -> u16;
+        pub fn pekdrav_evidence(words: *const u64, ids: *const u16, len: usize, init: u32, sender: u8, out: *mut u64);
+    }
+}
+
+/// Writes the statement that `line` is from the start of `out` and answers its length.
+///
+/// 0, with `out` as it was, if `line` is the text of no statement that keeps the field rules or `out` is too short.
+pub fn statement(line: &[u8], out: &mut [u8]) -> usize {
+    // SAFETY: each pointer is that of a slice, with its length; the function reads the one and writes the other within them.
+    unsafe { exported::pekdrav_statement(line.as_ptr(), line.len(), out.as_mut_ptr(), out.len()) }
+}
+
+/// The set of those who signed a statement of this kind at this view in the record of the first `len` numbers, bit k for controller k.
+///
+/// A view's word has the joined set in its low 16 bits and the left set above them, as in the pool.
+pub fn signers(words: &[u64; POOL_WORDS], ids: &[u16; RECORD], len: usize, kind: u8, at: u32) -> u32 {
+    // SAFETY: both pointers are those of arrays of the sizes that the function reads, whatever they hold.
+    unsafe { exported::pekdrav_signers(words.as_ptr(), ids.as_ptr(), len, kind, at) }
+}
+
+/// Why a statement did not go into a pool.
+#[derive(Clone, Copy, PartialEq, Eq, Debug)]
+pub enum Unplaced {
+    Full,
+    /// The line is the text of no statement that keeps the field rules.
+    NoStatement,
+}
+
+/// The number of the statement that `line` is, which goes to the end of the pool if it is not in it.
+pub fn append(words: &mut [u64; POOL_WORDS], line: &[u8]) -> Result<u16, Unplaced> {
+    // SAFETY: the pointers are those of an array of the size that the function uses and of a slice with its length.
+    match unsafe { exported::pekdrav_append(words.as_mut_ptr(), line.as_ptr(), line.len()) } {
+        512 => Err(Unplaced::Full),
+        513 => Err(Unplaced::NoStatement),
+        number => Ok(number),
+    }
+}
+
+/// Tells what the record of the first `len` numbers shows in a ring with this initial view and sender.
+pub fn tell(words: &[u64; POOL_WORDS], ids: &[u16; RECORD], len: usize, init: u32, sender: u8, out: &mut [u64; TOLD]) {
+    // SAFETY: the pointers are those of arrays of the sizes that the function reads and writes, whatever they hold.
+    unsafe { exported::pekdrav_evidence(words.as_ptr(), ids.as_ptr(), len, init, sender, out.as_mut_ptr()) }
+}
+
+/// What a record shows, views as words. After a conflict only the wished view is told.
+#[derive(Clone, PartialEq, Eq, Debug)]
+pub struct Evidence {
+    pub wished: u32,
+    pub shown: Option<Shown>,
+}
+
+#[derive(Clone, PartialEq, Eq, Debug)]
+pub struct Shown {
+    /// None where there are more than sixteen.
+    pub candidates: Option<Vec<u32>>,
+    /// The sealed history that holds every other.
+    pub greatest: Vec<u32>,
+    /// The payload that has a certificate, and whether it is stored.
+    pub certificate: Option<(u64, bool)>,
+}
+
+/// Reads what `tell` told.
+pub fn told(out: &[u64; TOLD]) -> Evidence {
+    let views = |from: usize, count: u64| out[from..from + 16].iter().take(count as usize).map(|&word| word as u32).collect();
+    let shown = Shown {
+        candidates: (out[1] == 0).then(|| views(8, out[3])),
+        greatest: views(24, out[4]),
+        certificate: (out[5] == 1).then_some((out[6], out[7] == 1)),
+    };
+    Evidence { wished: out[2] as u32, shown: (out[0] == 0).then_some(shown) }
+}
