@@ -24,7 +24,7 @@ fn time<T>(work: &mut impl FnMut(&[T]), pieces: &[T]) -> f64 {
     from.elapsed().as_nanos() as f64 / pieces.len() as f64
 }
 
-fn median(mut values: Vec<f64>) -> f64 {
+pub fn median(mut values: Vec<f64>) -> f64 {
     values.sort_by(f64::total_cmp);
     values[values.len() / 2]
 }

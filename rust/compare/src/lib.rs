@@ -2,6 +2,7 @@
 
 pub mod evidence;
 pub mod lines;
+pub mod lockstep;
 pub mod records;
 pub mod rows;
 pub mod schedules;

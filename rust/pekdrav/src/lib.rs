@@ -15,6 +15,10 @@ pub const RECORD: usize = 512;
 /// The words that evidence is told in.
 pub const TOLD: usize = 40;
 
+mod controller;
+
+pub use controller::{Answer, Binding, Controller, Pool};
+
 mod exported {
     // A slice is a pointer and then a length, an array a pointer. Nothing checks these lines against the Rattle source.
     extern "C" {

@@ -1,0 +1,206 @@
+//! The proved controller and the reference's, call by call over the lines of a schedule. Each controller has a pool of its own, as it has in a
+//! hall; what one signs goes to the others as text.
+
+use std::collections::BTreeMap;
+
+use pekdrav::{Controller, Pool};
+use reference::bench::Line;
+use reference::{Answer, Refusal, Statement, View};
+
+use crate::evidence::word;
+
+/// What the compared calls answered; a refusal with its number.
+pub type Tally = BTreeMap<String, u64>;
+
+/// The same controller twice.
+struct Seat {
+    mine: Controller,
+    pool: Pool,
+    theirs: reference::Controller,
+}
+
+/// Sixteen of them, and all statements that were signed, as text.
+pub struct Ring {
+    seats: Vec<Seat>,
+    sent: Vec<Vec<u8>>,
+    pub tally: Tally,
+}
+
+/// A call on a controller.
+#[derive(Clone, Copy, Debug)]
+enum Call<'a> {
+    Setup { number: u8, members: u16, sender: u8 },
+    Join,
+    Leave,
+    Send(u64),
+    Add(&'a [u8]),
+    Turn,
+}
+
+impl Seat {
+    fn mine(&mut self, call: Call) -> pekdrav::Answer {
+        match call {
+            Call::Setup { number, members, sender } => self.mine.setup(number, members, sender),
+            Call::Join => self.mine.join(),
+            Call::Leave => self.mine.leave(),
+            Call::Send(payload) => self.mine.send(payload),
+            Call::Add(line) => self.mine.add(&mut self.pool, line),
+            Call::Turn => self.mine.turn(&mut self.pool),
+        }
+    }
+
+    fn theirs(&mut self, call: Call) -> Answer {
+        match call {
+            Call::Setup { members, sender, .. } => self.theirs.setup(members, sender),
+            Call::Join => self.theirs.join(),
+            Call::Leave => self.theirs.leave(),
+            Call::Send(payload) => self.theirs.send(payload),
+            Call::Turn => self.theirs.turn(),
+            Call::Add(line) => match Statement::read(line) {
+                Some(statement) => self.theirs.add(&statement),
+                None if self.theirs.ring().is_none() => Answer::Refused(Refusal::Unreadable),
+                None => Answer::Refused(Refusal::Statement),
+            },
+        }
+    }
+
+    /// What the two answers, the same call's, differ in.
+    fn differs(&self, mine: pekdrav::Answer, theirs: Answer) -> Option<String> {
+        let as_mine = match theirs {
+            Answer::Taken => pekdrav::Answer::Taken,
+            Answer::Signed(statement) => match mine {
+                pekdrav::Answer::Signed(number) if self.pool.text(number) == Some(statement.write()) => mine,
+                _ => return Some(format!("proved: {mine:?}, reference: {theirs:?}")),
+            },
+            Answer::Entered(view) => pekdrav::Answer::Entered(word(view)),
+            Answer::Delivered(payload) => pekdrav::Answer::Delivered(payload),
+            Answer::Left => pekdrav::Answer::Left,
+            Answer::Quiet => pekdrav::Answer::Quiet,
+            Answer::Refused(refusal) => pekdrav::Answer::Refused(refusal as u8),
+        };
+        (mine != as_mine).then(|| format!("proved: {mine:?}, reference: {theirs:?}"))
+    }
+
+    /// Whether the two controllers are the same in every field; of the record the length.
+    fn is_same(&self) -> bool {
+        let Seat { mine, theirs, .. } = self;
+        let words = |views: &[View]| views.iter().map(|&view| word(view)).collect::<Vec<u32>>();
+        let binding = match theirs.binding() {
+            reference::Binding::Unbound => pekdrav::Binding::Unbound,
+            reference::Binding::Bound(payload) => pekdrav::Binding::Bound(payload),
+            reference::Binding::Barred => pekdrav::Binding::Barred,
+        };
+        let requests = theirs.requests();
+        let set_up = |ring: reference::controller::Ring| {
+            mine.number() == theirs.number() && mine.initial() == word(ring.initial) && mine.sender() == ring.sender
+        };
+        mine.is_set_up() == theirs.ring().is_some()
+            && theirs.ring().is_none_or(set_up)
+            && mine.entered() == words(theirs.entered())
+            && mine.binding() == binding
+            && mine.delivered() == theirs.delivered()
+            && (mine.join_requested(), mine.leave_requested()) == (requests.join, requests.leave)
+            && mine.send_requested() == requests.send
+            && mine.record().len() == theirs.record().len()
+    }
+
+    /// Whether the two records are the same, statement by statement.
+    fn has_same_record(&self) -> bool {
+        let numbers = self.mine.record().iter();
+        let mut both = numbers.zip(self.theirs.record().statements());
+        both.all(|(&number, statement)| self.pool.text(number) == Some(statement.write()))
+    }
+}
+
+impl Default for Ring {
+    fn default() -> Ring {
+        let seat = |number| Seat { mine: Controller::new(), pool: Pool::new(), theirs: reference::Controller::new(number) };
+        Ring { seats: (0..16).map(seat).collect(), sent: Vec::new(), tally: Tally::new() }
+    }
+}
+
+impl Ring {
+    pub fn new() -> Ring {
+        Ring::default()
+    }
+
+    /// Makes one call on both.
+    fn call(&mut self, k: u8, call: Call) -> Result<Answer, String> {
+        let seat = &mut self.seats[usize::from(k)];
+        let before = seat.mine.clone();
+        let (mine, theirs) = (seat.mine(call), seat.theirs(call));
+        if let Some(difference) = seat.differs(mine, theirs) {
+            return Err(format!("controller {k}, {call:?}: {difference}"));
+        }
+        if !seat.is_same() {
+            return Err(format!("controller {k}, {call:?}: the controllers differ after {mine:?}"));
+        }
+        let word = match mine {
+            pekdrav::Answer::Refused(number) if seat.mine == before => format!("refused {number}"),
+            pekdrav::Answer::Refused(_) => return Err(format!("controller {k}, {call:?}: a refusal changed the controller")),
+            answer => format!("{answer:?}").split('(').next().unwrap_or_default().to_lowercase(),
+        };
+        *self.tally.entry(word).or_default() += 1;
+        Ok(theirs)
+    }
+
+    fn sign(&mut self, text: Vec<u8>) {
+        if !self.sent.contains(&text) {
+            self.sent.push(text);
+        }
+    }
+
+    /// Runs a line of a schedule; one that does not read is added as if it were a statement.
+    fn line(&mut self, place: usize, line: &[u8]) -> Result<(), String> {
+        match Line::read(line) {
+            Some(Line::Setup { members, sender, .. }) => {
+                (0..16).try_for_each(|number| self.call(number, Call::Setup { number, members, sender }).map(drop))
+            }
+            Some(Line::Join(k)) => self.call(k, Call::Join).map(drop),
+            Some(Line::Leave(k)) => self.call(k, Call::Leave).map(drop),
+            Some(Line::Send(k, payload)) => self.call(k, Call::Send(payload)).map(drop),
+            Some(Line::Give(k, number)) => match self.sent.get(number as usize).cloned() {
+                Some(text) => self.call(k, Call::Add(&text)).map(drop),
+                None => Ok(()),
+            },
+            Some(Line::All(k)) => {
+                let sent = self.sent.clone();
+                sent.iter().try_for_each(|text| self.call(k, Call::Add(text)).map(drop))
+            }
+            Some(Line::Turn(k)) => {
+                if let Answer::Signed(statement) = self.call(k, Call::Turn)? {
+                    self.sign(statement.write());
+                }
+                Ok(())
+            }
+            Some(Line::Lie(Some(statement))) => {
+                self.sign(statement.write());
+                Ok(())
+            }
+            Some(Line::Lie(None)) => self.call((place % 16) as u8, Call::Add(&line[4..])).map(drop),
+            None => self.call((place % 16) as u8, Call::Add(line)).map(drop),
+        }
+    }
+
+    /// Runs a schedule, and compares the records at its end.
+    pub fn run(&mut self, schedule: &[u8]) -> Result<(), String> {
+        for (place, line) in schedule.split(|&byte| byte == b'\n').enumerate() {
+            self.line(place, line).map_err(|difference| format!("line {}: {difference}", place + 1))?;
+        }
+        match self.seats.iter().position(|seat| !seat.has_same_record()) {
+            Some(k) => Err(format!("controller {k}: the records differ")),
+            None => Ok(()),
+        }
+    }
+}
+
+/// Runs many schedules, each in a new ring.
+pub fn compare_all(schedules: impl Iterator<Item = Vec<u8>>) -> Result<Tally, String> {
+    let mut tally = Tally::new();
+    for schedule in schedules {
+        let mut ring = Ring::new();
+        ring.run(&schedule).map_err(|difference| format!("{difference}\n{}", String::from_utf8_lossy(&schedule)))?;
+        ring.tally.into_iter().for_each(|(answer, count)| *tally.entry(answer).or_default() += count);
+    }
+    Ok(tally)
+}

@@ -1,0 +1,55 @@
+//! The proved controller and the reference's in lock step.
+
+use compare::lockstep::{compare_all, Tally};
+use compare::schedules;
+use pekdrav::{Answer, Controller, Pool};
+
+fn agree(name: &str, schedules: impl Iterator<Item = Vec<u8>>) -> Tally {
+    let tally = compare_all(schedules).unwrap_or_else(|difference| panic!("{name}: they differ, {difference}"));
+    println!("{name}: {tally:?}");
+    tally
+}
+
+#[test]
+fn runs_of_all_styles() {
+    let tally = agree("lock step", (0..60).flat_map(|seed| schedules::random(seed, 60 + 60 * (seed as usize % 8))));
+    for answer in ["taken", "signed", "entered", "delivered", "left", "quiet"] {
+        assert!(tally.get(answer).is_some_and(|&count| count > 100), "too few: {answer}");
+    }
+    for refusal in [1, 2, 3, 5, 7, 8] {
+        assert!(tally.get(&format!("refused {refusal}")).is_some_and(|&count| count > 10), "too few: refused {refusal}");
+    }
+}
+
+#[test]
+fn limits() {
+    let tally = agree("lock step at the limits", schedules::limits(3));
+    for refusal in [4, 6, 7] {
+        assert!(tally.contains_key(&format!("refused {refusal}")), "none: refused {refusal}");
+    }
+}
+
+#[test]
+fn mutated_runs() {
+    agree("lock step on mutated schedules", (0..300).map(|seed| schedules::mutated(seed, 60 + 30 * (seed as usize % 8))));
+}
+
+/// Every memory means a controller: a call on any answers, and a refusal leaves the pool as it was.
+#[test]
+fn one_of_everything() {
+    let (mut controller, mut pool) = (Controller::new(), Pool::new());
+    assert_eq!(controller.turn(&mut pool), Answer::Refused(8));
+    assert_eq!(controller.add(&mut pool, b"1,0,00000000,00000000,0,0,0,0,0"), Answer::Refused(8));
+    assert_eq!(controller.setup(16, 1, 0), Answer::Refused(1));
+    assert_eq!(controller.setup(0, 1, 0), Answer::Taken);
+    assert_eq!(controller.add(&mut pool, b"1,0,00000000,00000000,0,0,0,0"), Answer::Refused(2));
+    assert_eq!(controller.send(7), Answer::Taken);
+    assert_eq!(controller.turn(&mut pool), Answer::Signed(0));
+    assert_eq!(pool.text(0), Some(b"6,0,00000000,00000000,0,7,0,0,0".to_vec()));
+    assert_eq!(pool.text(1), None);
+    assert_eq!(controller.turn(&mut pool), Answer::Signed(1));
+    assert_eq!(controller.turn(&mut pool), Answer::Signed(2));
+    assert_eq!(controller.turn(&mut pool), Answer::Delivered(7));
+    assert_eq!(controller.turn(&mut pool), Answer::Quiet);
+    assert_eq!(controller.record(), [0, 1, 2]);
+}
