@@ -11,7 +11,7 @@ use libc::STDOUT_FILENO;
 // One byte more than the longest schedule has, so that a longer one is known.
 const TEXT_BYTES: usize = 65537;
 
-// Room for the rows of any schedule.
+// Room for the rows of any schedule. With it the program takes about 3 MB of the stack's 8 MB.
 const ROW_BYTES: usize = 2621504;
 
 // How many bytes were read, or that a read failed.
