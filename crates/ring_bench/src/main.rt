@@ -1,0 +1,111 @@
+// Runs the schedule of the file that its one argument names, or of standard input where it has none, and prints the rows.
+// What it cannot open, read or write, and a second argument, it says in one line on standard error. A program has no exit status of its own.
+ghost use Prim.Native.Nat.{_-_, _≤_};
+ghost use lib.ListN.{length};
+ghost use Rattle.ring_bench.specs.Program.{Within, Shown};
+use bench::run;
+use libc::STDERR_FILENO;
+use libc::STDIN_FILENO;
+use libc::STDOUT_FILENO;
+
+// One byte more than the longest schedule has, so that a longer one is known.
+const TEXT_BYTES: usize = 65537;
+
+// Room for the rows of any schedule. With it the program takes about 3 MB of the stack's 8 MB.
+const ROW_BYTES: usize = 2621504;
+
+// How many bytes were read, or that a read failed.
+enum Input {
+    Bytes(usize),
+    Failed,
+}
+
+// One read, to position n and on; it reads nothing where the input ends.
+fn read_some(fd: i32, text: &mut [u8], n: usize) -> Input
+    requires { ⌜ n ≤ length (now text) ⌝ }
+    ensures { λ r. ⌜ Within r (length (now (text .entry)) - n) ⌝ }
+{
+    let rest = &mut text[n..];
+    let got = libc::read(fd, rest);
+    if got < 0 {
+        return Input::Failed;
+    }
+    Input::Bytes(io::count(got, rest))
+}
+
+// Reads until the memory is full, the input ends or a read fails.
+fn read_all(fd: i32, text: &mut [u8]) -> Input
+    ensures { λ r. ⌜ Within r (length (now (text .exit))) ⌝ }
+{
+    let mut n = 0usize;
+    while n < text.len() {
+        let got = read_some(fd, text, n);
+        let Input::Bytes(more) = got else {
+            return Input::Failed;
+        };
+        if more == 0 {
+            return Input::Bytes(n);
+        }
+        n += more;
+    }
+    Input::Bytes(n)
+}
+
+// Writes the rows of a schedule to standard output by way of lent memory, and answers how many bytes they have.
+fn print_rows(schedule: &[u8], rows: &mut [u8]) -> usize
+    ensures { λ r. ⌜ Shown (now (schedule .entry)) (now (rows .exit)) r ⌝ }
+{
+    if rows.len() < ROW_BYTES {
+        return 0;
+    }
+    let n = run::run_rows(schedule, rows);
+    // What was written there ends there, but run_rows does not promise it.
+    if rows.len() < n {
+        return n;
+    }
+    if !io::write_all(STDOUT_FILENO, &rows[..n]) {
+        os::fail(b"standard output");
+    }
+    n
+}
+
+// Runs what the descriptor reads; the name is for the line that says that it cannot be read.
+fn run_input(fd: i32, name: &[u8]) {
+    let mut text = [0u8; TEXT_BYTES];
+    let input = read_all(fd, &mut text);
+    let Input::Bytes(n) = input else {
+        os::fail(name);
+        return;
+    };
+    let mut rows = [0u8; ROW_BYTES];
+    print_rows(&text[..n], &mut rows);
+}
+
+fn run_file() {
+    let mut name = io::buffer();
+    let n = os::arg(1, &mut name);
+    if os::errno() != 0 {
+        os::fail(b"the file's name");
+        return;
+    }
+    let fd = os::open_read(&name[..n]);
+    if fd < 0 {
+        os::fail(&name[..n]);
+        return;
+    }
+    run_input(fd, &name[..n]);
+    libc::close(fd);
+}
+
+fn main() {
+    let words = os::arg_count();
+    if words > 2 {
+        io::write_all(STDERR_FILENO, b"usage: ring_bench [schedule]\n");
+        return;
+    }
+    if words == 2 {
+        run_file();
+        return;
+    }
+    run_input(STDIN_FILENO, b"standard input");
+}
