@@ -4,7 +4,7 @@ ghost use Rattle.protocol.specs.History.{sameViews};
 ghost use Rattle.protocol.specs.Statement.{sameStmt};
 ghost use Rattle.statements.specs.Meaning.{firstViews, stmtOf};
 ghost use Rattle.pool.specs.Pool.{stmtAt};
-ghost use Rattle.pool.specs.Changes.{foundOf, numberOf, Appended};
+ghost use Rattle.pool.specs.Changes.{sameHead, foundOf, numberOf, Appended};
 use crate::Found;
 use crate::POOL_WORDS;
 use crate::Placed;
@@ -33,18 +33,23 @@ fn same_history(words: &[u64; POOL_WORDS], n: u16, h: History) -> bool
     true
 }
 
-// Whether statement n is st. Most statements differ in the first fields that are asked.
+// Whether kind, origin and at of statement n are those of st. One comparison for all: of three, the first would often be guessed wrong.
+fn same_head(words: &[u64; POOL_WORDS], n: u16, st: Statement) -> bool
+    ensures { λ r. ⌜ r ≡ sameHead (stmtOf st) (stmtAt (now (words .entry)) n) ⌝ }
+{
+    let t = st.at;
+    let mine = st.kind as u64 + st.origin as u64 * 256 + t.word() as u64 * 65536;
+    let k = read::kind(words, n);
+    let o = read::origin(words, n);
+    let at = read::at(words, n);
+    mine == k + o * 256 + at as u64 * 65536
+}
+
+// Whether statement n is st. Most statements differ in their heads.
 pub fn same_at(words: &[u64; POOL_WORDS], n: u16, st: Statement) -> bool
     ensures { λ r. ⌜ r ≡ sameStmt (stmtOf st) (stmtAt (now (words .entry)) n) ⌝ }
 {
-    if st.kind as u64 != read::kind(words, n) {
-        return false;
-    }
-    if st.origin as u64 != read::origin(words, n) {
-        return false;
-    }
-    let t = st.at;
-    if t.word() != read::at(words, n) {
+    if !same_head(words, n, st) {
         return false;
     }
     let v = st.view;
