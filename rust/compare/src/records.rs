@@ -115,6 +115,29 @@ pub fn quorums() -> Case {
     Case { initial: chain[0], sender: 0, statements }
 }
 
+/// A chain in which each view is larger by one than the one before: 1 joins, 1 leaves, 2 joins, and so on. A history has at most 16 views, so each
+/// agreement names the initial view, the view that it is signed at and the next. No verdict rests on more views, one on the other, and the largest
+/// comes first, so that nothing is remembered when it is asked for.
+pub fn deepest() -> Case {
+    let sets = |n: u32| (((2u32 << n.div_ceil(2)) - 1) as Set, ((2u32 << (n / 2)) - 2) as Set);
+    let chain: Vec<View> = (0..=30).map(sets).map(|(joined, left)| View::new(joined, left)).collect();
+    let mut statements = wishes();
+    (1..16).for_each(|origin| put(&mut statements, Statement::new(origin, Body::Leave)));
+    for pair in chain.windows(2) {
+        let (at, view) = (pair[0], pair[1]);
+        for origin in (0..16u8).filter(|&k| at.has_member(k)) {
+            put(&mut statements, Statement::new(origin, Body::AgreeView { at, view }));
+            let mut views = vec![chain[0], at, view];
+            views.dedup();
+            if let Some(history) = History::new(&views) {
+                put(&mut statements, Statement::new(origin, Body::AgreeHistory { at, history }));
+            }
+        }
+    }
+    statements.reverse();
+    Case { initial: chain[0], sender: 0, statements }
+}
+
 /// A history of some views of the chain, the first and the one at `least` among them, that goes on after `least`.
 fn some_of(rng: &mut Rng, chain: &[View], least: usize) -> Option<History> {
     let set = rng.draw();

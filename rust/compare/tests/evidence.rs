@@ -1,7 +1,7 @@
 //! What records show, by the proved code and by the reference.
 
-use compare::evidence::{compare, Tally};
-use compare::records::{breadth, changed, depth, mixed, pool_of, quorums, Case};
+use compare::evidence::{compare, lend, mine, theirs, Tally};
+use compare::records::{breadth, changed, deepest, depth, mixed, pool_of, quorums, Case};
 use compare::schedules;
 use generate::Rng;
 use pekdrav::{append, Unplaced, POOL_WORDS};
@@ -42,6 +42,18 @@ fn worst_records() {
     let tally = agree("worst records", cases.into_iter().chain(shuffled));
     assert!(tally.conflicts > 50 && tally.sealed > 10, "too few of a kind");
     assert_eq!(tally.longest, 512);
+}
+
+/// The two functions that call each other go as deep as a record can have them; 128 KiB of stack are enough, with the arrays of a turn.
+#[test]
+fn the_deepest_record_on_a_small_stack() {
+    let case = deepest();
+    let expected = theirs(&case);
+    assert_eq!(case.statements.len(), 30 + 2 * 45);
+    let lent = lend(&case).unwrap_or_else(|difference| panic!("{difference}"));
+    let small = std::thread::Builder::new().stack_size(128 * 1024);
+    let told = small.spawn(move || mine(&case, &lent)).expect("a thread").join().expect("the stack suffices");
+    assert_eq!(told, expected);
 }
 
 #[test]
