@@ -1,7 +1,7 @@
 -- What a scan of the record finds, and the views of words as a history.
 -- Assumes nothing.
 use mathlib.Core.Path.{_≡_, refl, sym, ap, ap₂, _∙_}
-use mathlib.Core.Bool.{Bool, true, false, _&&_, _||_, and-comm, and-assoc, true≢false}
+use mathlib.Core.Bool.{Bool, true, false, _&&_, not, _||_, and-comm, and-assoc, true≢false}
 use mathlib.Core.List.{List, [], _∷_, _++_, append-nil}
 use mathlib.Core.Option.{Option, some, none}
 use Prim.Native.Nat.{ℕ, zero, suc, _+_, _≤_, _<_, min}
@@ -10,9 +10,9 @@ use native.Mathlib.Numerals.{add-one}
 use native.Mathlib.Omega.{arith}
 use lib.Dec.{eqb}
 use lib.ListN.{length, getD, set, length-set}
-use borrow.Author.Tests.{eq-eqb, ne-eqb}
+use borrow.Author.Tests.{eq-eqb, ne-eqb, lt-ltb}
 use Rattle.protocol.specs.Lists.{if_then_else_, any, find}
-use Rattle.protocol.specs.View.{View, sameView}
+use Rattle.protocol.specs.View.{View, sameView, below, member}
 use Rattle.protocol.specs.Statement.{Stmt, isKind}
 use Rattle.protocol.specs.Evidence.{prepares}
 use Rattle.protocol.proofs.Found.{none≢some}
@@ -21,12 +21,14 @@ use Rattle.views.specs.declared.History.{History}
 use Rattle.views.specs.Table.{table}
 use Rattle.views.specs.View.{viewOf}
 use Rattle.views.specs.Held.{viewIs, heldAt, viewsIs}
-use Rattle.views.proofs.Tables.{any-zero, any-more}
+use Rattle.views.proofs.Tables.{any-zero, any-more, any-append}
 use Rattle.views.proofs.Held.{views-of, cut-is}
 use Rattle.pool.specs.Pool.{recordOf}
 use Rattle.pool.proofs.Records as records
 use Rattle.evidence.specs.Slots.{viewsOf}
-use Rattle.engine.specs.Rules.{ownKind, ownAt, firstPrepare}
+use Rattle.pool.specs.declared.Record.{Record}
+use Rattle.pool.specs.Changes.{Pushed}
+use Rattle.engine.specs.Rules.{ownKind, ownAt, OwnReports, firstPrepare, reportDue}
 
 -- ---- one statement
 
@@ -49,6 +51,41 @@ module _ (s : Stmt) (k kind : ℕ) where
 
     pub at-is : (r : Bool) → b ≡ true → r ≡ sameView (s .at) t → r ≡ ownAt k kind t s
     at-is r f e = e ∙ ap (λ x. x && sameView (s .at) t) (sym f) ∙ at-both
+
+-- ---- the reports of one controller, in a record of their own
+
+or-none : (b : Bool) → (b || false) ≡ b
+or-none true = refl
+or-none false = refl
+
+any-last : (p : Stmt → Bool) (X : List Stmt) (s : Stmt) → any p (X ++ (s ∷ [])) ≡ (any p X || p s)
+unfolding any
+any-last p X s = any-append p X (s ∷ []) ∙ ap (λ b. any p X || b) (or-none (p s))
+
+own-part : (s : Stmt) (k kind : ℕ) (t : View) → ownKind k kind s ≡ false → ownAt k kind t s ≡ false
+own-part s k kind t e = sym (at-not s k kind t (ownKind k kind s) refl e)
+
+pub reports-none : (W ids J : List ℕ) (k : ℕ) (u : View) → any (ownAt k 5 u) (recordOf W J 0) ≡ any (ownAt k 5 u) (recordOf W ids 0)
+reports-none W ids J k u = records.none-first W J (ownAt k 5 u) ∙ sym (records.none-first W ids (ownAt k 5 u))
+
+module _ (W ids : List ℕ) (k i : ℕ) (l : i < 512) where
+  pub reports-passed : (r : Record) (b : Bool) → OwnReports W ids i k r → b ≡ ownKind k 5 (records.entry W ids i) → b ≡ false → OwnReports W ids (i + 1) k r
+  reports-passed r b o e f = record {
+    asked = λ u. o .asked u ∙ sym (or-none _) ∙ ap (λ b. any (ownAt k 5 u) (recordOf W ids i) || b) (sym (own-part (records.entry W ids i) k 5 u (sym e ∙ f))) ∙ sym (records.any-next W ids (ownAt k 5 u) i l);
+  }
+
+  pub reports-more : (r to : Record) → OwnReports W ids i k r → r .len ≤ i → Pushed r (getD ids i 0) to → OwnReports W ids (i + 1) k to
+  reports-more r to o h q = record {
+    asked = λ u. ap (any (ownAt k 5 u)) (q .means W ∙ ap (λ b. if b then recordOf W (r .ids) (r .len) ++ (records.entry W ids i ∷ []) else recordOf W (r .ids) (r .len)) (lt-ltb (min (r .len) 512) 512 (omega arith)))
+        ∙ any-last (ownAt k 5 u) (recordOf W (r .ids) (r .len)) (records.entry W ids i) ∙ ap (λ b. b || ownAt k 5 u (records.entry W ids i)) (o .asked u) ∙ sym (records.any-next W ids (ownAt k 5 u) i l);
+  }
+
+pub reports-whole : (W ids : List ℕ) (k len i end : ℕ) (r : Record) → i ≡ end → end ≡ min len 512 → OwnReports W ids i k r → OwnReports W ids len k r
+reports-whole W ids k len i end r d e o = record { asked = λ u. o .asked u ∙ ap (any (ownAt k 5 u)) (records.whole W ids len i (d ∙ e)) }
+
+pub due-own : (W ids : List ℕ) (len k : ℕ) (r : Record) (t u : View) → OwnReports W ids len k r → reportDue (recordOf W ids len) k t u ≡ reportDue (recordOf W (r .ids) (r .len)) k t u
+unfolding reportDue
+due-own W ids len k r t u o = ap (λ b. below 16 u t && member u k && not b) (sym (o .asked u))
 
 -- ---- the first that is found
 

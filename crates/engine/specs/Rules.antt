@@ -16,6 +16,8 @@ use Rattle.protocol.specs.Turn.{Action, G, T, hasEntered, stands, certificate, 
 use Rattle.views.specs.Held.{viewIs}
 use Rattle.statements.specs.declared.Binding.{Binding}
 use Rattle.statements.specs.Meaning.{bindingIs}
+use Rattle.pool.specs.declared.Record.{Record}
+use Rattle.pool.specs.Pool.{recordOf}
 use Rattle.evidence.specs.declared.Evidence.{Evidence}
 use Rattle.evidence.specs.Evidence.{Settled}
 use Rattle.evidence.specs.Slots.{viewsOf}
@@ -50,6 +52,10 @@ firstPrepare sender X = given (find (prepares sender) X) (λ s. some (s .payload
 -- Controller k, at the top t, is to report on u.
 unfoldable pub reportDue : List Stmt → ℕ → View → View → Bool
 reportDue X k t u = below 16 u t && member u k && not (any (ownAt k 5 u) X)
+
+-- r has the reports of controller k that the record of the first len numbers has.
+pub record OwnReports (W ids : List ℕ) (len k : ℕ) (r : Record) : Type 0 where
+  pub asked : (u : View) → any (ownAt k 5 u) (recordOf W (r .ids) (r .len)) ≡ any (ownAt k 5 u) (recordOf W ids len)
 
 abbrev pub dueIs : Due → Option View
 dueIs Nothing = none

@@ -16,13 +16,14 @@ ghost use Rattle.pool.specs.Pool.{stmtAt, recordOf};
 ghost use Rattle.evidence.specs.Evidence.{Settled};
 ghost use Rattle.evidence.specs.Slots.{viewsOf};
 ghost use Rattle.engine.specs.Meaning.{sendIs};
-ghost use Rattle.engine.specs.Rules.{ownKind, ownAt, firstPrepare, reportDue, dueIs, notAbove, acts, Looks, Steps, Does, Firsts, Enters, Entering, Acks, Delivers, Seen, Chosen};
+ghost use Rattle.engine.specs.Rules.{ownKind, ownAt, firstPrepare, reportDue, OwnReports, dueIs, notAbove, acts, Looks, Steps, Does, Firsts, Enters, Entering, Acks, Delivers, Seen, Chosen};
 use crate::Controller;
 use crate::Deed;
 use crate::Send;
 use crate::Step;
 use evidence::Evidence;
 use pool::POOL_WORDS;
+use pool::Record;
 use statements::Binding;
 use statements::Statement;
 use views::History;
@@ -235,6 +236,29 @@ fn deliver(m: u64) -> Step
     }
 }
 
+// The reports of controller k in the record, so that one on a view is looked for among few.
+fn own_reports(words: &[u64; POOL_WORDS], ids: &[u16; 512], len: usize, k: u8) -> Record
+    ensures { λ r. ⌜ OwnReports (now (words .entry)) (now (ids .entry)) len k r ⌝ }
+{
+    let end = pool::limit(len);
+    let mut own = Record {
+        ids: [0u16; 512],
+        len: 0,
+    };
+    let mut i = 0usize;
+    while i < end {
+        let n = ids[i];
+        if !is_own(words, n, k, 5) {
+            i += 1;
+            continue;
+        }
+        let more = pool::push(own, n);
+        own = more;
+        i += 1;
+    }
+    own
+}
+
 // Whether a report on the view of the word u is due.
 fn is_due(
     words: &[u64; POOL_WORDS],
@@ -265,10 +289,13 @@ fn next_due(words: &[u64; POOL_WORDS], ids: &[u16; 512], len: usize, s: Sight) -
     let k = s.number;
     let n = s.length;
     let greatest = s.greatest;
+    let own = own_reports(words, ids, len, k);
+    let reports = own.ids;
+    let count = own.len;
     let mut i = 0usize;
     while i < n {
         let u = greatest[i];
-        if is_due(words, ids, len, k, t, u) {
+        if is_due(words, &reports, count, k, t, u) {
             return Due::On(View::of_word(u));
         }
         i += 1;
