@@ -3,3 +3,4 @@ pub mod Keys
 pub mod Told
 pub mod Placing
 pub mod Loading
+pub mod Hosting

@@ -4,3 +4,4 @@ pub mod Scan
 pub mod Pooled
 pub mod Evidence
 pub mod Memory
+pub mod Host
