@@ -94,18 +94,18 @@ store-last {l} {F} {i} s k h = record { long = s .long; back = all i (omega arit
 
 pub loaded : (F I : List ℕ) {init : View} {entered : History} {binding : Binding} {sending : Send} → entered ≡ enteredIn F → init ≡ viewIn (getD F 2 0) → binding ≡ bindingIn (getD F 4 0) (getD F 5 0) → sending ≡ sendIn (getD F 9 0) (getD F 10 0)
     → record {
-  ready = says (getD F 0 0);
-  number = getD F 1 0 % 256;
-  init = init;
-  sender = getD F 3 0 % 256;
-  entered = entered;
-  binding = binding;
-  delivered = says (getD F 6 0);
-  joining = says (getD F 7 0);
-  leaving = says (getD F 8 0);
-  sending = sending;
-  statements = record { ids = I; len = getD F 11 0 };
-} ≡ controllerAt F I
+      ready = says (getD F 0 0);
+      number = getD F 1 0 % 256;
+      init = init;
+      sender = getD F 3 0 % 256;
+      entered = entered;
+      binding = binding;
+      delivered = says (getD F 6 0);
+      joining = says (getD F 7 0);
+      leaving = says (getD F 8 0);
+      sending = sending;
+      statements = record { ids = I; len = getD F 11 0 };
+    } ≡ controllerAt F I
 unfolding controllerAt
 loaded F I e v b s i = record {
   ready = says (getD F 0 0);

@@ -52,12 +52,7 @@ fn value_number(a: Answer) -> u64
 }
 
 // Tells the answer of o, and keeps its controller; a refusal leaves the memory as it was.
-pub fn finish(
-    fields: &mut [u64; 32],
-    ids: &mut [u16; 512],
-    o: Outcome,
-    value: &mut [u64; 1],
-) -> u8
+pub fn finish(fields: &mut [u64; 32], ids: &mut [u16; 512], o: Outcome, value: &mut [u64; 1]) -> u8
     ensures { λ r. ⌜ Finished o (now (fields .entry)) (now (ids .entry)) r (now (fields .exit)) (now (ids .exit)) (now (value .exit)) ⌝ }
 {
     let a = o.answer;

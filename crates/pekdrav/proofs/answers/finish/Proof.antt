@@ -8,27 +8,7 @@ use Rattle.pekdrav.proofs.answers.answer_number.Reads as answer-number-
 use Rattle.pekdrav.proofs.answers.value_number.Reads as value-number-reads
 use Rattle.pekdrav.proofs.held.store.Reads as store-reads
 
--- src/answers.rt:64:17
-value-number-requires : tie.Need-value-number-requires
-value-number-requires c κs = search needs
-
--- src/answers.rt:66:9
-answer-number-requires : tie.Need-answer-number-requires
-answer-number-requires c κs = search needs
-
--- src/answers.rt:68:9
-returns : tie.Need-returns
-returns c = was-refused (c .before .before .before .args .o) _ _ _ _ (c .before .answer-number .ensures) (c .before .before .value-number .ensures) (c .if1 .taken)
-
--- src/answers.rt:71:5
-store-requires : tie.Need-store-requires
-store-requires c κs = search needs
-
--- src/answers.rt:55:1
-returns-2 : tie.Need-returns-2
-returns-2 c = was-kept (c .before .before .before .before .before .before .before .args .o) _ _ _ _ (c .before .before .before .before .before .answer-number .ensures) (c .before .before .before .before .before .before .value-number .ensures) (c .before .before .before .before .if1 .left) _ _ (c .store .ensures)
-
 pub finish-spec : {M : Type 1} → statement M
 finish-spec =
     tie.close
-    (tie.spec value-number-requires answer-number-requires returns store-requires returns-2)
+    (tie.spec (λ c κs. search needs) (λ c κs. search needs) (λ c. was-refused (c .before .before .before .args .o) _ _ _ _ (c .before .answer-number .ensures) (c .before .before .value-number .ensures) (c .if1 .taken)) (λ c κs. search needs) (λ c. was-kept (c .before .before .before .before .before .before .before .args .o) _ _ _ _ (c .before .before .before .before .before .answer-number .ensures) (c .before .before .before .before .before .before .value-number .ensures) (c .before .before .before .before .if1 .left) _ _ (c .store .ensures)))

@@ -7,17 +7,5 @@ use Rattle.pekdrav.proofs.calls.pekdrav_new.Lts as lts
 use Rattle.engine.proofs.Controller.new.Reads as new-reads
 use Rattle.pekdrav.proofs.held.store.Reads as store-reads
 
--- src/calls.rt:18:9
-new-requires : tie.Need-new-requires
-new-requires c κs = search needs
-
--- src/calls.rt:19:5
-store-requires : tie.Need-store-requires
-store-requires c κs = search needs
-
--- src/calls.rt:14:1
-returns : tie.Need-returns
-returns c = fresh _ _ _ (c .before .before .before .new .ensures) (c .store .ensures)
-
 pub pekdrav-new-spec : {M : Type 1} → statement M
-pekdrav-new-spec = tie.close (tie.spec new-requires store-requires returns)
+pekdrav-new-spec = tie.close (tie.spec (λ c κs. search needs) (λ c κs. search needs) (λ c. fresh _ _ _ (c .before .before .before .new .ensures) (c .store .ensures)))

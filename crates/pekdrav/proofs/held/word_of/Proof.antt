@@ -6,25 +6,5 @@ use Rattle.pekdrav.proofs.held.word_of.Reads as reads
 use Rattle.pekdrav.proofs.held.word_of.Lts as lts
 use Rattle.pekdrav.proofs.held.wide.Reads as wide-reads
 
--- src/held.rt:103:5
-wide-requires : tie.Need-wide-requires
-wide-requires c κs = search needs
-
--- src/held.rt:103:22
-wide-requires-2 : tie.Need-wide-requires-2
-wide-requires-2 c κs = search needs
-
--- src/held.rt:103:22
-mul-result : tie.Need-mul-result
-mul-result c = search needs
-
--- src/held.rt:103:5
-add-result : tie.Need-add-result
-add-result c = search needs
-
--- src/held.rt:100:1
-returns : tie.Need-returns
-returns c = word-back _ _ _ (c .before .wide .ensures .0) (c .before .wide .ensures .1) (c .wide2 .ensures .0) (c .wide2 .ensures .1)
-
 pub word-of-spec : {M : Type 1} → statement M
-word-of-spec = tie.close (tie.spec wide-requires wide-requires-2 mul-result add-result returns)
+word-of-spec = tie.close (tie.spec (λ c κs. search needs) (λ c κs. search needs) (λ c. search needs) (λ c. search needs) (λ c. word-back _ _ _ (c .before .wide .ensures .0) (c .before .wide .ensures .1) (c .wide2 .ensures .0) (c .wide2 .ensures .1)))
