@@ -42,6 +42,16 @@ six W Left e = absurd (omega arith)
 six W Quiet e = absurd (omega arith)
 six W (Refused r) e = tt
 
+pub is-six : (W : List ℕ) (a : Answer) → IsRefused (answerIs W a) → answerNumber a ≡ 6
+unfolding answerNumber answerIs
+is-six W Taken t = absurd t
+is-six W (Signed n) t = absurd t
+is-six W (Entered v) t = absurd t
+is-six W (Delivered m) t = absurd t
+is-six W Left t = absurd t
+is-six W Quiet t = absurd t
+is-six W (Refused r) t = refl
+
 -- after it the controller is as it was
 pub as-before : {W : List ℕ} {c : Controller} {o : controller.Outcome} {p : Option Stmt} {r : Outcome} {W′ : List ℕ} → Meets W c o p r W′ → answerNumber (r .answer) ≡ 6 → r .controller ≡ c
 as-before {W} {c} {o} {p} {r} {W′} m e = m .refused (subst IsRefused (m .answer) (six W′ (r .answer) e)) .0

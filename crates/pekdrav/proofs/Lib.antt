@@ -4,3 +4,4 @@ pub mod Told
 pub mod Placing
 pub mod Loading
 pub mod Hosting
+pub mod Calling

@@ -7,6 +7,7 @@ use Prim.Native.Nat.{ℕ, _+_, _*_}
 use Rattle.protocol.specs.Statement.{Stmt}
 use Rattle.protocol.specs.Controller as controller
 use Rattle.protocol.specs.Call as call
+use Rattle.protocol.specs.Run.{Call}
 use Rattle.protocol.specs.Turn.{turn}
 use Rattle.protocol.specs.Pool.{hasRoom}
 use Rattle.engine.specs.declared.Controller.{Controller}
@@ -15,6 +16,7 @@ use Rattle.engine.specs.declared.Answer.{Answer}
 use Rattle.engine.specs.declared.Answer.the-variants.{Taken, Signed, Entered, Delivered, Left, Quiet, Refused}
 use Rattle.engine.specs.Meaning.{controllerIs, recordIs, poolIs, answerIs}
 use Rattle.engine.specs.Promise.{Meets, Calls, Turns, Adds}
+use Rattle.engine.specs.Runs.{Called}
 use Rattle.pekdrav.specs.Statement.{IsStatement}
 use Rattle.pekdrav.specs.Memory.{controllerAt}
 
@@ -104,3 +106,11 @@ NoneOn W W′ c r = Meets W c (noStatement (controllerIs c) (recordIs W c)) none
 pub record AddsText (S W W′ F I : List ℕ) (answer : ℕ) (F′ I′ value : List ℕ) : Type 0 where
   pub statement : (s : IsStatement S) → Hosted (AddOn W W′ (s .statement) (controllerAt F I)) F I answer F′ I′ value
   pub none : (IsStatement S → ⊥) → Hosted (NoneOn W W′ (controllerAt F I)) F I answer F′ I′ value
+
+-- ---- calls of a run
+
+-- The call k of a run took place over the pool W, on the controller of F and I, and left W′, F′ and I′: with this a host's calls make up an `EngineRun` of
+-- crates/engine/specs/Runs.antt, whose outcome before an event is the last answer and the controller of the memory.
+pub record CalledAt (W F I : List ℕ) (k : Call) (W′ F′ I′ : List ℕ) : Type 0 where
+  pub answer : Answer
+  pub called : Called W (controllerAt F I) k (record { answer = answer; controller = controllerAt F′ I′ }) W′
