@@ -1,16 +1,20 @@
--- What is promised of putting a statement into a pool by its text.
+-- What is promised of a pool whose statements go in and come out by their text.
 -- Assumes nothing.
 use Prim.Native.Nat.{ℕ}
 use mathlib.Core.Path.{_≡_}
-use mathlib.Core.List.{List}
+use mathlib.Core.Bool.{Bool, cond, _&&_}
+use mathlib.Core.List.{List, []}
 use Rattle.pool.specs.declared.Placed.{Placed}
 use Rattle.pool.specs.declared.Placed.the-variants.{At, Full}
+use Rattle.pool.specs.Pool.{stmtAt, poolLen, poolOf}
 use Rattle.pool.specs.Changes.{Appended}
 use Rattle.statements.specs.declared.Statement.{Statement}
 use Rattle.statements.specs.Meaning.{stmtOf}
 use Rattle.statements.specs.Text.{text}
 use Rattle.protocol.specs.Statement.{fieldRules}
-use lib.Dec.{T}
+use lib.Dec.{T, ltb, leb}
+use lib.ListN.{length, set}
+use lib.Seq.{sets}
 use Rattle.pekdrav.specs.Statement.{IsStatement}
 
 -- The number that is answered for where a statement went.
@@ -31,3 +35,17 @@ pub record Went (S W W′ : List ℕ) (r : ℕ) : Type 0 where
 pub record Put (S W : List ℕ) (r : ℕ) (W′ : List ℕ) : Type 0 where
   pub went : IsStatement S → Went S W W′ r
   pub refused : (IsStatement S → ⊥) → (r ≡ 513) × (W′ ≡ W)
+
+-- The pool is empty now: the number of its statements was set to 0.
+pub record Cleared (W W′ : List ℕ) : Type 0 where
+  pub is : W′ ≡ set W 16384 0
+  pub empty : poolOf W′ ≡ []
+
+-- The pool has a statement n, and `out` has room for its text.
+unfoldable pub textFits : List ℕ → ℕ → List ℕ → Bool
+textFits W n out = ltb n (poolLen W) && leb (length (text (stmtAt W n))) (length out)
+
+-- r was answered for the text of statement n over `out`, which holds `after` then: the text's length, with the text from the start on, or 0 and nothing.
+pub record Texted (W : List ℕ) (n : ℕ) (out : List ℕ) (r : ℕ) (after : List ℕ) : Type 0 where
+  pub count : r ≡ cond (textFits W n out) (length (text (stmtAt W n))) 0
+  pub is : after ≡ cond (textFits W n out) (sets out 0 (text (stmtAt W n))) out

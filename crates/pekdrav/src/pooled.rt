@@ -1,6 +1,7 @@
-// A statement that is put into a pool by its text.
+// A pool whose statements go in and come out by their text.
 ghost use mathlib.Core.Path.{_≡_};
-ghost use Rattle.pekdrav.specs.Pooled.{placeNumber, Put};
+ghost use lib.ListN.{length};
+ghost use Rattle.pekdrav.specs.Pooled.{placeNumber, Put, Cleared, Texted};
 use pool::POOL_WORDS;
 use pool::Placed;
 
@@ -29,4 +30,34 @@ pub extern "C" fn pekdrav_append(words: &mut [u64; POOL_WORDS], line: &[u8]) -> 
     }
     let p = pool::append(words, st);
     place_number(p)
+}
+
+// How many words the memory has: a proof that a word was written asks for it.
+fn size(words: &[u64; POOL_WORDS]) -> usize
+    ensures { λ r. ⌜ length (now (words .entry)) ≡ 16385 ⌝ }
+{
+    let s = &words[..];
+    s.len()
+}
+
+// An empty pool.
+#[no_mangle]
+pub extern "C" fn pekdrav_clear(words: &mut [u64; POOL_WORDS])
+    ensures { λ _. ⌜ Cleared (now (words .entry)) (now (words .exit)) ⌝ }
+{
+    size(words);
+    words[16384] = 0;
+}
+
+// Writes the text of statement n from the start of `out`, and answers its length; 0, and `out` as it was, where the pool has no such statement
+// or `out` is too short.
+#[no_mangle]
+pub extern "C" fn pekdrav_text(words: &[u64; POOL_WORDS], n: u16, out: &mut [u8]) -> usize
+    ensures { λ r. ⌜ Texted (now (words .entry)) n (now (out .entry)) r (now (out .exit)) ⌝ }
+{
+    if n as usize >= pool::pool_len(words) {
+        return 0;
+    }
+    let st = pool::get(words, n);
+    statements::write(st, out)
 }

@@ -1,0 +1,82 @@
+-- What the memory of a controller means. It is 32 words, and the 512 pool numbers of the controller's record.
+-- Word 0 says whether it is set up, 1 is its number, 2 its initial view, 3 the sender, 4 its binding (0 unbound, 1 bound, else barred) and 5 the bound payload, 6 to 9
+-- whether it delivered, whether join, leave and send were requested, 10 is the payload to send, 11 the length of its record and 12 how many views it entered; words
+-- 16 to 31 are those views; the others mean nothing.
+-- Every memory means some controller: each word is read as the value that it can stand for, and nothing has to hold of it.
+-- Assumes nothing.
+use mathlib.Core.Path.{_≡_}
+use mathlib.Core.Bool.{Bool, not}
+use mathlib.Core.List.{List}
+use Prim.Native.Nat.{ℕ, _+_, _*_, _/_, _%_}
+use lib.Dec.{eqb}
+use lib.ListN.{getD, length}
+use Rattle.protocol.specs.Lists.{if_then_else_}
+use Rattle.views.specs.Table.{table}
+use Rattle.views.specs.declared.View.{View}
+use Rattle.views.specs.declared.History.{History}
+use Rattle.statements.specs.declared.Binding.{Binding}
+use Rattle.statements.specs.declared.Binding.the-variants.{Unbound, Bound, Barred}
+use Rattle.engine.specs.declared.Send.{Send}
+use Rattle.engine.specs.declared.Send.the-variants.{Nothing, Payload}
+use Rattle.engine.specs.declared.Controller.{Controller}
+
+abbrev pub noView : View
+noView = record { joined = 0; left = 0 }
+
+-- The view of a word: 16 bits of who joined, and above them 16 of who left.
+abbrev pub viewIn : ℕ → View
+viewIn w = record { joined = w % 65536; left = w / 65536 % 65536 }
+
+-- The word of a view.
+abbrev pub wordOf : View → ℕ
+wordOf v = v .joined + v .left * 65536
+
+-- Any word but 0 says yes.
+abbrev pub says : ℕ → Bool
+says w = not (eqb w 0)
+
+abbrev pub bindingIn : ℕ → ℕ → Binding
+bindingIn n m = if eqb n 0 then Unbound else if eqb n 1 then Bound m else Barred
+
+abbrev pub sendIn : ℕ → ℕ → Send
+sendIn n m = if eqb n 0 then Nothing else Payload m
+
+-- The views that were entered.
+unfoldable pub enteredIn : List ℕ → History
+enteredIn F = record { views = table 16 (λ i. viewIn (getD F (16 + i) 0)); len = getD F 12 0 }
+
+-- The controller that the words F and the numbers I mean.
+unfoldable pub controllerAt : List ℕ → List ℕ → Controller
+controllerAt F I = record {
+  ready = says (getD F 0 0);
+  number = getD F 1 0 % 256;
+  init = viewIn (getD F 2 0);
+  sender = getD F 3 0 % 256;
+  entered = enteredIn F;
+  binding = bindingIn (getD F 4 0) (getD F 5 0);
+  delivered = says (getD F 6 0);
+  joining = says (getD F 7 0);
+  leaving = says (getD F 8 0);
+  sending = sendIn (getD F 9 0) (getD F 10 0);
+  statements = record { ids = I; len = getD F 11 0 };
+}
+
+-- ---- what is stored
+
+abbrev pub bindingPayload : Binding → ℕ
+bindingPayload Unbound = 0
+bindingPayload (Bound m) = m
+bindingPayload Barred = 0
+
+abbrev pub sendNumber : Send → ℕ
+sendNumber Nothing = 0
+sendNumber (Payload m) = 1
+
+abbrev pub sendPayload : Send → ℕ
+sendPayload Nothing = 0
+sendPayload (Payload m) = m
+
+-- r has the words of sixteen views, from word 16 on.
+pub record Worded (views : List View) (r : List ℕ) : Type 0 where
+  pub long : length r ≡ 32
+  pub back : table 16 (λ i. viewIn (getD r (16 + i) 0)) ≡ views
