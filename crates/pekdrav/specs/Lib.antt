@@ -3,3 +3,5 @@ pub mod Statement
 pub mod Scan
 pub mod Pooled
 pub mod Evidence
+pub mod Screen
+pub mod ScreenParts
