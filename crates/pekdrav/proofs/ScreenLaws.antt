@@ -21,7 +21,7 @@ use Rattle.protocol.specs.Evidence.{wished, candidates, greatest, certificates,
 use Rattle.protocol.proofs.Histories.{sealed-short}
 use Rattle.protocol.proofs.Asked.{greatest-holds}
 use Rattle.views.specs.Table.{table}
-use Rattle.views.specs.View.{viewOf, ring}
+use Rattle.views.specs.View.{viewOf}
 use Rattle.views.proofs.Tables.{table-length}
 use Rattle.statements.specs.Text.{parted, viewText}
 use Rattle.statements.specs.Parts.{tailText}
@@ -30,8 +30,8 @@ use Rattle.statements.proofs.Views.{tail-append, tail-one, tail-long}
 use Rattle.evidence.specs.declared.Evidence.{Evidence}
 use Rattle.evidence.specs.Slots.{viewsOf}
 use Rattle.evidence.specs.Evidence.{EvidenceOf}
-use Rattle.pekdrav.specs.Screen.{wishedWord, candidatesWord, greatestWord, certificateWord, storedWord, keptWord, line, viewsLine, wishedLine, conflictLine, candidatesLine, certificateLine, shownText, Shows}
-use Rattle.pekdrav.specs.ScreenParts.{Wrote, certifiedLine, linesOf, Few}
+use Rattle.pekdrav.specs.Screen.{wishedWord, candidatesWord, greatestWord, certificateWord, storedWord, keptWord, line, viewsLine, wishedLine, conflictLine, candidatesLine, certificateLine, agreedText, shownText, Shows}
+use Rattle.pekdrav.specs.ScreenParts.{Wrote, certifiedLine, agreedLines, linesOf, Few}
 
 -- ---- one byte more of a text
 pub byte-next : (out₀ out t : List ℕ) (at i : ℕ) → i < length t → out ≡ sets out₀ at (take i t) → set out (at + i) (getD t i 0) ≡ sets out₀ at (take (i + 1) t)
@@ -110,11 +110,12 @@ module _ {out₀ out₁ out₂ out₃ : List ℕ} {at a b c : ℕ} where
   pub wished-wrote : (v : View) → Wrote out₀ at wishedWord a out₁ → Wrote out₁ a (44 ∷ viewText v) b out₂ → Wrote out₂ b (10 ∷ []) c out₃ → Wrote out₀ at (wishedLine v) c out₃
   wished-wrote v x y z = subst (λ t. Wrote out₀ at t c out₃) (sym (wished-runs v)) (both x (both y z))
 
-  pub stored-wrote : (m : ℕ) → Wrote out₀ at certificateWord a out₁ → Wrote out₁ a (44 ∷ decText m) b out₂ → Wrote out₂ b ((44 ∷ storedWord) ++ (10 ∷ [])) c out₃ → Wrote out₀ at (certifiedLine true m true) c out₃
-  stored-wrote m x y z = subst (λ t. Wrote out₀ at t c out₃) (sym (stored-runs m)) (both x (both y z))
+  module _ (certified : Bool) (m : ℕ) (stored : Bool) (p : certified ≡ true) where
+    pub stored-wrote : stored ≡ true → Wrote out₀ at certificateWord a out₁ → Wrote out₁ a (44 ∷ decText m) b out₂ → Wrote out₂ b ((44 ∷ storedWord) ++ (10 ∷ [])) c out₃ → Wrote out₀ at (certifiedLine certified m stored) c out₃
+    stored-wrote q x y z = subst (λ t. Wrote out₀ at t c out₃) (sym (ap₂ (λ u v. certifiedLine u m v) p q ∙ stored-runs m)) (both x (both y z))
 
-  pub kept-wrote : (m : ℕ) → Wrote out₀ at certificateWord a out₁ → Wrote out₁ a (44 ∷ decText m) b out₂ → Wrote out₂ b ((44 ∷ keptWord) ++ (10 ∷ [])) c out₃ → Wrote out₀ at (certifiedLine true m false) c out₃
-  kept-wrote m x y z = subst (λ t. Wrote out₀ at t c out₃) (sym (kept-runs m)) (both x (both y z))
+    pub kept-wrote : stored ≡ false → Wrote out₀ at certificateWord a out₁ → Wrote out₁ a (44 ∷ decText m) b out₂ → Wrote out₂ b ((44 ∷ keptWord) ++ (10 ∷ [])) c out₃ → Wrote out₀ at (certifiedLine certified m stored) c out₃
+    kept-wrote q x y z = subst (λ t. Wrote out₀ at t c out₃) (sym (ap₂ (λ u v. certifiedLine u m v) p q ∙ kept-runs m)) (both x (both y z))
 
 pub views-wrote : {out₀ out₁ out₂ : List ℕ} {at a b : ℕ} (name ws : List ℕ) (n : ℕ)
     → Wrote out₀ at name a out₁ → Wrote out₁ a ((44 ∷ decText n) ++ (tailText (viewsOf ws n) ++ (10 ∷ []))) b out₂ → Wrote out₀ at (viewsLine name (viewsOf ws n)) b out₂
@@ -166,7 +167,7 @@ module _ {out₀ out₁ out₂ : List ℕ} {a b : ℕ} (e : Evidence) (w : Wrote
   pub lines-wrote : {out₃ out₄ : List ℕ} {c d : ℕ} → e .conflict ≡ false → Few e → e .payload < 18446744073709551616
       → Wrote out₁ a (candidatesLine (e .many) (viewsOf (e .candidates) (e .count))) b out₂ → Wrote out₂ b (viewsLine greatestWord (viewsOf (e .greatest) (e .length))) c out₃
       → Wrote out₃ c (certifiedLine (e .certified) (e .payload) (e .stored)) d out₄ → Wrote out₀ 0 (linesOf e) d out₄ × (d ≤ 512)
-  unfolding linesOf
+  unfolding linesOf agreedLines
   lines-wrote p f h x y z = (
     rw p (both w (both x (both y z))),
     omega (
@@ -189,12 +190,6 @@ certified-same true m stored f e = ap (λ b. line (certificateWord ∷ decText m
 certified-same false m stored f e = refl
 
 module _ (R : Ring) (sender : ℕ) (X : List Stmt) (e : Evidence) (of : EvidenceOf R sender X e) where
-  abbrev held : List ℕ
-  held = candidatesLine (e .many) (viewsOf (e .candidates) (e .count)) ++ (viewsLine greatestWord (viewsOf (e .greatest) (e .length)) ++ certifiedLine (e .certified) (e .payload) (e .stored))
-
-  abbrev shown : List ℕ
-  shown = candidatesLine (ltb 16 (length (candidates R X))) (candidates R X) ++ (viewsLine greatestWord (greatest R X) ++ certificateLine (first (certificates R sender X)) (isStored R X))
-
   module _ (p : e .conflict ≡ false) where
     candidates-shown : (many : Bool) → e .many ≡ many → candidatesLine (e .many) (viewsOf (e .candidates) (e .count)) ≡ candidatesLine (ltb 16 (length (candidates R X))) (candidates R X)
     unfolding candidatesLine
@@ -205,12 +200,13 @@ module _ (R : Ring) (sender : ℕ) (X : List Stmt) (e : Evidence) (of : Evidence
     unfolding certifiedLine
     certificate-shown = certified-same (e .certified) (e .payload) (e .stored) (isStored R X) (of .stored p) ∙ ap (λ o. certificateLine o (isStored R X)) (of .certificate p)
 
-    settled-shown : held ≡ shown
-    settled-shown = ap₂ _++_ (candidates-shown (e .many) refl) (ap₂ _++_ (ap (viewsLine greatestWord) (of .greatest p)) certificate-shown)
+    agreed-shown : agreedLines e ≡ agreedText R sender X
+    unfolding agreedLines agreedText
+    agreed-shown = ap₂ _++_ (candidates-shown (e .many) refl) (ap₂ _++_ (ap (viewsLine greatestWord) (of .greatest p)) certificate-shown)
 
-  rest-shown : (conflict : Bool) → e .conflict ≡ conflict → (if e .conflict then conflictLine else held) ≡ (if isConflict R sender X then conflictLine else shown)
-  rest-shown true p = ap (λ b. if b then conflictLine else held) p ∙ sym (ap (λ b. if b then conflictLine else shown) (sym (of .conflict) ∙ p))
-  rest-shown false p = ap (λ b. if b then conflictLine else held) p ∙ settled-shown p ∙ sym (ap (λ b. if b then conflictLine else shown) (sym (of .conflict) ∙ p))
+  rest-shown : (conflict : Bool) → e .conflict ≡ conflict → (if e .conflict then conflictLine else agreedLines e) ≡ (if isConflict R sender X then conflictLine else agreedText R sender X)
+  rest-shown true p = ap (λ b. if b then conflictLine else agreedLines e) p ∙ sym (ap (λ b. if b then conflictLine else agreedText R sender X) (sym (of .conflict) ∙ p))
+  rest-shown false p = ap (λ b. if b then conflictLine else agreedLines e) p ∙ agreed-shown p ∙ sym (ap (λ b. if b then conflictLine else agreedText R sender X) (sym (of .conflict) ∙ p))
 
   -- THE LINES OF THE EVIDENCE ARE THE TEXT
   pub lines-shown : linesOf e ≡ shownText R sender X

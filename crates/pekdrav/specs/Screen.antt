@@ -53,9 +53,11 @@ line fields = parted fields ++ (10 ∷ [])
 unfoldable pub viewsLine : List ℕ → List View → List ℕ
 viewsLine name views = line (name ∷ decText (length views) ∷ map viewText views)
 
+-- The wished view.
 unfoldable pub wishedLine : View → List ℕ
 wishedLine v = line (wishedWord ∷ viewText v ∷ [])
 
+-- That there is a conflict.
 unfoldable pub conflictLine : List ℕ
 conflictLine = line (conflictWord ∷ [])
 
@@ -63,21 +65,21 @@ conflictLine = line (conflictWord ∷ [])
 unfoldable pub candidatesLine : Bool → List View → List ℕ
 candidatesLine many views = if many then line (candidatesWord ∷ manyWord ∷ []) else viewsLine candidatesWord views
 
--- The payload that has a certificate, and whether it is stored or only kept.
+-- The payload that has a certificate, and whether it is stored or only kept; or that there is none.
 unfoldable pub certificateLine : Option ℕ → (ℕ → Bool) → List ℕ
-certificateLine none isStored = line (certificateWord ∷ noneWord ∷ [])
-certificateLine (some m) isStored = line (certificateWord ∷ decText m ∷ (if isStored m then storedWord else keptWord) ∷ [])
+certificateLine none stored = line (certificateWord ∷ noneWord ∷ [])
+certificateLine (some m) stored = line (certificateWord ∷ decText m ∷ (if stored m then storedWord else keptWord) ∷ [])
 
 -- ---- the whole
 
+-- Where there is no conflict: the candidates, the greatest history and the certificate.
+unfoldable pub agreedText : Ring → ℕ → List Stmt → List ℕ
+agreedText R sender X =
+    candidatesLine (ltb 16 (length (candidates R X))) (candidates R X) ++ (viewsLine greatestWord (greatest R X) ++ certificateLine (first (certificates R sender X)) (isStored R X))
+
 -- What X shows in the ring R with this sender. After a conflict nothing but the wished view is told.
 unfoldable pub shownText : Ring → ℕ → List Stmt → List ℕ
-shownText R sender X =
-    wishedLine (wished R X)
-    ++ (if isConflict R sender X
-        then conflictLine
-        else candidatesLine (ltb 16 (length (candidates R X))) (candidates R X)
-            ++ (viewsLine greatestWord (greatest R X) ++ certificateLine (first (certificates R sender X)) (isStored R X)))
+shownText R sender X = wishedLine (wished R X) ++ (if isConflict R sender X then conflictLine else agreedText R sender X)
 
 -- n was answered for the memory out, which holds `after` then: its text stands from the start if there are 512 bytes, which are enough, and what is behind it is
 -- as before; otherwise n is 0 and all is as before.

@@ -5,31 +5,19 @@ use Rattle.pekdrav.proofs.ScreenLaws.{words-long, count-most, both, num
 use Rattle.pekdrav.proofs.screen.put_views.Statement.{statement}
 use Rattle.pekdrav.proofs.screen.put_views.Tie as tie
 
-put-number-requires : tie.Need-put-number-requires
-put-number-requires c κs = omega (arith, c .before .before .pre .0, c .before .before .pre .1, count-most (c .before .before .args .n) (c .before .before .pre .0))
-
 put-words-requires : tie.Need-put-words-requires
 put-words-requires c κs = (c .before .before .before .before .before .before .pre .0, omega (arith, c .before .before .before .before .before .before .pre .0, c .before .before .before .before .before .before .pre .1, count-most (c .before .before .before .before .before .before .args .n) (c .before .before .before .before .before .before .pre .0), c .before .before .before .put-number .ensures .0, c .before .before .before .put-number .kept .0))
 
-slice-aggregate-put-text : tie.Need-slice-aggregate-put-text
-slice-aggregate-put-text c = search needs
-
 put-text-requires : tie.Need-put-text-requires
 put-text-requires c κs = omega (arith, c .before .before .before .before .before .before .before .before .before .before .before .pre .0, c .before .before .before .before .before .before .before .before .before .before .before .pre .1, count-most (c .before .before .before .before .before .before .before .before .before .before .before .args .n) (c .before .before .before .before .before .before .before .before .before .before .before .pre .0), c .before .before .before .before .before .before .before .before .put-number .ensures .0, c .before .before .before .before .before .before .before .before .put-number .kept .0, c .before .before .before .before .put-words .ensures .next, c .before .before .before .before .put-words .kept .0, words-long (c .before .before .before .before .before .before .before .before .before .before .before .args .words) (c .before .before .before .before .before .before .before .before .before .before .before .args .n))
-
-same-length : tie.Need-same-length
-same-length c = c .before .before .put-text .kept .0 ∙ c .before .before .before .before .before .before .before .put-words .kept .0 ∙ c .before .before .before .before .before .before .before .before .before .before .before .put-number .kept .0
-
-returns : tie.Need-returns
-returns c = both (number-wrote _ _ _ _ _ (c .before .before .before .before .before .before .before .before .before .before .before .put-number .ensures)) (both (c .before .before .before .before .before .before .before .put-words .ensures) (c .before .before .put-text .ensures))
 
 pub put-views-spec : {M : Type 1} → statement M
 put-views-spec =
     tie.close
     (tie.spec
-    put-number-requires
+    (λ c κs. omega (arith, c .before .before .pre .0, c .before .before .pre .1, count-most (c .before .before .args .n) (c .before .before .pre .0)))
     put-words-requires
-    slice-aggregate-put-text
+    (λ c. search needs)
     put-text-requires
-    same-length
-    returns)
+    (λ c. c .before .before .put-text .kept .0 ∙ c .before .before .before .before .before .before .before .put-words .kept .0 ∙ c .before .before .before .before .before .before .before .before .before .before .before .put-number .kept .0)
+    (λ c. both (number-wrote _ _ _ _ _ (c .before .before .before .before .before .before .before .before .before .before .before .put-number .ensures)) (both (c .before .before .before .before .before .before .before .put-words .ensures) (c .before .before .put-text .ensures))))
