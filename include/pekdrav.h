@@ -24,6 +24,8 @@ extern "C" {
 #define PEKDRAV_TEXT 256
 /* The words that evidence is told in. */
 #define PEKDRAV_TOLD 40
+/* No text of what a record shows is longer. */
+#define PEKDRAV_SHOWN 512
 /* No schedule has longer rows. */
 #define PEKDRAV_ROWS 2621504
 
@@ -77,6 +79,11 @@ uint32_t pekdrav_signers(const uint64_t words[PEKDRAV_POOL_WORDS], const uint16_
  * stored; the candidates stand from word 8 on, the greatest history from 24 on. After a conflict only the wished view is told. */
 void pekdrav_evidence(const uint64_t words[PEKDRAV_POOL_WORDS], const uint16_t ids[PEKDRAV_RECORD], size_t len, uint32_t init, uint8_t sender,
                       uint64_t out[PEKDRAV_TOLD]);
+/* Writes what that record shows in lines, for a service screen, and answers the text's length; 0, with `out` as it was, if `out` has fewer than
+ * PEKDRAV_SHOWN bytes. The lines: `wished,VIEW`; then `conflict` and nothing more, or `candidates,COUNT,VIEW,..` (`candidates,many` for more than sixteen),
+ * `greatest,COUNT,VIEW,..` and `certificate,PAYLOAD,stored` (`kept` if it is not stored, `certificate,none` if no payload has one). */
+size_t pekdrav_shown(const uint64_t words[PEKDRAV_POOL_WORDS], const uint16_t ids[PEKDRAV_RECORD], size_t len, uint32_t init, uint8_t sender,
+                     uint8_t *out, size_t out_len);
 
 #ifdef __cplusplus
 }

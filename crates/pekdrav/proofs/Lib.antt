@@ -5,3 +5,4 @@ pub mod Placing
 pub mod Loading
 pub mod Hosting
 pub mod Calling
+pub mod ScreenLaws

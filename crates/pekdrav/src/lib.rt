@@ -4,5 +4,6 @@ mod calls;
 mod held;
 mod pooled;
 mod scan;
+mod screen;
 mod shown;
 mod statement;

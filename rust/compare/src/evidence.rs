@@ -1,6 +1,6 @@
 //! What a record shows, compared.
 
-use pekdrav::{append, tell, told, Evidence, Shown, POOL_WORDS, RECORD, TOLD};
+use pekdrav::{append, shown, tell, told, Evidence, Shown, POOL_WORDS, RECORD, TOLD};
 use reference::{Record, View};
 
 use crate::records::Case;
@@ -47,6 +47,30 @@ pub fn theirs(case: &Case) -> Evidence {
         certificate: evidence.certificate().map(|payload| (payload, evidence.stored.contains(&payload))),
     };
     Evidence { wished: word(evidence.wished), shown: (!evidence.conflict()).then(shown) }
+}
+
+/// The text of a service screen, from the evidence.
+fn text(evidence: &Evidence) -> String {
+    let view = |word: u32| format!("{:04x}{:04x}", word % 65536, word / 65536);
+    let list = |words: &[u32]| std::iter::once(words.len().to_string()).chain(words.iter().map(|&word| view(word))).collect::<Vec<_>>().join(",");
+    let wished = format!("wished,{}\n", view(evidence.wished));
+    let Some(shown) = &evidence.shown else { return wished + "conflict\n" };
+    let candidates = shown.candidates.as_ref().map_or("many".to_string(), |views| list(views));
+    let certificate = match shown.certificate {
+        None => "none".to_string(),
+        Some((payload, true)) => format!("{payload},stored"),
+        Some((payload, false)) => format!("{payload},kept"),
+    };
+    format!("{wished}candidates,{candidates}\ngreatest,{}\ncertificate,{certificate}\n", list(&shown.greatest))
+}
+
+/// Compares the text of a service screen with one made from the reference's evidence.
+fn compare_text(case: &Case, lent: &Lent, theirs: &Evidence) -> Result<(), String> {
+    let (mine, theirs) = (shown(&lent.words, &lent.ids, lent.len, word(case.initial), case.sender), text(theirs));
+    if mine == theirs {
+        return Ok(());
+    }
+    Err(format!("initial {} sender {}, a record of {}\nproved:\n{mine}reference:\n{theirs}", case.initial, case.sender, lent.len))
 }
 
 /// What the compared records showed.
@@ -108,13 +132,15 @@ fn shrink(case: &Case) -> Case {
 
 pub fn compare(case: &Case, tally: &mut Tally) -> Result<(), String> {
     assert!(case.statements.len() <= Record::LIMIT, "a record has at most 512 statements");
-    let (mine_now, theirs_now) = (mine(case, &lend(case)?), theirs(case));
+    let lent = lend(case)?;
+    let (mine_now, theirs_now) = (mine(case, &lent), theirs(case));
     if mine_now != theirs_now {
         let least = shrink(case);
         let lines: Vec<String> = least.statements.iter().map(|s| String::from_utf8_lossy(&s.write()).into_owned()).collect();
         let (one, other) = (mine(&least, &lend(&least)?), theirs(&least));
         return Err(format!("initial {} sender {}\n{}\nproved: {one:x?}\nreference: {other:x?}", least.initial, least.sender, lines.join("\n")));
     }
+    compare_text(case, &lent, &theirs_now)?;
     tally.add(case, &theirs_now);
     Ok(())
 }

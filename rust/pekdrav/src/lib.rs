@@ -16,8 +16,10 @@ pub const RECORD: usize = 512;
 pub const TOLD: usize = 40;
 
 mod controller;
+mod screen;
 
 pub use controller::{Answer, Binding, Controller, Pool};
+pub use screen::shown;
 
 mod exported {
     // A slice is a pointer and then a length, an array a pointer. Nothing checks these lines against the Rattle source.

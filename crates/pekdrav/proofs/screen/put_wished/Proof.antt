@@ -1,0 +1,20 @@
+use borrow.Author.Needs.{needs}
+use Rattle.pekdrav.proofs.ScreenLaws.{view-wrote, wished-wrote}
+use Rattle.pekdrav.proofs.screen.put_wished.Statement.{statement}
+use Rattle.pekdrav.proofs.screen.put_wished.Tie as tie
+
+returns : tie.Need-returns
+returns c = wished-wrote _ (c .before .before .before .before .before .before .before .before .before .before .before .before .put-text .ensures) (view-wrote _ _ _ _ _ _ (c .before .before .before .before .before .before .before .before .before .of-word .ensures) (c .before .before .before .before .before .before .before .put-view .ensures)) (c .before .before .put-text2 .ensures)
+
+pub put-wished-spec : {M : Type 1} → statement M
+put-wished-spec =
+    tie.close
+    (tie.spec
+    (λ c. search needs)
+    (λ c κs. search needs)
+    (λ c κs. search needs)
+    (λ c κs. search needs)
+    (λ c. search needs)
+    (λ c κs. search needs)
+    (λ c. search needs)
+    returns)

@@ -1,0 +1,36 @@
+-- What the functions that write the text of a service screen promise each other: the same lines, from the evidence as it is held.
+-- Assumes nothing.
+use Prim.Native.Nat.{ℕ, _+_, _≤_}
+use mathlib.Core.Path.{_≡_}
+use mathlib.Core.Bool.{Bool, false}
+use mathlib.Core.List.{List, _++_}
+use lib.ListN.{length}
+use lib.Seq.{sets}
+use Rattle.protocol.specs.Lists.{if_then_else_, when}
+use Rattle.views.specs.View.{viewOf}
+use Rattle.evidence.specs.declared.Evidence.{Evidence}
+use Rattle.evidence.specs.Slots.{viewsOf}
+use Rattle.pekdrav.specs.Screen.{wishedLine, conflictLine, candidatesLine, viewsLine, certificateLine, greatestWord}
+
+-- t was written over `out` from `at`, and n is the position after it.
+pub record Wrote (out : List ℕ) (at : ℕ) (t : List ℕ) (n : ℕ) (after : List ℕ) : Type 0 where
+  pub next : n ≡ at + length t
+  pub is : after ≡ sets out at t
+
+-- The certificate's line.
+unfoldable pub certifiedLine : Bool → ℕ → Bool → List ℕ
+certifiedLine certified payload stored = certificateLine (when certified payload) (λ _. stored)
+
+-- The lines of the evidence, without a conflict and in all.
+
+unfoldable pub agreedLines : Evidence → List ℕ
+agreedLines e =
+    candidatesLine (e .many) (viewsOf (e .candidates) (e .count)) ++ (viewsLine greatestWord (viewsOf (e .greatest) (e .length)) ++ certifiedLine (e .certified) (e .payload) (e .stored))
+
+unfoldable pub linesOf : Evidence → List ℕ
+linesOf e = wishedLine (viewOf (e .wished)) ++ (if e .conflict then conflictLine else agreedLines e)
+
+-- No more views are to be written than an array holds.
+pub record Few (e : Evidence) : Type 0 where
+  pub candidates : e .conflict ≡ false → e .many ≡ false → e .count ≤ 16
+  pub greatest : e .conflict ≡ false → e .length ≤ 16
