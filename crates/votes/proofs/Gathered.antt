@@ -31,7 +31,7 @@ no-T e t = rw e at t
 module _ (W ids : List ℕ) where
   -- ---- who signed, where an entry does not have p
 
-  set-keeps : (p : Stmt → Bool) (i seen : ℕ) → i < 512 → p (entry W ids i) ≡ false → IsSet seen (signs p (recordOf W ids i)) → IsSet seen (signs p (recordOf W ids (i + 1)))
+  pub set-keeps : (p : Stmt → Bool) (i seen : ℕ) → i < 512 → p (entry W ids i) ≡ false → IsSet seen (signs p (recordOf W ids i)) → IsSet seen (signs p (recordOf W ids (i + 1)))
   set-keeps p i seen l e s = set-next W ids p i seen (entry W ids i .origin) seen false l s (note-none seen (entry W ids i .origin) false refl) (sym e) refl
 
   set-none : (p : Stmt → Bool) (i : ℕ) → i ≤ 512 → ((j : ℕ) → j < i → p (entry W ids j) ≡ false) → IsSet 0 (signs p (recordOf W ids i))

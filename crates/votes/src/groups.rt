@@ -65,7 +65,19 @@ fn add(
     let o = pool::origin(words, s);
     let head = keys::head_of(words, s);
     let tail = keys::tail_of(words, s);
-    let g = find(words, ids, heads, tails, first, slots, links, n, s, head, tail);
+    let g = find(
+        words,
+        ids,
+        heads,
+        tails,
+        first,
+        slots,
+        links,
+        n,
+        s,
+        head,
+        tail,
+    );
     if g < n {
         let known = seen[g];
         seen[g] = views::note(known, true, o);
@@ -122,5 +134,15 @@ pub fn gather(
     let mut links = [0u16; 512];
     lengths::of_u16(first);
     lengths::of_u32(seen);
-    gather_in(words, ids, len, &mut heads, &mut tails, first, seen, &mut slots, &mut links)
+    gather_in(
+        words,
+        ids,
+        len,
+        &mut heads,
+        &mut tails,
+        first,
+        seen,
+        &mut slots,
+        &mut links,
+    )
 }
