@@ -44,20 +44,18 @@ pub fn head_of(words: &[u64; POOL_WORDS], n: u16) -> u64
     pool::at(words, n) as u64 + pool::kind(words, n) * 4294967296
 }
 
-// What the vote n is for. The view and the payload are both read, so that the choice between them is no branch.
+// What the vote n is for.
 pub fn tail_of(words: &[u64; POOL_WORDS], n: u16) -> u64
     ensures { λ r. ⌜ r ≡ tailOf (stmtAt (now (words .entry)) n) ⌝ }
 {
     let k = pool::kind(words, n);
-    let v = pool::view(words, n) as u64;
-    let p = pool::payload(words, n);
+    if k == 3 {
+        return pool::view(words, n) as u64;
+    }
     if k == 4 {
         return mixed(words, n);
     }
-    if k == 3 {
-        return v;
-    }
-    p
+    pool::payload(words, n)
 }
 
 // Whether i and j, votes with the same words, name the same history where they name one.
