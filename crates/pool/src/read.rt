@@ -16,12 +16,13 @@ pub fn size(words: &[u64; POOL_WORDS]) -> usize
     s.len()
 }
 
-// Where statement n starts.
+// Where statement n starts. It is bounded after the product, since the compiler then reads each field in one step.
 pub fn start(n: u16) -> usize
     ensures { λ r. ⌜ (r ≡ min n 511 * 32) × (r ≤ 16352) ⌝ }
 {
-    if n < 511 {
-        return n as usize * 32;
+    let s = n as usize * 32;
+    if s < 16352 {
+        return s;
     }
     16352
 }

@@ -5,7 +5,6 @@ use mathlib.Core.Logic.{_⊎_, inl, inr}
 use mathlib.Core.Bool.{Bool, true, false}
 use mathlib.Core.List.{List, [], _∷_, _++_}
 use Prim.Native.Nat.{ℕ, _+_, _-_, _*_, _%_, _≤_, _<_}
-use native.Mathlib.Decide.{ℕ-discrete}
 use native.Mathlib.Omega.{arith}
 use native.Mathlib.Numerals.{add-one}
 use lib.Dec.{T, eqb}
@@ -21,7 +20,7 @@ use Rattle.views.specs.View.{viewOf}
 use Rattle.views.proofs.Views.{passes, fails, fits}
 use Rattle.pool.specs.Pool.{stmtAt}
 use Rattle.votes.specs.Votes.{isVote, alike}
-use Rattle.votes.specs.Keys.{wordOf, mixFrom, headOf, tailOf, sameNames}
+use Rattle.votes.specs.Keys.{wordOf, mixFrom, headOf, tailOf, sameNames, slotOf}
 
 -- ---- votes
 
@@ -192,6 +191,9 @@ other-tail a s x y e f d = fails (says-alike a s) (λ al. d (e ∙ tail-same a s
 pub other-head : (a s : Stmt) (x y : ℕ) → x ≡ headOf a → y ≡ headOf s → (x ≡ y → ⊥) → alike a s ≡ false
 other-head a s x y e f d = fails (says-alike a s) (λ al. d (e ∙ head-same al ∙ sym f))
 
+pub other-slot : (a s : Stmt) (x y x′ y′ : ℕ) → x ≡ headOf a → y ≡ headOf s → x′ ≡ tailOf a → y′ ≡ tailOf s → (slotOf x x′ ≡ slotOf y y′ → ⊥) → alike a s ≡ false
+other-slot a s x y x′ y′ e f e′ f′ d = fails (says-alike a s) (λ al. d (ap₂ slotOf (e ∙ head-same al ∙ sym f) (e′ ∙ tail-same a s al (al .vote) ∙ sym f′)))
+
 pub other-names : (a s : Stmt) (b : Bool) → b ≡ sameNames a s → b ≡ false → alike a s ≡ false
 other-names a s b e f = fails (says-alike a s) (λ al. away (sym e ∙ f) (says-names a s .complete (λ k. sym (al .views (sym (al .kind) ∙ k)))))
   where
@@ -201,21 +203,6 @@ other-names a s b e f = fails (says-alike a s) (λ al. away (sym e ∙ f) (says-
 pub same-words : (a s : Stmt) (x y x′ y′ : ℕ) (b : Bool) → Narrow a → Narrow s → T (isVote a) → x ≡ headOf a → y ≡ headOf s → x ≡ y → x′ ≡ tailOf a → y′ ≡ tailOf s → x′ ≡ y′ → b ≡ sameNames a s → b ≡ true → alike a s ≡ true
 same-words a s x y x′ y′ b p q v e f g e′ f′ g′ h t =
     passes (says-alike a s) (words-alike a s p q (says-vote a .sound v) (sym e ∙ g ∙ f) (sym e′ ∙ g′ ∙ f′) (says-names a s .sound (rw (sym h ∙ t) tt)))
-
--- ---- a search from the end
-
--- from g on there is none
-pub record NoneFrom (p : ℕ → Bool) (n g : ℕ) : Type 0 where
-  pub none : (h : ℕ) → g ≤ h → h < n → p h ≡ false
-
-pub none-last : (p : ℕ → Bool) (n : ℕ) → NoneFrom p n n
-none-last p n = record { none = λ h l m. absurd (omega arith) }
-
-pub none-before : {p : ℕ → Bool} {n g : ℕ} → NoneFrom p n g → p (g - 1) ≡ false → NoneFrom p n (g - 1)
-none-before {p} {n} {g} f e = record { none = λ h l m. elim (ℕ-discrete h (g - 1)) [ yes q ↦ rw q e | no d ↦ f .none h (omega arith) m ] }
-
-pub none-at-all : {p : ℕ → Bool} {n g : ℕ} → NoneFrom p n g → g ≡ 0 → (h : ℕ) → h < n → p h ≡ false
-none-at-all f e h l = f .none h (omega arith) l
 
 -- ---- the loop of the mix
 

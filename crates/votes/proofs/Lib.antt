@@ -1,4 +1,5 @@
 pub mod Alike
+pub mod Chains
 pub mod Gathered
 pub mod Picked
 pub mod Quorums

@@ -7,6 +7,7 @@ ghost use Rattle.pool.specs.Pool.{stmtAt, recordOf};
 ghost use Rattle.votes.specs.Votes.{Groups};
 ghost use Rattle.votes.specs.Tables.{low, high};
 ghost use Rattle.votes.specs.Chosen.{choiceBy, agreementBy, Choices, Agreements};
+use crate::lengths;
 use pool::POOL_WORDS;
 
 // Two views in a word.
@@ -72,8 +73,7 @@ pub fn choices(
     requires { ⌜ Groups (now words) (now ids) len (now first) (now seen) n × (viewOf wish ≡ wished (ring init) (recordOf (now words) (now ids) len)) ⌝ }
     ensures { λ r. ⌜ Choices (now (words .entry)) (now (ids .entry)) len init (now (first .entry)) n (now (chosen .exit)) r ⌝ }
 {
-    // What was in the array before does not matter.
-    *chosen = [0u64; 512];
+    lengths::of_u64(chosen);
     let mut c = 0usize;
     let mut g = 0usize;
     while g < n {
@@ -105,9 +105,8 @@ pub fn agreements(
     requires { ⌜ Groups (now words) (now ids) len (now first) (now seen) n ⌝ }
     ensures { λ r. ⌜ Agreements (now (words .entry)) (now (ids .entry)) len init (now (first .entry)) n (now (agreed .exit)) (now (entry .exit)) r ⌝ }
 {
-    // What was in the arrays before does not matter.
-    *agreed = [0u64; 512];
-    *entry = [0u16; 512];
+    lengths::of_u64(agreed);
+    lengths::of_u16(entry);
     let mut a = 0usize;
     let mut g = 0usize;
     while g < n {

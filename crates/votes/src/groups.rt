@@ -1,28 +1,33 @@
-// The votes of a record in groups.
+// The votes of a record in groups, found by the slots of their words.
 ghost use Prim.Native.Nat.{_+_, _<_, _≤_};
 ghost use Rattle.votes.specs.Votes.{Groups};
-ghost use Rattle.votes.specs.Keys.{Key, Keyed, Place, Room, Sofar};
+ghost use Rattle.votes.specs.Keys.{Key, Keyed, Chained, Place, Sofar};
 use crate::keys;
+use crate::lengths;
 use pool::POOL_WORDS;
 
-// The group of statement s, whose words are given, or n. The newest groups come first, since most votes follow others like them.
+// The group of statement s, whose words are given, or n. A slot holds its newest group plus one, and a link leads to the one before it.
 fn find(
     words: &[u64; POOL_WORDS],
     ids: &[u16; 512],
     heads: &[u64; 512],
     tails: &[u64; 512],
     first: &[u16; 512],
+    slots: &[u16; 1024],
+    links: &[u16; 512],
     n: usize,
     s: u16,
     head: u64,
     tail: u64,
 ) -> usize
-    requires { ⌜ (n ≤ 512) × Keyed (now words) (now ids) (now heads) (now tails) (now first) n × Key (now words) s head tail ⌝ }
+    requires { ⌜ (n ≤ 512) × Keyed (now words) (now ids) (now heads) (now tails) (now first) n × Key (now words) s head tail × Chained (now heads) (now tails) (now slots) (now links) n ⌝ }
     ensures { λ r. ⌜ Place (now (words .entry)) (now (ids .entry)) (now (first .entry)) n s r ⌝ }
 {
-    let mut g = n;
-    while g > 0 {
-        g -= 1;
+    let slot = keys::slot_of(head, tail);
+    let mut x = slots[slot] as usize;
+    while x > 0 {
+        let g = x - 1;
+        x = links[g] as usize;
         if tails[g] != tail {
             continue;
         }
@@ -46,10 +51,12 @@ fn add(
     tails: &mut [u64; 512],
     first: &mut [u16; 512],
     seen: &mut [u32; 512],
+    slots: &mut [u16; 1024],
+    links: &mut [u16; 512],
     n: usize,
 ) -> usize
-    requires { ⌜ (i < 512) × Sofar (now words) (now ids) i (now heads) (now tails) (now first) (now seen) n ⌝ }
-    ensures { λ r. ⌜ Sofar (now (words .entry)) (now (ids .entry)) (i + 1) (now (heads .exit)) (now (tails .exit)) (now (first .exit)) (now (seen .exit)) r ⌝ }
+    requires { ⌜ (i < 512) × Sofar (now words) (now ids) i (now heads) (now tails) (now first) (now seen) (now slots) (now links) n ⌝ }
+    ensures { λ r. ⌜ Sofar (now (words .entry)) (now (ids .entry)) (i + 1) (now (heads .exit)) (now (tails .exit)) (now (first .exit)) (now (seen .exit)) (now (slots .exit)) (now (links .exit)) r ⌝ }
 {
     let s = ids[i];
     if !keys::is_vote(words, s) {
@@ -58,7 +65,19 @@ fn add(
     let o = pool::origin(words, s);
     let head = keys::head_of(words, s);
     let tail = keys::tail_of(words, s);
-    let g = find(words, ids, heads, tails, first, n, s, head, tail);
+    let g = find(
+        words,
+        ids,
+        heads,
+        tails,
+        first,
+        slots,
+        links,
+        n,
+        s,
+        head,
+        tail,
+    );
     if g < n {
         let known = seen[g];
         seen[g] = views::note(known, true, o);
@@ -68,10 +87,13 @@ fn add(
     tails[n] = tail;
     first[n] = i as u16;
     seen[n] = views::note(0, true, o);
+    let slot = keys::slot_of(head, tail);
+    links[n] = slots[slot];
+    slots[slot] = n as u16 + 1;
     n + 1
 }
 
-// The groups, with room for their words.
+// The groups, with room for their words and chains.
 fn gather_in(
     words: &[u64; POOL_WORDS],
     ids: &[u16; 512],
@@ -80,15 +102,17 @@ fn gather_in(
     tails: &mut [u64; 512],
     first: &mut [u16; 512],
     seen: &mut [u32; 512],
+    slots: &mut [u16; 1024],
+    links: &mut [u16; 512],
 ) -> usize
-    requires { ⌜ Room (now heads) (now tails) (now first) (now seen) ⌝ }
+    requires { ⌜ Sofar (now words) (now ids) 0 (now heads) (now tails) (now first) (now seen) (now slots) (now links) 0 ⌝ }
     ensures { λ r. ⌜ Groups (now (words .entry)) (now (ids .entry)) len (now (first .exit)) (now (seen .exit)) r ⌝ }
 {
     let end = pool::limit(len);
     let mut n = 0usize;
     let mut i = 0usize;
     while i < end {
-        n = add(words, ids, i, heads, tails, first, seen, n);
+        n = add(words, ids, i, heads, tails, first, seen, slots, links, n);
         i += 1;
     }
     n
@@ -106,8 +130,19 @@ pub fn gather(
 {
     let mut heads = [0u64; 512];
     let mut tails = [0u64; 512];
-    // What was in the arrays before does not matter.
-    *first = [0u16; 512];
-    *seen = [0u32; 512];
-    gather_in(words, ids, len, &mut heads, &mut tails, first, seen)
+    let mut slots = [0u16; 1024];
+    let mut links = [0u16; 512];
+    lengths::of_u16(first);
+    lengths::of_u32(seen);
+    gather_in(
+        words,
+        ids,
+        len,
+        &mut heads,
+        &mut tails,
+        first,
+        seen,
+        &mut slots,
+        &mut links,
+    )
 }

@@ -3,7 +3,7 @@ ghost use mathlib.Core.Path.{_≡_};
 ghost use Prim.Native.Nat.{_<_};
 ghost use Rattle.pool.specs.Pool.{stmtAt};
 ghost use Rattle.votes.specs.Votes.{isVote};
-ghost use Rattle.votes.specs.Keys.{mixFrom, headOf, tailOf, sameNames};
+ghost use Rattle.votes.specs.Keys.{mixFrom, headOf, tailOf, sameNames, slotOf};
 use pool::POOL_WORDS;
 
 // Whether statement n is a vote.
@@ -66,4 +66,13 @@ pub fn same_names(words: &[u64; POOL_WORDS], i: u16, j: u16) -> bool
         return true;
     }
     pool::same_views(words, i, j)
+}
+
+// The slot of the words of a vote. What multiplication mixes best are the high bits.
+pub fn slot_of(head: u64, tail: u64) -> usize
+    ensures { λ r. ⌜ (r ≡ slotOf head tail) × (r < 1024) ⌝ }
+{
+    let x = (head % 4294967296 + head / 4294967296) % 4294967296;
+    let y = (tail % 4294967296 + tail / 4294967296) % 4294967296;
+    ((x * 1640531527 + y * 668265263) / 4194304 % 1024) as usize
 }

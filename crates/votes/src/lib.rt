@@ -2,6 +2,7 @@
 mod chosen;
 mod groups;
 mod keys;
+mod lengths;
 mod wish;
 
 pub use chosen::agreements;

@@ -16,6 +16,11 @@ pub fn wished_view(words: &[u64; POOL_WORDS], ids: &[u16; 512], len: usize, init
     while i < end {
         let n = ids[i];
         let k = pool::kind(words, n);
+        // Most statements are neither a join nor a leave.
+        if k > 2 {
+            i += 1;
+            continue;
+        }
         let o = pool::origin(words, n);
         joins = views::note(joins, k == 1, o);
         leaves = views::note(leaves, k == 2, o);

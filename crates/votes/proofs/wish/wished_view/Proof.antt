@@ -1,4 +1,3 @@
-use borrow.Author.Needs.{needs}
 use native.Mathlib.Omega.{arith}
 use mathlib.Core.Path.{refl, ap}
 use Prim.Native.Nat.{_-_, _≤_}
@@ -8,7 +7,10 @@ use Rattle.protocol.specs.Evidence.{signs}
 use Rattle.views.specs.Sets.{IsSet}
 use Rattle.pool.specs.Pool.{recordOf}
 use Rattle.pool.proofs.Records.{set-first, set-next}
+use Rattle.votes.proofs.Gathered.{set-keeps}
+use Rattle.votes.proofs.Picked.{kind-not}
 use Rattle.votes.proofs.Wished.{wish-small, wish-is, wish-of}
+use borrow.Author.Needs.{needs}
 use Rattle.votes.proofs.wish.wished_view.Statement.{statement}
 use Rattle.votes.proofs.wish.wished_view.Tie as tie
 use Rattle.votes.proofs.wish.wished_view.Reads as reads
@@ -25,10 +27,10 @@ Inv-loop words ids len init end joins₀ leaves₀ i₀ joins leaves i = (i ≤ 
 abbrev μ-loop : tie.MeasureT-loop
 μ-loop words ids len init end joins₀ leaves₀ i₀ joins leaves i = end - i
 
--- src/wish.rt:25:5
-loop-again : tie.Need-loop-again Inv-loop μ-loop
+-- src/wish.rt:16:5
+loop-again-2 : tie.Need-loop-again-2 Inv-loop μ-loop
 unfolding isKind
-loop-again c = (omega arith, set-next _ _ _ _ _ _ _ _ (omega arith) (c .before .before .before .before .before .before .loop .inv .1) (c .before .note .ensures) (ap (λ x. eqb x 1) (c .before .before .before .kind .ensures .0)) (c .before .before .origin .ensures .0), set-next _ _ _ _ _ _ _ _ (omega arith) (c .before .before .before .before .before .before .loop .inv .2) (c .note2 .ensures) (ap (λ x. eqb x 2) (c .before .before .before .kind .ensures .0)) (c .before .before .origin .ensures .0))
+loop-again-2 c = (omega arith, set-next _ _ _ _ _ _ _ _ (omega arith) (c .before .before .before .before .before .before .before .loop .inv .1) (c .before .note .ensures) (ap (λ x. eqb x 1) (c .before .before .before .before .kind .ensures .0)) (c .before .before .origin .ensures .0), set-next _ _ _ _ _ _ _ _ (omega arith) (c .before .before .before .before .before .before .before .loop .inv .2) (c .note2 .ensures) (ap (λ x. eqb x 2) (c .before .before .before .before .kind .ensures .0)) (c .before .before .origin .ensures .0))
 
 pub wished-view-spec : {M : Type 1} → statement M
 wished-view-spec =
@@ -41,12 +43,15 @@ wished-view-spec =
     (λ c. search needs)
     (λ c. search needs)
     (λ c κs. search needs)
+    (λ c. search needs)
+    (λ c. search needs)
+    (λ c. (omega arith, set-keeps _ _ _ _ _ (omega arith) (kind-not _ _ 1 (c .before .kind .ensures .0) (λ q. omega arith)) (c .before .before .before .before .loop .inv .1), set-keeps _ _ _ _ _ (omega arith) (kind-not _ _ 2 (c .before .kind .ensures .0) (λ q. omega arith)) (c .before .before .before .before .loop .inv .2)))
     (λ c κs. search needs)
     (λ c κs. search needs)
     (λ c κs. search needs)
     (λ c. search needs)
     (λ c. search needs)
-    loop-again
+    loop-again-2
     (λ c κs. search needs)
     (λ c κs. search needs)
     (λ c. omega (arith, wish-small _ (recordOf (c .before .before .before .before .before .args .words .now) (c .before .before .before .before .before .args .ids .now) (c .before .before .before .before .before .args .len)) _ _ _ _ (omega arith) (wish-of _ _ _ _ _ _ _ _ _ _ (omega arith) (c .before .before .before .before .limit .ensures .0) (c .before .before .before .loop .inv .1) (c .before .before .before .loop .inv .2) (c .before .union .ensures) (c .union2 .ensures))))
