@@ -9,7 +9,7 @@ use Prim.Native.Nat.{ℕ, _+_, _≤_, _<_, min}
 use native.Mathlib.Decide.{ℕ-discrete}
 use native.Mathlib.Omega.{arith}
 use lib.Dec.{T, eqb, eqb→eq}
-use lib.ListN.{length, getD, set, replicate, length-set, length-replicate}
+use lib.ListN.{length, getD, set, length-set}
 use lib.Seq.{getD-set-same, getD-set-other}
 use borrow.Author.Tests.{eq-eqb, ne-eqb}
 use Rattle.protocol.specs.Lists.{_∈_, first, when}
@@ -31,26 +31,10 @@ use Rattle.views.proofs.Views.{passes, fails, signed-by-set}
 use Rattle.pool.specs.Pool.{stmtAt, recordOf}
 use Rattle.votes.specs.Votes.{isVote, alike, entry, Groups}
 use Rattle.votes.proofs.Alike.{says-vote, Alike, says-alike, alike-both, alike-turned}
-use Rattle.evidence.specs.Shown.{isBacked, Backed, preparesIt, certifies, storesIt, CertificatesOf}
+use Rattle.evidence.specs.Shown.{isBacked, Backed, certifies, storesIt, CertificatesOf}
 use Rattle.evidence.proofs.Members.{table-out}
 
 -- ---- tests of one statement
-
-pub prepare-kind : (sender k : ℕ) (s : Stmt) → k ≡ s .kind → (k ≡ 6 → ⊥) → false ≡ prepares sender s
-unfolding prepares isKind
-prepare-kind sender k s e n = rw (sym e, ne-eqb k 6 n)
-
-pub prepare-origin : (sender k o : ℕ) (s : Stmt) → k ≡ s .kind → k ≡ 6 → o ≡ s .origin → eqb o sender ≡ prepares sender s
-unfolding prepares isKind
-prepare-origin sender k o s e f g = rw (sym e, eq-eqb k 6 f, sym g)
-
-pub prepares-not : (sender m : ℕ) (s : Stmt) (r : Bool) → r ≡ prepares sender s → r ≡ false → false ≡ preparesIt sender m s
-unfolding preparesIt
-prepares-not sender m s r e f = sym (ap (λ b. b && eqb (s .payload) m) (sym e ∙ f))
-
-pub prepares-payload : (sender m p : ℕ) (s : Stmt) (r : Bool) → r ≡ prepares sender s → r ≡ true → p ≡ s .payload → eqb p m ≡ preparesIt sender m s
-unfolding preparesIt
-prepares-payload sender m p s r e f g = ap (λ x. eqb x m) g ∙ sym (ap (λ b. b && eqb (s .payload) m) (sym e ∙ f))
 
 pub certifies-kind : (sender k : ℕ) (X : List Stmt) (s : Stmt) → k ≡ s .kind → (k ≡ 7 → ⊥) → false ≡ certifies sender X s
 unfolding certifies isKind
@@ -181,8 +165,8 @@ module _ (W ids : List ℕ) (len init : ℕ) where
     pub long : length B ≡ 512
     pub each : (h : ℕ) → h < g → eqb (getD B h 0) 1 ≡ isBacked init X (entry W ids (getD F h 0))
 
-  pub marked-first : (F : List ℕ) → MarkedTo F (replicate 512 0) 0
-  marked-first F = record { long = length-replicate {A = ℕ} 512 0; each = λ h l. absurd (omega arith) }
+  pub marked-first : (F B : List ℕ) → length B ≡ 512 → MarkedTo F B 0
+  marked-first F B e = record { long = e; each = λ h l. absurd (omega arith) }
 
   pub marked-next : (F B : List ℕ) (g x : ℕ) (y : Bool) → g < 512 → y ≡ isBacked init X (entry W ids (getD F g 0)) → eqb x 1 ≡ y → MarkedTo F B g → MarkedTo F (set B g x) (g + 1)
   marked-next F B g x y l e f m = record {

@@ -2,6 +2,7 @@ pub mod Members
 pub mod Slots
 pub mod Ranks
 pub mod Summits
+pub mod Payloads
 pub mod Backing
 pub mod Reporting
 pub mod Merging

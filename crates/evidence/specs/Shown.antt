@@ -7,12 +7,13 @@ use mathlib.Core.List.{List, [], _∷_}
 use Prim.Native.Nat.{ℕ, _≤_, _<_, min}
 use lib.Dec.{T, eqb, ltb}
 use lib.ListN.{getD, length}
-use Rattle.protocol.specs.Lists.{pairwise, first, when}
+use Rattle.protocol.specs.Lists.{any, pairwise, first, when}
 use Rattle.protocol.specs.View.{View, comparable}
 use Rattle.protocol.specs.History.{holds, Holds}
 use Rattle.protocol.specs.Statement.{Stmt, isKind}
-use Rattle.protocol.specs.Evidence.{signedByQuorum, Candidate, candidates, Sealed, sealedHistories, prepares, isPrepared, certificates}
+use Rattle.protocol.specs.Evidence.{signedByQuorum, Candidate, candidates, Sealed, sealedHistories, isPrepared, certificates}
 use Rattle.protocol.specs.Grounds.{isTop}
+use Rattle.views.specs.Table.{table}
 use Rattle.views.specs.View.{viewOf, ring}
 use Rattle.pool.specs.Pool.{stmtAt, recordOf}
 use Rattle.votes.specs.Votes.{alike, entry}
@@ -68,9 +69,18 @@ module _ (W ids : List ℕ) (len init : ℕ) where
     pub covers : (i : ℕ) → i < min len 512 → T (isBacked init (recordOf W ids len) (entry W ids i))
         → (g : ℕ) × (g < n) × (getD B g 0 ≡ 1) × T (alike (entry W ids (getD F g 0)) (entry W ids i))
 
--- A prepare of m by the sender.
-unfoldable pub preparesIt : ℕ → ℕ → Stmt → Bool
-preparesIt sender m s = prepares sender s && eqb (s .payload) m
+-- m is one of the first n of P; two of them differ.
+
+unfoldable pub listed : List ℕ → ℕ → ℕ → Bool
+listed P n m = any (λ p. eqb p m) (table n (λ i. getD P i 0))
+
+unfoldable pub twofold : List ℕ → ℕ → Bool
+twofold P n = any (λ p. not (eqb p (getD P 0 0))) (table n (λ i. getD P i 0))
+
+-- P lists the n payloads that the sender prepared.
+pub record PreparedList (sender : ℕ) (X : List Stmt) (P : List ℕ) (n : ℕ) : Type 0 where
+  pub most : n ≤ 512
+  pub are : (m : ℕ) → isPrepared sender X m ≡ listed P n m
 
 -- An ack of what the sender prepared.
 unfoldable pub certifies : ℕ → List Stmt → Stmt → Bool

@@ -1,15 +1,19 @@
 // The certificate, and whether its payload is stored: what quorums of sealed tops acked and stored.
 ghost use mathlib.Core.Path.{_≡_};
-ghost use Prim.Native.Nat.{_<_};
 ghost use lib.Dec.{eqb};
-ghost use Rattle.protocol.specs.Evidence.{signs, prepares, isPrepared, isStored};
+ghost use lib.ListN.{length};
+ghost use Rattle.protocol.specs.Evidence.{signs, isStored};
 ghost use Rattle.views.specs.Sets.{IsSet};
 ghost use Rattle.views.specs.View.{ring};
 ghost use Rattle.pool.specs.Pool.{stmtAt, recordOf};
 ghost use Rattle.votes.specs.Votes.{alike, Groups};
-ghost use Rattle.votes.specs.Tables.{Tables, Verdicts};
-ghost use Rattle.evidence.specs.Shown.{isBacked, Backed, preparesIt, certifies, storesIt, CertificatesOf};
+ghost use Rattle.votes.specs.Tables.{Tables};
+ghost use Rattle.sealing.specs.Memos.{Tops};
+ghost use Rattle.sealing.specs.Rows.{Indexed};
+ghost use Rattle.evidence.specs.Shown.{isBacked, Backed, PreparedList, certifies, storesIt, CertificatesOf};
+use crate::prepares;
 use pool::POOL_WORDS;
+use sealing::INDEX;
 
 // The payload that has a certificate, if one has, or that two have.
 pub struct Certified {
@@ -28,6 +32,14 @@ fn mark(yes: bool) -> u8
     0
 }
 
+// How many marks there is room for: a proof that one was written asks for it.
+fn room(marks: &[u8; 512]) -> usize
+    ensures { λ r. ⌜ length (now (marks .entry)) ≡ 512 ⌝ }
+{
+    let s = &marks[..];
+    s.len()
+}
+
 // Whether statement s, signed by `seen`, is an ack or a store by a quorum of a sealed top.
 fn is_backed(
     words: &[u64; POOL_WORDS],
@@ -39,12 +51,12 @@ fn is_backed(
     agreed: &[u64; 512],
     entry: &[u16; 512],
     na: usize,
-    mc: &[u8; 512],
-    ma: &[u8; 512],
+    ai: &[u16; INDEX],
+    mt: &[u8; 512],
     s: u16,
     seen: u32,
 ) -> bool
-    requires { ⌜ Tables (now words) (now ids) len init (now chosen) nc (now agreed) (now entry) na × Verdicts (now words) (now ids) len init (now chosen) nc (now agreed) (now entry) na (now mc) (now ma) × IsSet seen (signs (alike (stmtAt (now words) s)) (recordOf (now words) (now ids) len)) ⌝ }
+    requires { ⌜ Tables (now words) (now ids) len init (now chosen) nc (now agreed) (now entry) na × Tops (now words) (now ids) len init (now agreed) na (now mt) × Indexed (now agreed) 0 na (now ai) × IsSet seen (signs (alike (stmtAt (now words) s)) (recordOf (now words) (now ids) len)) ⌝ }
     ensures { λ r. ⌜ r ≡ isBacked init (recordOf (now (words .entry)) (now (ids .entry)) len) (stmtAt (now (words .entry)) s) ⌝ }
 {
     let k = pool::kind(words, s);
@@ -68,8 +80,8 @@ fn is_backed(
         agreed,
         entry,
         na,
-        mc,
-        ma,
+        ai,
+        mt,
         t,
     )
 }
@@ -85,17 +97,17 @@ pub fn mark_backed(
     agreed: &[u64; 512],
     entry: &[u16; 512],
     na: usize,
-    mc: &[u8; 512],
-    ma: &[u8; 512],
+    ai: &[u16; INDEX],
+    mt: &[u8; 512],
     first: &[u16; 512],
     seen: &[u32; 512],
     n: usize,
     marks: &mut [u8; 512],
 )
-    requires { ⌜ Tables (now words) (now ids) len init (now chosen) nc (now agreed) (now entry) na × Verdicts (now words) (now ids) len init (now chosen) nc (now agreed) (now entry) na (now mc) (now ma) × Groups (now words) (now ids) len (now first) (now seen) n ⌝ }
+    requires { ⌜ Tables (now words) (now ids) len init (now chosen) nc (now agreed) (now entry) na × Tops (now words) (now ids) len init (now agreed) na (now mt) × Indexed (now agreed) 0 na (now ai) × Groups (now words) (now ids) len (now first) (now seen) n ⌝ }
     ensures { λ r. ⌜ Backed (now (words .entry)) (now (ids .entry)) len init (now (first .entry)) n (now (marks .exit)) ⌝ }
 {
-    *marks = [0u8; 512];
+    room(marks);
     let mut g = 0usize;
     while g < n {
         let f = first[g] as usize;
@@ -110,8 +122,8 @@ pub fn mark_backed(
             agreed,
             entry,
             na,
-            mc,
-            ma,
+            ai,
+            mt,
             s,
             seen[g],
         );
@@ -120,65 +132,27 @@ pub fn mark_backed(
     }
 }
 
-// Whether statement s is a prepare of the sender.
-pub fn is_prepare(words: &[u64; POOL_WORDS], s: u16, sender: u8) -> bool
-    ensures { λ r. ⌜ r ≡ prepares sender (stmtAt (now (words .entry)) s) ⌝ }
-{
-    if pool::kind(words, s) != 6 {
-        return false;
-    }
-    pool::origin(words, s) == sender as u64
-}
-
-// Whether statement s is a prepare of m by the sender.
-fn prepares_it(words: &[u64; POOL_WORDS], s: u16, sender: u8, m: u64) -> bool
-    ensures { λ r. ⌜ r ≡ preparesIt sender m (stmtAt (now (words .entry)) s) ⌝ }
-{
-    if !is_prepare(words, s, sender) {
-        return false;
-    }
-    pool::payload(words, s) == m
-}
-
-// Whether the sender prepared m.
-pub fn is_prepared(
-    words: &[u64; POOL_WORDS],
-    ids: &[u16; 512],
-    len: usize,
-    sender: u8,
-    m: u64,
-) -> bool
-    ensures { λ r. ⌜ r ≡ isPrepared sender (recordOf (now (words .entry)) (now (ids .entry)) len) m ⌝ }
-{
-    let end = pool::limit(len);
-    let mut i = 0usize;
-    while i < end {
-        if prepares_it(words, ids[i], sender, m) {
-            return true;
-        }
-        i += 1;
-    }
-    false
-}
-
 // Whether statement s is an ack of what the sender prepared.
 fn is_certifying(
     words: &[u64; POOL_WORDS],
     ids: &[u16; 512],
     len: usize,
     sender: u8,
+    prepared: &[u64; 512],
+    np: usize,
     s: u16,
 ) -> bool
+    requires { ⌜ PreparedList sender (recordOf (now words) (now ids) len) (now prepared) np ⌝ }
     ensures { λ r. ⌜ r ≡ certifies sender (recordOf (now (words .entry)) (now (ids .entry)) len) (stmtAt (now (words .entry)) s) ⌝ }
 {
     if pool::kind(words, s) != 7 {
         return false;
     }
-    is_prepared(words, ids, len, sender, pool::payload(words, s))
+    prepares::is_listed(prepared, np, pool::payload(words, s))
 }
 
-// The certificate of a record, of whose groups `marks` has those by a quorum of a sealed top.
-pub fn certificate(
+// The certificate, from the list of what the sender prepared.
+fn certify(
     words: &[u64; POOL_WORDS],
     ids: &[u16; 512],
     len: usize,
@@ -187,8 +161,10 @@ pub fn certificate(
     first: &[u16; 512],
     n: usize,
     marks: &[u8; 512],
+    prepared: &[u64; 512],
+    np: usize,
 ) -> Certified
-    requires { ⌜ Backed (now words) (now ids) len init (now first) n (now marks) ⌝ }
+    requires { ⌜ Backed (now words) (now ids) len init (now first) n (now marks) × PreparedList sender (recordOf (now words) (now ids) len) (now prepared) np ⌝ }
     ensures { λ r. ⌜ CertificatesOf init sender (recordOf (now (words .entry)) (now (ids .entry)) len) r ⌝ }
 {
     let mut some = false;
@@ -201,7 +177,7 @@ pub fn certificate(
         }
         let f = first[g] as usize;
         let s = ids[f];
-        if !is_certifying(words, ids, len, sender, s) {
+        if !is_certifying(words, ids, len, sender, prepared, np, s) {
             g += 1;
             continue;
         }
@@ -226,6 +202,36 @@ pub fn certificate(
         some,
         payload,
     }
+}
+
+// The certificate of a record, of whose groups `marks` has those by a quorum of a sealed top.
+pub fn certificate(
+    words: &[u64; POOL_WORDS],
+    ids: &[u16; 512],
+    len: usize,
+    init: u32,
+    sender: u8,
+    first: &[u16; 512],
+    n: usize,
+    marks: &[u8; 512],
+) -> Certified
+    requires { ⌜ Backed (now words) (now ids) len init (now first) n (now marks) ⌝ }
+    ensures { λ r. ⌜ CertificatesOf init sender (recordOf (now (words .entry)) (now (ids .entry)) len) r ⌝ }
+{
+    let mut prepared = [0u64; 512];
+    let np = prepares::list(words, ids, len, sender, &mut prepared);
+    certify(
+        words,
+        ids,
+        len,
+        init,
+        sender,
+        first,
+        n,
+        marks,
+        &prepared,
+        np,
+    )
 }
 
 // Whether statement s is a store of m.

@@ -3,6 +3,7 @@ mod binding;
 mod candidates;
 mod certificates;
 mod histories;
+mod prepares;
 mod reports;
 mod whole;
 
@@ -10,7 +11,6 @@ pub use candidates::Ranked;
 pub use candidates::rank;
 pub use certificates::Certified;
 pub use certificates::certificate;
-pub use certificates::is_prepared;
 pub use certificates::is_stored;
 pub use certificates::mark_backed;
 pub use histories::Summit;

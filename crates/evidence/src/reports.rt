@@ -6,17 +6,18 @@ ghost use Rattle.protocol.specs.Sets.{bit};
 ghost use Rattle.protocol.specs.Lists.{any};
 ghost use Rattle.protocol.specs.View.{sameView, member};
 ghost use Rattle.protocol.specs.History.{holds, top};
-ghost use Rattle.protocol.specs.Evidence.{signs, twoPrepares, isCounted, isCountedOn};
+ghost use Rattle.protocol.specs.Evidence.{signs, isCounted, isCountedOn};
 ghost use Rattle.protocol.specs.Turn.{mergeAll};
 ghost use Rattle.views.specs.Sets.{IsSet};
 ghost use Rattle.views.specs.View.{viewOf, ring};
 ghost use Rattle.pool.specs.Pool.{stmtAt, recordOf};
 ghost use Rattle.evidence.specs.Slots.{viewsOf};
 ghost use Rattle.statements.specs.Meaning.{bindingIs};
+ghost use Rattle.evidence.specs.Shown.{PreparedList};
 ghost use Rattle.evidence.specs.Evidence.{Settled, bindingHolds, keptHolds, reportedOn, reportedAll, countsBelow, reportsBelow};
 use crate::Evidence;
 use crate::binding;
-use crate::certificates;
+use crate::prepares;
 use pool::POOL_WORDS;
 use statements::Binding;
 
@@ -90,53 +91,25 @@ fn all_in(words: &[u64; POOL_WORDS], s: u16, list: &[u32; 16], n: usize) -> bool
     true
 }
 
-// Whether the sender prepared two payloads.
-pub fn is_twofold(words: &[u64; POOL_WORDS], ids: &[u16; 512], len: usize, sender: u8) -> bool
-    ensures { λ r. ⌜ r ≡ twoPrepares sender (recordOf (now (words .entry)) (now (ids .entry)) len) ⌝ }
-{
-    let end = pool::limit(len);
-    let mut some = false;
-    let mut payload = 0u64;
-    let mut i = 0usize;
-    while i < end {
-        let s = ids[i];
-        if !certificates::is_prepare(words, s, sender) {
-            i += 1;
-            continue;
-        }
-        let m = pool::payload(words, s);
-        if !some {
-            some = true;
-            payload = m;
-            i += 1;
-            continue;
-        }
-        if m != payload {
-            return true;
-        }
-        i += 1;
-    }
-    false
-}
-
-// Whether the binding of report s is explained by what the sender prepared; `two` tells whether that is two payloads.
+// Whether the binding of report s is explained by what the sender prepared.
 fn binding_holds(
     words: &[u64; POOL_WORDS],
     ids: &[u16; 512],
     len: usize,
     sender: u8,
-    two: bool,
+    prepared: &[u64; 512],
+    np: usize,
     s: u16,
 ) -> bool
-    requires { ⌜ two ≡ twoPrepares sender (recordOf (now words) (now ids) len) ⌝ }
+    requires { ⌜ PreparedList sender (recordOf (now words) (now ids) len) (now prepared) np ⌝ }
     ensures { λ r. ⌜ r ≡ bindingHolds sender (recordOf (now (words .entry)) (now (ids .entry)) len) (stmtAt (now (words .entry)) s) ⌝ }
 {
     let b = pool::binding(words, s);
     if b == 1 {
-        return certificates::is_prepared(words, ids, len, sender, pool::payload(words, s));
+        return prepares::is_listed(prepared, np, pool::payload(words, s));
     }
     if b == 2 {
-        return two;
+        return prepares::is_twofold(prepared, np);
     }
     true
 }
@@ -171,10 +144,11 @@ fn counts(
     init: u32,
     sender: u8,
     e: Evidence,
-    two: bool,
+    prepared: &[u64; 512],
+    np: usize,
     s: u16,
 ) -> bool
-    requires { ⌜ Settled (ring init) sender (recordOf (now words) (now ids) len) e × (two ≡ twoPrepares sender (recordOf (now words) (now ids) len)) ⌝ }
+    requires { ⌜ Settled (ring init) sender (recordOf (now words) (now ids) len) e × PreparedList sender (recordOf (now words) (now ids) len) (now prepared) np ⌝ }
     ensures { λ r. ⌜ r ≡ isCounted (ring init) sender (recordOf (now (words .entry)) (now (ids .entry)) len) (stmtAt (now (words .entry)) s) ⌝ }
 {
     let list = e.candidates;
@@ -188,7 +162,7 @@ fn counts(
     if !all_in(words, s, &list, n) {
         return false;
     }
-    if !binding_holds(words, ids, len, sender, two, s) {
+    if !binding_holds(words, ids, len, sender, prepared, np, s) {
         return false;
     }
     kept_holds(words, ids, len, init, sender, e, s)
@@ -202,11 +176,12 @@ fn counts_on(
     init: u32,
     sender: u8,
     e: Evidence,
-    two: bool,
+    prepared: &[u64; 512],
+    np: usize,
     u: u32,
     s: u16,
 ) -> bool
-    requires { ⌜ Settled (ring init) sender (recordOf (now words) (now ids) len) e × (two ≡ twoPrepares sender (recordOf (now words) (now ids) len)) ⌝ }
+    requires { ⌜ Settled (ring init) sender (recordOf (now words) (now ids) len) e × PreparedList sender (recordOf (now words) (now ids) len) (now prepared) np ⌝ }
     ensures { λ r. ⌜ r ≡ isCountedOn (ring init) sender (recordOf (now (words .entry)) (now (ids .entry)) len) (viewOf u) (stmtAt (now (words .entry)) s) ⌝ }
 {
     if pool::kind(words, s) != 5 {
@@ -215,7 +190,7 @@ fn counts_on(
     if pool::at(words, s) != u {
         return false;
     }
-    counts(words, ids, len, init, sender, e, two, s)
+    counts(words, ids, len, init, sender, e, prepared, np, s)
 }
 
 // Who signed a report on u that counts.
@@ -226,10 +201,11 @@ fn reporters(
     init: u32,
     sender: u8,
     e: Evidence,
-    two: bool,
+    prepared: &[u64; 512],
+    np: usize,
     u: u32,
 ) -> u32
-    requires { ⌜ Settled (ring init) sender (recordOf (now words) (now ids) len) e × (two ≡ twoPrepares sender (recordOf (now words) (now ids) len)) ⌝ }
+    requires { ⌜ Settled (ring init) sender (recordOf (now words) (now ids) len) e × PreparedList sender (recordOf (now words) (now ids) len) (now prepared) np ⌝ }
     ensures { λ r. ⌜ IsSet r (signs (isCountedOn (ring init) sender (recordOf (now (words .entry)) (now (ids .entry)) len) (viewOf u)) (recordOf (now (words .entry)) (now (ids .entry)) len)) ⌝ }
 {
     let end = pool::limit(len);
@@ -237,7 +213,7 @@ fn reporters(
     let mut i = 0usize;
     while i < end {
         let s = ids[i];
-        let hit = counts_on(words, ids, len, init, sender, e, two, u, s);
+        let hit = counts_on(words, ids, len, init, sender, e, prepared, np, u, s);
         seen = views::note(seen, hit, pool::origin(words, s));
         i += 1;
     }
@@ -252,17 +228,18 @@ fn is_reported_on(
     init: u32,
     sender: u8,
     e: Evidence,
-    two: bool,
+    prepared: &[u64; 512],
+    np: usize,
     t: u32,
     u: u32,
 ) -> bool
-    requires { ⌜ Settled (ring init) sender (recordOf (now words) (now ids) len) e × (two ≡ twoPrepares sender (recordOf (now words) (now ids) len)) × (viewOf t ≡ top (ring init) (viewsOf (e .greatest) (e .length))) ⌝ }
+    requires { ⌜ Settled (ring init) sender (recordOf (now words) (now ids) len) e × PreparedList sender (recordOf (now words) (now ids) len) (now prepared) np × (viewOf t ≡ top (ring init) (viewsOf (e .greatest) (e .length))) ⌝ }
     ensures { λ r. ⌜ r ≡ reportedOn (ring init) sender (recordOf (now (words .entry)) (now (ids .entry)) len) (viewOf u) ⌝ }
 {
     if !views::below_view(u, t) {
         return true;
     }
-    let seen = reporters(words, ids, len, init, sender, e, two, u);
+    let seen = reporters(words, ids, len, init, sender, e, prepared, np, u);
     views::quorum_in(u, seen)
 }
 
@@ -278,14 +255,15 @@ pub fn reported(
     requires { ⌜ Settled (ring init) sender (recordOf (now words) (now ids) len) e ⌝ }
     ensures { λ r. ⌜ r ≡ reportedAll (ring init) sender (recordOf (now (words .entry)) (now (ids .entry)) len) ⌝ }
 {
-    let two = is_twofold(words, ids, len, sender);
+    let mut prepared = [0u64; 512];
+    let np = prepares::list(words, ids, len, sender, &mut prepared);
     let list = e.greatest;
     let n = e.length;
     let t = top_of(&list, n, init);
     let mut i = 0usize;
     while i < n {
         let u = view_in(&list, i);
-        if !is_reported_on(words, ids, len, init, sender, e, two, t, u) {
+        if !is_reported_on(words, ids, len, init, sender, e, &prepared, np, t, u) {
             return false;
         }
         i += 1;
@@ -301,11 +279,12 @@ fn counts_below(
     init: u32,
     sender: u8,
     e: Evidence,
-    two: bool,
+    prepared: &[u64; 512],
+    np: usize,
     t: u32,
     s: u16,
 ) -> bool
-    requires { ⌜ Settled (ring init) sender (recordOf (now words) (now ids) len) e × (two ≡ twoPrepares sender (recordOf (now words) (now ids) len)) × (viewOf t ≡ top (ring init) (viewsOf (e .greatest) (e .length))) ⌝ }
+    requires { ⌜ Settled (ring init) sender (recordOf (now words) (now ids) len) e × PreparedList sender (recordOf (now words) (now ids) len) (now prepared) np × (viewOf t ≡ top (ring init) (viewsOf (e .greatest) (e .length))) ⌝ }
     ensures { λ r. ⌜ r ≡ countsBelow (ring init) sender (recordOf (now (words .entry)) (now (ids .entry)) len) (stmtAt (now (words .entry)) s) ⌝ }
 {
     let list = e.greatest;
@@ -320,7 +299,7 @@ fn counts_below(
     if !is_in(&list, n, u) {
         return false;
     }
-    counts(words, ids, len, init, sender, e, two, s)
+    counts(words, ids, len, init, sender, e, prepared, np, s)
 }
 
 // The binding `own`, merged with those of the reports that count on the views of the greatest history below its top.
@@ -336,7 +315,8 @@ pub fn merged(
     requires { ⌜ Settled (ring init) sender (recordOf (now words) (now ids) len) e ⌝ }
     ensures { λ r. ⌜ bindingIs r ≡ mergeAll (bindingIs own) (reportsBelow (ring init) sender (recordOf (now (words .entry)) (now (ids .entry)) len)) ⌝ }
 {
-    let two = is_twofold(words, ids, len, sender);
+    let mut prepared = [0u64; 512];
+    let np = prepares::list(words, ids, len, sender, &mut prepared);
     let list = e.greatest;
     let t = top_of(&list, e.length, init);
     let mut b = own;
@@ -344,7 +324,7 @@ pub fn merged(
     while 0 < i {
         i -= 1;
         let s = ids[i];
-        if !counts_below(words, ids, len, init, sender, e, two, t, s) {
+        if !counts_below(words, ids, len, init, sender, e, &prepared, np, t, s) {
             continue;
         }
         let next = binding::both(binding::told(words, s), b);

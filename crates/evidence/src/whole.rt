@@ -9,7 +9,7 @@ ghost use Rattle.views.specs.View.{viewOf, ring};
 ghost use Rattle.pool.specs.Pool.{recordOf};
 ghost use Rattle.votes.specs.Votes.{Groups};
 ghost use Rattle.votes.specs.Tables.{Tables, Verdicts};
-ghost use Rattle.evidence.specs.Shown.{CandidatesOf, HistoriesOf, CertificatesOf};
+ghost use Rattle.evidence.specs.Shown.{Backed, CandidatesOf, HistoriesOf, CertificatesOf};
 ghost use Rattle.evidence.specs.Evidence.{EvidenceOf};
 use crate::Evidence;
 use crate::candidates;
@@ -19,6 +19,7 @@ use crate::certificates::Certified;
 use crate::histories;
 use crate::histories::Summit;
 use pool::POOL_WORDS;
+use sealing::INDEX;
 
 // Whether one of the three is true.
 fn one_of(a: bool, b: bool, c: bool) -> bool
@@ -54,29 +55,44 @@ fn tie(wish: u32, r: Ranked, h: Summit, c: Certified, stored: bool) -> Evidence
     }
 }
 
-// The evidence, from the tables and the verdicts on them.
-fn judged(
+// The marks of the choices of candidates, of the agreements that seal, and of the groups of acks and stores by a quorum of a sealed top.
+fn judge(
     words: &[u64; POOL_WORDS],
     ids: &[u16; 512],
     len: usize,
     init: u32,
-    sender: u8,
-    wish: u32,
-    first: &[u16; 512],
-    seen: &[u32; 512],
-    n: usize,
     chosen: &[u64; 512],
     nc: usize,
     agreed: &[u64; 512],
     entry: &[u16; 512],
     na: usize,
-    mc: &[u8; 512],
-    ma: &[u8; 512],
-) -> Evidence
-    requires { ⌜ (viewOf wish ≡ wished (ring init) (recordOf (now words) (now ids) len)) × Groups (now words) (now ids) len (now first) (now seen) n × Tables (now words) (now ids) len init (now chosen) nc (now agreed) (now entry) na × Verdicts (now words) (now ids) len init (now chosen) nc (now agreed) (now entry) na (now mc) (now ma) ⌝ }
-    ensures { λ e. ⌜ EvidenceOf (ring init) sender (recordOf (now (words .entry)) (now (ids .entry)) len) e ⌝ }
+    first: &[u16; 512],
+    seen: &[u32; 512],
+    n: usize,
+    mc: &mut [u8; 512],
+    ma: &mut [u8; 512],
+    marks: &mut [u8; 512],
+)
+    requires { ⌜ Tables (now words) (now ids) len init (now chosen) nc (now agreed) (now entry) na × Groups (now words) (now ids) len (now first) (now seen) n ⌝ }
+    ensures { λ r. ⌜ Verdicts (now (words .entry)) (now (ids .entry)) len init (now (chosen .entry)) nc (now (agreed .entry)) (now (entry .entry)) na (now (mc .exit)) (now (ma .exit)) × Backed (now (words .entry)) (now (ids .entry)) len init (now (first .entry)) n (now (marks .exit)) ⌝ }
 {
-    let mut marks = [0u8; 512];
+    let mut ai = [0u16; INDEX];
+    let mut mt = [0u8; 512];
+    sealing::verdicts(
+        words,
+        ids,
+        len,
+        init,
+        chosen,
+        nc,
+        agreed,
+        entry,
+        na,
+        &mut ai,
+        mc,
+        ma,
+        &mut mt,
+    );
     certificates::mark_backed(
         words,
         ids,
@@ -87,15 +103,57 @@ fn judged(
         agreed,
         entry,
         na,
-        mc,
-        ma,
+        &ai,
+        &mt,
         first,
         seen,
         n,
+        marks,
+    );
+}
+
+// The evidence, from the votes and the tables of what quorums agreed to.
+fn from_tables(
+    words: &[u64; POOL_WORDS],
+    ids: &[u16; 512],
+    len: usize,
+    init: u32,
+    sender: u8,
+    wish: u32,
+    chosen: &[u64; 512],
+    nc: usize,
+    agreed: &[u64; 512],
+    entry: &[u16; 512],
+    na: usize,
+    first: &[u16; 512],
+    seen: &[u32; 512],
+    n: usize,
+) -> Evidence
+    requires { ⌜ (viewOf wish ≡ wished (ring init) (recordOf (now words) (now ids) len)) × Tables (now words) (now ids) len init (now chosen) nc (now agreed) (now entry) na × Groups (now words) (now ids) len (now first) (now seen) n ⌝ }
+    ensures { λ e. ⌜ EvidenceOf (ring init) sender (recordOf (now (words .entry)) (now (ids .entry)) len) e ⌝ }
+{
+    let mut mc = [0u8; 512];
+    let mut ma = [0u8; 512];
+    let mut marks = [0u8; 512];
+    judge(
+        words,
+        ids,
+        len,
+        init,
+        chosen,
+        nc,
+        agreed,
+        entry,
+        na,
+        first,
+        seen,
+        n,
+        &mut mc,
+        &mut ma,
         &mut marks,
     );
-    let r = candidates::rank(chosen, nc, mc, init);
-    let h = histories::climb(words, entry, na, ma, init);
+    let r = candidates::rank(chosen, nc, &mc, init);
+    let h = histories::climb(words, entry, na, &ma, init);
     let c = certificates::certificate(words, ids, len, init, sender, first, n, &marks);
     let stored = certificates::is_stored(words, ids, len, init, first, n, &marks, c.payload);
     tie(wish, r, h, c, stored)
@@ -130,37 +188,20 @@ pub fn of_record(
         &mut agreed,
         &mut entry,
     );
-    let mut mc = [0u8; 512];
-    let mut ma = [0u8; 512];
-    sealing::verdicts(
-        words,
-        ids,
-        len,
-        init,
-        &chosen,
-        nc,
-        &agreed,
-        &entry,
-        na,
-        &mut mc,
-        &mut ma,
-    );
-    judged(
+    from_tables(
         words,
         ids,
         len,
         init,
         sender,
         wish,
-        &first,
-        &seen,
-        n,
         &chosen,
         nc,
         &agreed,
         &entry,
         na,
-        &mc,
-        &ma,
+        &first,
+        &seen,
+        n,
     )
 }

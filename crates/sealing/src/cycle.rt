@@ -1,17 +1,24 @@
-// Candidates rest on sealed histories, and sealed histories on candidates: two functions that call each other.
+// Candidates rest on sealed tops, sealed tops on sealed histories, and sealed histories on candidates and on sealed tops: three functions that call each other.
 //
-// What falls from call to call is twice the size of the view, or twice the size of the history's top and one more. A size is at most 32, so that the
-// first call has at most 2 * 32 + 1 and at most 66 calls are open at once; compiled, each takes less than 200 bytes of stack, 13 KiB in all.
-// Each verdict, yes or no, is remembered, so that none is found out twice.
+// What falls from call to call is three times the size of the view, and one more for a history with that top, two more for a top. A size is at most 32, so
+// that the first call has at most 3 * 32 + 2 and at most 99 calls are open at once; compiled, each takes less than 200 bytes of stack, 20 KiB in all.
+// Each verdict, yes or no, is remembered, so that none is found out twice: on the view of a choice, on agreement a at 512 + a, on the top of an agreement
+// at 1024 and more; the first choice of a view and the first agreement with a top stand for all.
 ghost use mathlib.Core.Path.{_≡_};
 ghost use Prim.Native.Nat.{_<_};
 ghost use Rattle.protocol.specs.Evidence.{isCandidate};
+ghost use Rattle.protocol.specs.Grounds.{isTop};
 ghost use Rattle.views.specs.View.{viewOf, ring};
 ghost use Rattle.pool.specs.Pool.{recordOf};
 ghost use Rattle.votes.specs.Tables.{Tables, sealsAt};
 ghost use Rattle.sealing.specs.Memos.{Memos};
+ghost use Rattle.sealing.specs.Rows.{Indexes};
 use crate::rows;
+use crate::rows::INDEX;
 use pool::POOL_WORDS;
+
+// How many verdicts are remembered.
+pub const MEMO: usize = 1536;
 
 // Whether v is a candidate: it is the initial view, or was chosen at a sealed top.
 pub fn candidate(
@@ -21,64 +28,115 @@ pub fn candidate(
     init: u32,
     chosen: &[u64; 512],
     nc: usize,
+    ci: &[u16; INDEX],
     agreed: &[u64; 512],
     entry: &[u16; 512],
     na: usize,
-    mc: &mut [u8; 512],
-    ma: &mut [u8; 512],
-    hint: &mut [u16; 1024],
+    ai: &[u16; INDEX],
+    memo: &mut [u8; MEMO],
     v: u32,
 ) -> bool
-    requires { ⌜ Tables (now words) (now ids) len init (now chosen) nc (now agreed) (now entry) na × Memos (now words) (now ids) len init (now chosen) (now agreed) (now entry) (now mc) (now ma) ⌝ }
-    ensures { λ r. ⌜ (r ≡ isCandidate (ring init) (recordOf (now (words .entry)) (now (ids .entry)) len) (viewOf v)) × Memos (now (words .entry)) (now (ids .entry)) len init (now (chosen .entry)) (now (agreed .entry)) (now (entry .entry)) (now (mc .exit)) (now (ma .exit)) ⌝ }
+    requires { ⌜ Tables (now words) (now ids) len init (now chosen) nc (now agreed) (now entry) na × Indexes (now chosen) nc (now ci) (now agreed) na (now ai) × Memos (now words) (now ids) len init (now chosen) (now agreed) (now entry) (now memo) ⌝ }
+    ensures { λ r. ⌜ (r ≡ isCandidate (ring init) (recordOf (now (words .entry)) (now (ids .entry)) len) (viewOf v)) × Memos (now (words .entry)) (now (ids .entry)) len init (now (chosen .entry)) (now (agreed .entry)) (now (entry .entry)) (now (memo .exit)) ⌝ }
 {
     if v == init {
         return true;
     }
-    let f = rows::row(chosen, nc, hint, v);
+    let f = rows::first(chosen, nc, ci, v);
     if f == nc {
         return false;
     }
-    let known = mc[f];
+    let known = memo[f];
     if known == 1 {
         return true;
     }
     if known == 2 {
         return false;
     }
-    let mut c = rows::next(chosen, nc, v, 0);
+    let mut c = f;
     while c < nc {
         let x = chosen[c];
         let t = rows::low_of(x);
-        if t == init {
-            mc[f] = 1;
+        if top(
+            words,
+            ids,
+            len,
+            init,
+            chosen,
+            nc,
+            ci,
+            agreed,
+            entry,
+            na,
+            ai,
+            memo,
+            t,
+        ) {
+            memo[f] = 1;
             return true;
         }
-        let mut a = rows::next(agreed, na, t, 0);
-        while a < na {
-            if sealed(
-                words,
-                ids,
-                len,
-                init,
-                chosen,
-                nc,
-                agreed,
-                entry,
-                na,
-                mc,
-                ma,
-                hint,
-                a,
-            ) {
-                mc[f] = 1;
-                return true;
-            }
-            a = rows::next(agreed, na, t, a + 1);
-        }
-        c = rows::next(chosen, nc, v, c + 1);
+        c = rows::after(chosen, nc, ci, v, c);
     }
-    mc[f] = 2;
+    memo[f] = 2;
+    false
+}
+
+// Whether t is a sealed top: it is the initial view, or an agreement with that top seals its history.
+pub fn top(
+    words: &[u64; POOL_WORDS],
+    ids: &[u16; 512],
+    len: usize,
+    init: u32,
+    chosen: &[u64; 512],
+    nc: usize,
+    ci: &[u16; INDEX],
+    agreed: &[u64; 512],
+    entry: &[u16; 512],
+    na: usize,
+    ai: &[u16; INDEX],
+    memo: &mut [u8; MEMO],
+    t: u32,
+) -> bool
+    requires { ⌜ Tables (now words) (now ids) len init (now chosen) nc (now agreed) (now entry) na × Indexes (now chosen) nc (now ci) (now agreed) na (now ai) × Memos (now words) (now ids) len init (now chosen) (now agreed) (now entry) (now memo) ⌝ }
+    ensures { λ r. ⌜ (r ≡ isTop (ring init) (recordOf (now (words .entry)) (now (ids .entry)) len) (viewOf t)) × Memos (now (words .entry)) (now (ids .entry)) len init (now (chosen .entry)) (now (agreed .entry)) (now (entry .entry)) (now (memo .exit)) ⌝ }
+{
+    if t == init {
+        return true;
+    }
+    let f = rows::first(agreed, na, ai, t);
+    if f == na {
+        return false;
+    }
+    let known = memo[1024 + f];
+    if known == 1 {
+        return true;
+    }
+    if known == 2 {
+        return false;
+    }
+    let mut a = f;
+    while a < na {
+        if sealed(
+            words,
+            ids,
+            len,
+            init,
+            chosen,
+            nc,
+            ci,
+            agreed,
+            entry,
+            na,
+            ai,
+            memo,
+            a,
+        ) {
+            memo[1024 + f] = 1;
+            return true;
+        }
+        a = rows::after(agreed, na, ai, t, a);
+    }
+    memo[1024 + f] = 2;
     false
 }
 
@@ -90,18 +148,18 @@ pub fn sealed(
     init: u32,
     chosen: &[u64; 512],
     nc: usize,
+    ci: &[u16; INDEX],
     agreed: &[u64; 512],
     entry: &[u16; 512],
     na: usize,
-    mc: &mut [u8; 512],
-    ma: &mut [u8; 512],
-    hint: &mut [u16; 1024],
+    ai: &[u16; INDEX],
+    memo: &mut [u8; MEMO],
     a: usize,
 ) -> bool
-    requires { ⌜ (a < na) × Tables (now words) (now ids) len init (now chosen) nc (now agreed) (now entry) na × Memos (now words) (now ids) len init (now chosen) (now agreed) (now entry) (now mc) (now ma) ⌝ }
-    ensures { λ r. ⌜ (r ≡ sealsAt (now (words .entry)) (now (ids .entry)) len init (now (agreed .entry)) (now (entry .entry)) a) × Memos (now (words .entry)) (now (ids .entry)) len init (now (chosen .entry)) (now (agreed .entry)) (now (entry .entry)) (now (mc .exit)) (now (ma .exit)) ⌝ }
+    requires { ⌜ (a < na) × Tables (now words) (now ids) len init (now chosen) nc (now agreed) (now entry) na × Indexes (now chosen) nc (now ci) (now agreed) na (now ai) × Memos (now words) (now ids) len init (now chosen) (now agreed) (now entry) (now memo) ⌝ }
+    ensures { λ r. ⌜ (r ≡ sealsAt (now (words .entry)) (now (ids .entry)) len init (now (agreed .entry)) (now (entry .entry)) a) × Memos (now (words .entry)) (now (ids .entry)) len init (now (chosen .entry)) (now (agreed .entry)) (now (entry .entry)) (now (memo .exit)) ⌝ }
 {
-    let known = ma[a];
+    let known = memo[512 + a];
     if known == 1 {
         return true;
     }
@@ -120,47 +178,39 @@ pub fn sealed(
             init,
             chosen,
             nc,
+            ci,
             agreed,
             entry,
             na,
-            mc,
-            ma,
-            hint,
+            ai,
+            memo,
             v,
         ) {
-            ma[a] = 2;
+            memo[512 + a] = 2;
             return false;
         }
         p += 1;
     }
     let x = agreed[a];
     let t = rows::low_of(x);
-    if t == init {
-        ma[a] = 1;
+    if top(
+        words,
+        ids,
+        len,
+        init,
+        chosen,
+        nc,
+        ci,
+        agreed,
+        entry,
+        na,
+        ai,
+        memo,
+        t,
+    ) {
+        memo[512 + a] = 1;
         return true;
     }
-    let mut b = rows::next(agreed, na, t, 0);
-    while b < na {
-        if sealed(
-            words,
-            ids,
-            len,
-            init,
-            chosen,
-            nc,
-            agreed,
-            entry,
-            na,
-            mc,
-            ma,
-            hint,
-            b,
-        ) {
-            ma[a] = 1;
-            return true;
-        }
-        b = rows::next(agreed, na, t, b + 1);
-    }
-    ma[a] = 2;
+    memo[512 + a] = 2;
     false
 }

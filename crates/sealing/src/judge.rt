@@ -1,4 +1,4 @@
-// The verdicts on all choices and all agreements, and what follows from them.
+// The verdicts on all choices, all agreements and all their tops, and what follows from them.
 ghost use mathlib.Core.Path.{_≡_};
 ghost use lib.Dec.{eqb};
 ghost use lib.ListN.{length};
@@ -6,9 +6,12 @@ ghost use Rattle.protocol.specs.Grounds.{isTop};
 ghost use Rattle.views.specs.View.{viewOf, ring};
 ghost use Rattle.pool.specs.Pool.{recordOf};
 ghost use Rattle.votes.specs.Tables.{Tables, Verdicts};
-ghost use Rattle.sealing.specs.Memos.{Memos, Choices, Agreements};
+ghost use Rattle.sealing.specs.Memos.{Memos, Choices, Agreements, Tops};
+ghost use Rattle.sealing.specs.Rows.{Indexed, Indexes};
 use crate::cycle;
+use crate::cycle::MEMO;
 use crate::rows;
+use crate::rows::INDEX;
 use pool::POOL_WORDS;
 
 // A verdict as it is kept: 1 for yes, 2 for no.
@@ -21,6 +24,14 @@ fn mark(yes: bool) -> u8
     2
 }
 
+// How many verdicts there is room for: a proof that one was written asks for it.
+fn room(m: &[u8; 512]) -> usize
+    ensures { λ r. ⌜ length (now (m .entry)) ≡ 512 ⌝ }
+{
+    let s = &m[..];
+    s.len()
+}
+
 // The verdict on each choice, into `out`.
 fn choices(
     words: &[u64; POOL_WORDS],
@@ -29,16 +40,16 @@ fn choices(
     init: u32,
     chosen: &[u64; 512],
     nc: usize,
+    ci: &[u16; INDEX],
     agreed: &[u64; 512],
     entry: &[u16; 512],
     na: usize,
-    mc: &mut [u8; 512],
-    ma: &mut [u8; 512],
-    hint: &mut [u16; 1024],
+    ai: &[u16; INDEX],
+    memo: &mut [u8; MEMO],
     out: &mut [u8; 512],
 )
-    requires { ⌜ Tables (now words) (now ids) len init (now chosen) nc (now agreed) (now entry) na × Memos (now words) (now ids) len init (now chosen) (now agreed) (now entry) (now mc) (now ma) × (length (now out) ≡ 512) ⌝ }
-    ensures { λ r. ⌜ Choices (now (words .entry)) (now (ids .entry)) len init (now (chosen .entry)) nc (now (out .exit)) × Memos (now (words .entry)) (now (ids .entry)) len init (now (chosen .entry)) (now (agreed .entry)) (now (entry .entry)) (now (mc .exit)) (now (ma .exit)) ⌝ }
+    requires { ⌜ Tables (now words) (now ids) len init (now chosen) nc (now agreed) (now entry) na × Indexes (now chosen) nc (now ci) (now agreed) na (now ai) × Memos (now words) (now ids) len init (now chosen) (now agreed) (now entry) (now memo) × (length (now out) ≡ 512) ⌝ }
+    ensures { λ r. ⌜ Choices (now (words .entry)) (now (ids .entry)) len init (now (chosen .entry)) nc (now (out .exit)) × Memos (now (words .entry)) (now (ids .entry)) len init (now (chosen .entry)) (now (agreed .entry)) (now (entry .entry)) (now (memo .exit)) ⌝ }
 {
     let mut c = 0usize;
     while c < nc {
@@ -51,12 +62,12 @@ fn choices(
             init,
             chosen,
             nc,
+            ci,
             agreed,
             entry,
             na,
-            mc,
-            ma,
-            hint,
+            ai,
+            memo,
             v,
         );
         out[c] = mark(yes);
@@ -72,16 +83,16 @@ fn agreements(
     init: u32,
     chosen: &[u64; 512],
     nc: usize,
+    ci: &[u16; INDEX],
     agreed: &[u64; 512],
     entry: &[u16; 512],
     na: usize,
-    mc: &mut [u8; 512],
-    ma: &mut [u8; 512],
-    hint: &mut [u16; 1024],
+    ai: &[u16; INDEX],
+    memo: &mut [u8; MEMO],
     out: &mut [u8; 512],
 )
-    requires { ⌜ Tables (now words) (now ids) len init (now chosen) nc (now agreed) (now entry) na × Memos (now words) (now ids) len init (now chosen) (now agreed) (now entry) (now mc) (now ma) × (length (now out) ≡ 512) ⌝ }
-    ensures { λ r. ⌜ Agreements (now (words .entry)) (now (ids .entry)) len init (now (agreed .entry)) (now (entry .entry)) na (now (out .exit)) ⌝ }
+    requires { ⌜ Tables (now words) (now ids) len init (now chosen) nc (now agreed) (now entry) na × Indexes (now chosen) nc (now ci) (now agreed) na (now ai) × Memos (now words) (now ids) len init (now chosen) (now agreed) (now entry) (now memo) × (length (now out) ≡ 512) ⌝ }
+    ensures { λ r. ⌜ Agreements (now (words .entry)) (now (ids .entry)) len init (now (agreed .entry)) (now (entry .entry)) na (now (out .exit)) × Memos (now (words .entry)) (now (ids .entry)) len init (now (chosen .entry)) (now (agreed .entry)) (now (entry .entry)) (now (memo .exit)) ⌝ }
 {
     let mut a = 0usize;
     while a < na {
@@ -92,12 +103,12 @@ fn agreements(
             init,
             chosen,
             nc,
+            ci,
             agreed,
             entry,
             na,
-            mc,
-            ma,
-            hint,
+            ai,
+            memo,
             a,
         );
         out[a] = mark(yes);
@@ -105,7 +116,102 @@ fn agreements(
     }
 }
 
-// All verdicts. What the memory held before does not matter.
+// The verdict on the top of each agreement, into `out`.
+fn tops(
+    words: &[u64; POOL_WORDS],
+    ids: &[u16; 512],
+    len: usize,
+    init: u32,
+    chosen: &[u64; 512],
+    nc: usize,
+    ci: &[u16; INDEX],
+    agreed: &[u64; 512],
+    entry: &[u16; 512],
+    na: usize,
+    ai: &[u16; INDEX],
+    memo: &mut [u8; MEMO],
+    out: &mut [u8; 512],
+)
+    requires { ⌜ Tables (now words) (now ids) len init (now chosen) nc (now agreed) (now entry) na × Indexes (now chosen) nc (now ci) (now agreed) na (now ai) × Memos (now words) (now ids) len init (now chosen) (now agreed) (now entry) (now memo) × (length (now out) ≡ 512) ⌝ }
+    ensures { λ r. ⌜ Tops (now (words .entry)) (now (ids .entry)) len init (now (agreed .entry)) na (now (out .exit)) ⌝ }
+{
+    let mut a = 0usize;
+    while a < na {
+        let x = agreed[a];
+        let t = rows::high_of(x);
+        let yes = cycle::top(
+            words,
+            ids,
+            len,
+            init,
+            chosen,
+            nc,
+            ci,
+            agreed,
+            entry,
+            na,
+            ai,
+            memo,
+            t,
+        );
+        out[a] = mark(yes);
+        a += 1;
+    }
+}
+
+// The verdicts on the agreements and on their tops.
+fn histories(
+    words: &[u64; POOL_WORDS],
+    ids: &[u16; 512],
+    len: usize,
+    init: u32,
+    chosen: &[u64; 512],
+    nc: usize,
+    ci: &[u16; INDEX],
+    agreed: &[u64; 512],
+    entry: &[u16; 512],
+    na: usize,
+    ai: &[u16; INDEX],
+    memo: &mut [u8; MEMO],
+    ma: &mut [u8; 512],
+    mt: &mut [u8; 512],
+)
+    requires { ⌜ Tables (now words) (now ids) len init (now chosen) nc (now agreed) (now entry) na × Indexes (now chosen) nc (now ci) (now agreed) na (now ai) × Memos (now words) (now ids) len init (now chosen) (now agreed) (now entry) (now memo) × (length (now ma) ≡ 512) × (length (now mt) ≡ 512) ⌝ }
+    ensures { λ r. ⌜ Agreements (now (words .entry)) (now (ids .entry)) len init (now (agreed .entry)) (now (entry .entry)) na (now (ma .exit)) × Tops (now (words .entry)) (now (ids .entry)) len init (now (agreed .entry)) na (now (mt .exit)) ⌝ }
+{
+    agreements(
+        words,
+        ids,
+        len,
+        init,
+        chosen,
+        nc,
+        ci,
+        agreed,
+        entry,
+        na,
+        ai,
+        memo,
+        ma,
+    );
+    tops(
+        words,
+        ids,
+        len,
+        init,
+        chosen,
+        nc,
+        ci,
+        agreed,
+        entry,
+        na,
+        ai,
+        memo,
+        mt,
+    );
+}
+
+// All verdicts, and the index of the agreements. What the memory held before does not matter.
 pub fn verdicts(
     words: &[u64; POOL_WORDS],
     ids: &[u16; 512],
@@ -116,17 +222,21 @@ pub fn verdicts(
     agreed: &[u64; 512],
     entry: &[u16; 512],
     na: usize,
+    ai: &mut [u16; INDEX],
     mc: &mut [u8; 512],
     ma: &mut [u8; 512],
+    mt: &mut [u8; 512],
 )
     requires { ⌜ Tables (now words) (now ids) len init (now chosen) nc (now agreed) (now entry) na ⌝ }
-    ensures { λ r. ⌜ Verdicts (now (words .entry)) (now (ids .entry)) len init (now (chosen .entry)) nc (now (agreed .entry)) (now (entry .entry)) na (now (mc .exit)) (now (ma .exit)) ⌝ }
+    ensures { λ r. ⌜ Verdicts (now (words .entry)) (now (ids .entry)) len init (now (chosen .entry)) nc (now (agreed .entry)) (now (entry .entry)) na (now (mc .exit)) (now (ma .exit)) × Tops (now (words .entry)) (now (ids .entry)) len init (now (agreed .entry)) na (now (mt .exit)) × Indexed (now (agreed .entry)) 0 na (now (ai .exit)) ⌝ }
 {
-    *mc = [0u8; 512];
-    *ma = [0u8; 512];
-    let mut kc = [0u8; 512];
-    let mut ka = [0u8; 512];
-    let mut hint = [0u16; 1024];
+    room(mc);
+    room(ma);
+    room(mt);
+    let mut ci = [0u16; INDEX];
+    rows::index_rows(chosen, nc, &mut ci);
+    rows::index_rows(agreed, na, ai);
+    let mut memo = [0u8; MEMO];
     choices(
         words,
         ids,
@@ -134,28 +244,29 @@ pub fn verdicts(
         init,
         chosen,
         nc,
+        &ci,
         agreed,
         entry,
         na,
-        &mut kc,
-        &mut ka,
-        &mut hint,
+        ai,
+        &mut memo,
         mc,
     );
-    agreements(
+    histories(
         words,
         ids,
         len,
         init,
         chosen,
         nc,
+        &ci,
         agreed,
         entry,
         na,
-        &mut kc,
-        &mut ka,
-        &mut hint,
+        ai,
+        &mut memo,
         ma,
+        mt,
     );
 }
 
@@ -170,22 +281,19 @@ pub fn is_sealed_top(
     agreed: &[u64; 512],
     entry: &[u16; 512],
     na: usize,
-    mc: &[u8; 512],
-    ma: &[u8; 512],
+    ai: &[u16; INDEX],
+    mt: &[u8; 512],
     t: u32,
 ) -> bool
-    requires { ⌜ Tables (now words) (now ids) len init (now chosen) nc (now agreed) (now entry) na × Verdicts (now words) (now ids) len init (now chosen) nc (now agreed) (now entry) na (now mc) (now ma) ⌝ }
+    requires { ⌜ Tables (now words) (now ids) len init (now chosen) nc (now agreed) (now entry) na × Tops (now words) (now ids) len init (now agreed) na (now mt) × Indexed (now agreed) 0 na (now ai) ⌝ }
     ensures { λ r. ⌜ r ≡ isTop (ring init) (recordOf (now (words .entry)) (now (ids .entry)) len) (viewOf t) ⌝ }
 {
     if t == init {
         return true;
     }
-    let mut a = rows::next(agreed, na, t, 0);
-    while a < na {
-        if ma[a] == 1 {
-            return true;
-        }
-        a = rows::next(agreed, na, t, a + 1);
+    let a = rows::first(agreed, na, ai, t);
+    if a == na {
+        return false;
     }
-    false
+    mt[a] == 1
 }

@@ -10,10 +10,10 @@ use Rattle.evidence.proofs.reports.reporters.Statement.{statement}
 use Rattle.evidence.proofs.reports.reporters.Tie as tie
 
 abbrev Inv-loop : tie.InvT-loop
-Inv-loop words ids len init sender e two u end seen₀ i₀ seen i = (i ≤ end) × IsSet seen (signs (isCountedOn (ring init) sender (recordOf words ids len) (viewOf u)) (recordOf words ids i))
+Inv-loop words ids len init sender e prepared np u end seen₀ i₀ seen i = (i ≤ end) × IsSet seen (signs (isCountedOn (ring init) sender (recordOf words ids len) (viewOf u)) (recordOf words ids i))
 
 abbrev μ-loop : tie.MeasureT-loop
-μ-loop words ids len init sender e two u end seen₀ i₀ seen i = end - i
+μ-loop words ids len init sender e prepared np u end seen₀ i₀ seen i = end - i
 
 pub reporters-spec : {M : Type 1} → statement M
 reporters-spec =

@@ -1,3 +1,4 @@
+use native.Mathlib.Omega.{arith}
 use Rattle.votes.proofs.Tabled.{tables-are}
 use borrow.Author.Needs.{needs}
 use Rattle.evidence.proofs.whole.of_record.Statement.{statement}
@@ -11,6 +12,5 @@ of-record-spec =
     (λ c κs. search needs)
     (λ c κs. search needs)
     (λ c κs. search needs)
-    (λ c κs. tables-are _ _ _ _ _ _ _ (c .before .before .before .before .before .before .before .before .before .before .before .before .before .before .gather .ensures) _ _ _ _ _ (c .before .before .before .before .before .before .before .before .before .before .before .before .before .before .before .before .before .before .fits .init .fits) (c .before .before .before .before .before .before .before .before .before .before .choices .ensures) (c .before .before .before .before .before .agreements .ensures))
-    (λ c κs. (c .before .before .before .before .before .before .before .before .before .before .before .before .before .before .before .before .before .before .before .before .before .before .before .before .before .wished-view .ensures, c .before .before .before .before .before .before .before .before .before .before .before .before .before .before .before .before .before .before .before .before .before .before .gather .ensures, tables-are _ _ _ _ _ _ _ (c .before .before .before .before .before .before .before .before .before .before .before .before .before .before .before .before .before .before .before .before .before .before .gather .ensures) _ _ _ _ _ (c .before .before .before .before .before .before .before .before .before .before .before .before .before .before .before .before .before .before .before .before .before .before .before .before .before .before .fits .init .fits) (c .before .before .before .before .before .before .before .before .before .before .before .before .before .before .before .before .before .before .choices .ensures) (c .before .before .before .before .before .before .before .before .before .before .before .before .before .agreements .ensures), c .before .before .before .before .before .before .before .verdicts .ensures))
+    (λ c κs. (c .before .before .before .before .before .before .before .before .before .before .before .before .before .before .before .before .before .wished-view .ensures, tables-are _ _ _ _ _ _ _ (c .before .before .before .before .before .before .before .before .before .before .before .before .before .before .gather .ensures) _ _ _ _ _ (c .before .before .before .before .before .before .before .before .before .before .before .before .before .before .before .before .before .before .fits .init .fits) (c .before .before .before .before .before .before .before .before .before .before .choices .ensures) (c .before .before .before .before .before .agreements .ensures), c .before .before .before .before .before .before .before .before .before .before .before .before .before .before .gather .ensures))
     (λ c. search needs))

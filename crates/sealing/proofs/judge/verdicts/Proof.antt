@@ -1,8 +1,18 @@
-use lib.ListN.{length-replicate}
-use Prim.Native.Nat.{ℕ}
+use native.Mathlib.Omega.{arith}
 use Rattle.sealing.proofs.Judged.{memos-first, verdicts-of}
+use borrow.Author.Needs.{needs}
 use Rattle.sealing.proofs.judge.verdicts.Statement.{statement}
 use Rattle.sealing.proofs.judge.verdicts.Tie as tie
 
 pub verdicts-spec : {M : Type 1} → statement M
-verdicts-spec = tie.close (tie.spec (λ c κs. (c .before .before .before .before .before .before .pre, memos-first 512, length-replicate {A = ℕ} 512 0)) (λ c κs. (c .before .before .before .before .before .before .before .before .before .before .before .pre, c .before .before .before .before .choices .ensures .1, length-replicate {A = ℕ} 512 0)) (λ c. verdicts-of (c .before .before .before .before .before .choices .ensures .0) (c .agreements .ensures)))
+verdicts-spec =
+    tie.close
+    (tie.spec
+    (λ c κs. search needs)
+    (λ c κs. search needs)
+    (λ c κs. search needs)
+    (λ c κs. c .before .before .before .before .before .before .before .pre .choices)
+    (λ c κs. c .before .before .before .before .before .before .before .before .before .pre .agreements)
+    (λ c κs. (c .before .before .before .before .before .before .before .before .before .before .before .before .before .before .pre, record { choices = c .before .before .before .before .before .before .index-rows .ensures; agreements = c .before .before .before .before .index-rows2 .ensures }, memos-first 1536, c .before .before .before .before .before .before .before .before .before .before .before .before .room .ensures))
+    (λ c κs. (c .before .before .before .before .before .before .before .before .before .before .before .before .before .before .before .before .before .before .before .before .pre, record { choices = c .before .before .before .before .before .before .before .before .before .before .before .before .index-rows .ensures; agreements = c .before .before .before .before .before .before .before .before .before .before .index-rows2 .ensures }, c .before .before .before .before .before .choices .ensures .1, c .before .before .before .before .before .before .before .before .before .before .before .before .before .before .before .before .room2 .ensures, c .before .before .before .before .before .before .before .before .before .before .before .before .before .before .room3 .ensures))
+    (λ c. (verdicts-of (c .before .before .before .before .before .before .choices .ensures .0) (c .histories .ensures .0), c .histories .ensures .1, c .before .before .before .before .before .before .before .before .before .before .before .index-rows2 .ensures)))

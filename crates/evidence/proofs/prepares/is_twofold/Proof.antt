@@ -1,0 +1,28 @@
+use native.Mathlib.Omega.{arith}
+use Prim.Native.Nat.{_-_, _≤_}
+use Rattle.evidence.proofs.Payloads as laws
+use borrow.Author.Needs.{needs}
+use Rattle.evidence.proofs.prepares.is_twofold.Statement.{statement}
+use Rattle.evidence.proofs.prepares.is_twofold.Tie as tie
+
+abbrev Inv-loop : tie.InvT-loop
+Inv-loop prepared n m i₀ i = (i ≤ n) × laws.Onefold prepared i
+
+abbrev μ-loop : tie.MeasureT-loop
+μ-loop prepared n m i₀ i = n - i
+
+pub is-twofold-spec : {M : Type 1} → statement M
+is-twofold-spec =
+    tie.close
+    (tie.spec
+    Inv-loop
+    μ-loop
+    (λ c. search needs)
+    (λ c. (omega arith, laws.onefold-first _))
+    (λ c. search needs)
+    (λ c. search needs)
+    (λ c. laws.twofold-found _ _ (c .before .before .loop-test .taken) (c .if1 .taken))
+    (λ c. search needs)
+    (λ c. search needs)
+    (λ c. (omega arith, laws.onefold-next _ (c .if1 .left) (c .before .before .before .loop .inv .1)))
+    (λ c. laws.twofold-none _ _ (omega arith) (c .before .loop .inv .1)))

@@ -1,0 +1,31 @@
+use native.Mathlib.Omega.{arith}
+use Prim.Native.Nat.{_-_, _≤_}
+use Rattle.sealing.specs.Memos.{Memos, Tops}
+use Rattle.sealing.proofs.Judged.{tops-first, tops-next, tops-all}
+use borrow.Author.Needs.{needs}
+use Rattle.sealing.proofs.judge.tops.Statement.{statement}
+use Rattle.sealing.proofs.judge.tops.Tie as tie
+
+abbrev Inv-loop : tie.InvT-loop
+Inv-loop words ids len init chosen nc ci agreed entry na ai memo₀ out₀ a₀ memo out a = (a ≤ na) × Memos words ids len init chosen agreed entry memo × Tops words ids len init agreed a out
+
+abbrev μ-loop : tie.MeasureT-loop
+μ-loop words ids len init chosen nc ci agreed entry na ai memo₀ out₀ a₀ memo out a = na - a
+
+pub tops-spec : {M : Type 1} → statement M
+tops-spec =
+    tie.close
+    (tie.spec
+    Inv-loop
+    μ-loop
+    (λ c. (omega arith, c .pre .2, tops-first (c .pre .3)))
+    (λ c. omega (arith, c .before .before .pre .0 .agreements))
+    (λ c. omega (arith, c .before .before .pre .0 .agreements))
+    (λ c κs. search needs)
+    (λ c κs. (c .before .before .before .before .before .pre .0, c .before .before .before .before .before .pre .1, c .before .before .before .before .loop .inv .1))
+    (λ c κs. search needs)
+    (λ c. omega (arith, c .before .before .before .before .before .loop-test .taken, c .before .before .before .before .before .before .before .pre .0 .agreements))
+    (λ c. search needs)
+    (λ c. search needs)
+    (λ c. (omega arith, c .before .top .ensures .1, tops-next _ (c .before .before .before .before .before .before .loop .inv .2) (omega (arith, c .before .before .before .before .before .loop-test .taken, c .before .before .before .before .before .before .before .pre .0 .agreements)) (c .before .before .before .high-of .ensures) (c .before .top .ensures .0) (c .mark .ensures)))
+    (λ c. tops-all (c .before .loop .inv .2) (c .loop-test .left)))
