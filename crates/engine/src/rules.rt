@@ -7,7 +7,6 @@ ghost use Prim.Native.Nat.{_≤_, _<_};
 ghost use Rattle.protocol.specs.Sets.{bit};
 ghost use Rattle.protocol.specs.Lists.{any, all, find};
 ghost use Rattle.protocol.specs.View.{member};
-ghost use Rattle.protocol.specs.Statement.{sameStmt};
 ghost use Rattle.protocol.specs.Turn as turn;
 ghost use Rattle.views.specs.View.{viewOf, ring};
 ghost use Rattle.views.specs.Held.{viewIs, viewsIs};
@@ -116,21 +115,6 @@ fn signed_at(
     false
 }
 
-// Whether the record has the statement st.
-fn has_signed(words: &[u64; POOL_WORDS], ids: &[u16; 512], len: usize, st: Statement) -> bool
-    ensures { λ r. ⌜ r ≡ any (sameStmt (stmtOf st)) (recordOf (now (words .entry)) (now (ids .entry)) len) ⌝ }
-{
-    let end = pool::limit(len);
-    let mut i = 0usize;
-    while i < end {
-        if pool::same_at(words, ids[i], st) {
-            return true;
-        }
-        i += 1;
-    }
-    false
-}
-
 // The payload of the sender's first prepare in the record.
 fn first_prepare(words: &[u64; POOL_WORDS], ids: &[u16; 512], len: usize, sender: u8) -> Send
     ensures { λ r. ⌜ sendIs r ≡ firstPrepare sender (recordOf (now (words .entry)) (now (ids .entry)) len) ⌝ }
@@ -202,7 +186,7 @@ pub fn rule3(words: &[u64; POOL_WORDS], ids: &[u16; 512], len: usize, s: Sight) 
         return rest();
     }
     let st = statements::agree_view(s.number, t, w);
-    if has_signed(words, ids, len, st) {
+    if pool::holds(words, ids, len, st) {
         return rest();
     }
     sign(st)
@@ -359,7 +343,7 @@ pub fn rule4(words: &[u64; POOL_WORDS], ids: &[u16; 512], len: usize, s: Sight) 
         return rest();
     }
     let st = statements::agree_history(s.number, t, history_of(a, n));
-    if has_signed(words, ids, len, st) {
+    if pool::holds(words, ids, len, st) {
         return rest();
     }
     sign(st)
@@ -459,7 +443,7 @@ pub fn rule8(words: &[u64; POOL_WORDS], ids: &[u16; 512], len: usize, s: Sight) 
         return rest();
     }
     let st = statements::join(s.number);
-    if has_signed(words, ids, len, st) {
+    if pool::holds(words, ids, len, st) {
         return rest();
     }
     sign(st)
@@ -486,7 +470,7 @@ pub fn rule9(words: &[u64; POOL_WORDS], ids: &[u16; 512], len: usize, s: Sight) 
         return rest();
     }
     let st = statements::leave(s.number);
-    if has_signed(words, ids, len, st) {
+    if pool::holds(words, ids, len, st) {
         return rest();
     }
     if !may_leave(words, ids, len, s) {
@@ -506,11 +490,11 @@ pub fn rule10(words: &[u64; POOL_WORDS], ids: &[u16; 512], len: usize, s: Sight)
     if !s.stands {
         return rest();
     }
-    if has_signed(words, ids, len, statements::leave(s.number)) {
+    if pool::holds(words, ids, len, statements::leave(s.number)) {
         return rest();
     }
     let st = statements::prepare(s.number, m);
-    if has_signed(words, ids, len, st) {
+    if pool::holds(words, ids, len, st) {
         return rest();
     }
     sign(st)

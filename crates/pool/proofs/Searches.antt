@@ -1,35 +1,35 @@
 -- Laws of comparing, finding and appending statements, and of what stays as it was.
 -- Assumes nothing.
-use mathlib.Core.Path.{_≡_, refl, sym, subst, ap, ap₂, _∙_}
+use mathlib.Core.Path.{_≡_, refl, sym, ap, ap₂, _∙_}
 use mathlib.Core.Logic.{_⊎_, inl, inr}
-use mathlib.Core.Bool.{Bool, true, false, not, _&&_, _||_, true≢false, false≢true}
+use mathlib.Core.Bool.{Bool, true, false, not, _&&_, _||_}
 use mathlib.Core.List.{List, [], _∷_, _++_}
 use mathlib.Core.Option.{Option, some, none}
-use Prim.Native.Nat.{ℕ, zero, suc, _+_, _*_, _%_, _≤_, _<_, min}
+use Prim.Native.Nat.{ℕ, zero, suc, _+_, _*_, _/_, _%_, _≤_, _<_, min}
 use native.Mathlib.Decide.{decLt}
 use native.Mathlib.Numerals.{add-one}
 use native.Mathlib.Omega.{arith}
-use lib.Dec.{T, eqb, ltb}
+use lib.Dec.{ltb}
 use lib.ListN.{length, getD, set}
 use lib.Seq.{getD-set-same, getD-set-other}
 use borrow.Author.Tests.{lt-ltb, le-ltb}
 use Rattle.protocol.specs.Lists.{if_then_else_, any, find}
 use Rattle.protocol.specs.History.{sameViews}
 use Rattle.protocol.specs.Statement.{Stmt, sameStmt}
-use Rattle.protocol.proofs.Says.{Says, says-map, says-unique, says-and, says-eqb}
-use Rattle.protocol.proofs.Decided.{says-same, says-sames}
+use Rattle.protocol.proofs.Says.{Says, says-map, says-unique}
+use Rattle.protocol.proofs.Decided.{says-sames}
 use Rattle.protocol.proofs.Asked.{says-same-stmt}
 use Rattle.views.specs.Table.{table}
 use Rattle.views.specs.View.{viewOf}
 use Rattle.views.proofs.Tables.{table-cong, any-more, any-zero}
-use Rattle.views.proofs.Views.{fails, view-inj}
+use Rattle.views.proofs.Views.{fails}
 use Rattle.statements.specs.declared.Statement.{Statement}
 use Rattle.statements.specs.Meaning.{stmtOf}
 use Rattle.pool.specs.declared.Found.the-variants as found
 use Rattle.pool.specs.declared.Placed.the-variants as placed
 use Rattle.pool.specs.declared.Record.{Record}
 use Rattle.pool.specs.Pool.{word, countOf, viewAt, stmtAt, poolLen, poolOf, recordOf}
-use Rattle.pool.specs.Changes.{sameHead, Put, numberOf, foundOf, placedAt, Grown, Appended, Pushed}
+use Rattle.pool.specs.Changes.{headOf, Put, numberOf, foundOf, placedAt, Grown, Appended, Pushed}
 use Rattle.pool.proofs.Records.{entry, whole}
 use Rattle.pool.proofs.Writes.{stmts}
 
@@ -39,31 +39,17 @@ use Rattle.pool.proofs.Writes.{stmts}
 pub differs : {A : Type 0} (g : Stmt → A) (a b : Stmt) → (g a ≡ g b → ⊥) → false ≡ sameStmt a b
 differs g a b d = sym (fails says-same-stmt (λ e. d (ap g e)))
 
-says-head : (a b : Stmt) → Says (sameHead a b) ((a .kind ≡ b .kind) × (a .origin ≡ b .origin) × (a .at ≡ b .at))
-unfolding sameHead
-says-head a b = says-map (λ ((k, o), t). (k, o, t)) (λ (k, o, t). ((k, o), t)) (says-and (says-and says-eqb says-eqb) says-same)
+-- the head of a statement whose view is that of the word t
+pub head-is : (s : Stmt) (k o t : ℕ) → k ≡ s .kind → o ≡ s .origin → t < 4294967296 → viewOf t ≡ s .at → k + o * 256 + t * 65536 ≡ headOf s
+unfolding headOf viewOf
+head-is s k o t e f l g =
+    let j : t % 65536 ≡ s .at .joined = ap (λ v. v .joined) g in
+    let h : t / 65536 % 65536 ≡ s .at .left = ap (λ v. v .left) g in
+    omega arith
 
 -- they differ if their heads do
-pub heads-differ : (a b : Stmt) (r : Bool) → r ≡ sameHead a b → not r ≡ true → false ≡ sameStmt a b
-heads-differ a b true e f = absurd (false≢true f)
-heads-differ a b false e f = differs (λ s. s) a b (λ q. subst T (sym e) (says-head a b .complete (ap (λ s. s .kind) q, ap (λ s. s .origin) q, ap (λ s. s .at) q)))
-
-pub heads-same : (a b : Stmt) (r : Bool) → r ≡ sameHead a b → not r ≡ false → (a .kind ≡ b .kind) × (a .origin ≡ b .origin) × (a .at ≡ b .at)
-heads-same a b true e f = says-head a b .sound (subst T e tt)
-heads-same a b false e f = absurd (true≢false f)
-
--- three fields in one number
-pub head-key : (a b : Stmt) (k o t l p u : ℕ) → k < 256 → o < 256 → l < 256 → p < 256 → t < 4294967296 → u < 4294967296 → a .kind ≡ k → a .origin ≡ o → viewOf t ≡ a .at → b .kind ≡ l → b .origin ≡ p → viewOf u ≡ b .at
-    → eqb (k + o * 256 + t * 65536) (l + p * 256 + u * 65536) ≡ sameHead a b
-head-key a b k o t l p u h1 h2 h3 h4 h5 h6 e1 e2 e3 e4 e5 e6 =
-    says-unique (says-eqb {m = k + o * 256 + t * 65536} {n = l + p * 256 + u * 65536})
-    (says-map (λ (x, y, z). back x y (view-inj t u h5 h6 (e3 ∙ z ∙ sym e6))) (λ q. (omega arith, omega arith, sym e3 ∙ ap viewOf (tops q) ∙ e6)) (says-head a b))
-  where
-    tops : k + o * 256 + t * 65536 ≡ l + p * 256 + u * 65536 → t ≡ u
-    tops q = omega arith
-
-    back : a .kind ≡ b .kind → a .origin ≡ b .origin → t ≡ u → k + o * 256 + t * 65536 ≡ l + p * 256 + u * 65536
-    back x y z = omega arith
+pub heads-differ : (a b : Stmt) (x y : ℕ) → x ≡ headOf b → y ≡ headOf a → (x ≡ y → ⊥) → sameStmt a b ≡ false
+heads-differ a b x y e f d = sym (differs headOf a b (λ q. d (e ∙ sym q ∙ sym f)))
 
 -- where all else is the same, the views tell
 pub views-tell : (a b : Stmt) (r : Bool) → a .kind ≡ b .kind → a .origin ≡ b .origin → a .at ≡ b .at → a .view ≡ b .view → a .binding ≡ b .binding → a .payload ≡ b .payload → a .stored ≡ b .stored → a .kept ≡ b .kept

@@ -3,14 +3,12 @@
 -- Assumes nothing.
 use mathlib.Core.Path.{_≡_}
 use mathlib.Core.Logic.{_⊎_}
-use mathlib.Core.Bool.{Bool, _&&_}
 use mathlib.Core.List.{List, _∷_, [], _++_}
 use mathlib.Core.Option.{Option, some, none}
 use Prim.Native.Nat.{ℕ, _+_, _*_, _≤_, _<_, min}
-use lib.Dec.{eqb, ltb}
+use lib.Dec.{ltb}
 use lib.ListN.{length, getD}
 use Rattle.protocol.specs.Lists.{if_then_else_, find}
-use Rattle.protocol.specs.View.{sameView}
 use Rattle.protocol.specs.Statement.{Stmt, sameStmt}
 use Rattle.views.specs.declared.History.{History}
 use Rattle.views.specs.Held.{heldAt}
@@ -37,9 +35,9 @@ pub record Put (W W′ : List ℕ) (n : ℕ) (st : Statement) : Type 0 where
   pub there : st .history .len ≤ 16 → stmtAt W′ n ≡ stmtOf st
   pub others : (i : ℕ) → (i < min n 511 * 32) ⊎ (min n 511 * 32 + 32 ≤ i) → getD W′ i 0 ≡ getD W i 0
 
--- Two statements of one kind and origin, at the same view.
-unfoldable pub sameHead : Stmt → Stmt → Bool
-sameHead a b = eqb (a .kind) (b .kind) && eqb (a .origin) (b .origin) && sameView (a .at) (b .at)
+-- Kind, origin and at of a statement in one number.
+unfoldable pub headOf : Stmt → ℕ
+headOf s = s .kind + s .origin * 256 + (s .at .joined + s .at .left * 65536) * 65536
 
 -- The first number of the pool whose statement is s.
 unfoldable pub numberOf : List ℕ → Stmt → Option ℕ

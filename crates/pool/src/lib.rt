@@ -10,6 +10,7 @@ pub use compare::is_history;
 pub use compare::is_start;
 pub use compare::same_views;
 pub use compare::top_view;
+pub use listed::holds;
 pub use listed::push;
 pub use listed::record_has;
 pub use read::at;

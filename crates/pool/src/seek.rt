@@ -4,7 +4,7 @@ ghost use Rattle.protocol.specs.History.{sameViews};
 ghost use Rattle.protocol.specs.Statement.{sameStmt};
 ghost use Rattle.statements.specs.Meaning.{firstViews, stmtOf};
 ghost use Rattle.pool.specs.Pool.{stmtAt};
-ghost use Rattle.pool.specs.Changes.{sameHead, foundOf, numberOf, Appended};
+ghost use Rattle.pool.specs.Changes.{headOf, foundOf, numberOf, Appended};
 use crate::Found;
 use crate::POOL_WORDS;
 use crate::Placed;
@@ -33,23 +33,26 @@ fn same_history(words: &[u64; POOL_WORDS], n: u16, h: History) -> bool
     true
 }
 
-// Whether kind, origin and at of statement n are those of st. One comparison for all: of three, the first would often be guessed wrong.
-fn same_head(words: &[u64; POOL_WORDS], n: u16, st: Statement) -> bool
-    ensures { λ r. ⌜ r ≡ sameHead (stmtOf st) (stmtAt (now (words .entry)) n) ⌝ }
+// Kind, origin and at of st in one number.
+pub fn head_of(st: Statement) -> u64
+    ensures { λ r. ⌜ r ≡ headOf (stmtOf st) ⌝ }
 {
     let t = st.at;
-    let mine = st.kind as u64 + st.origin as u64 * 256 + t.word() as u64 * 65536;
-    let k = read::kind(words, n);
-    let o = read::origin(words, n);
-    let at = read::at(words, n);
-    mine == k + o * 256 + at as u64 * 65536
+    st.kind as u64 + st.origin as u64 * 256 + t.word() as u64 * 65536
 }
 
-// Whether statement n is st. Most statements differ in their heads.
+// Whether statement n is st.
 pub fn same_at(words: &[u64; POOL_WORDS], n: u16, st: Statement) -> bool
     ensures { λ r. ⌜ r ≡ sameStmt (stmtOf st) (stmtAt (now (words .entry)) n) ⌝ }
 {
-    if !same_head(words, n, st) {
+    if st.kind as u64 != read::kind(words, n) {
+        return false;
+    }
+    if st.origin as u64 != read::origin(words, n) {
+        return false;
+    }
+    let t = st.at;
+    if t.word() != read::at(words, n) {
         return false;
     }
     let v = st.view;
@@ -77,8 +80,13 @@ pub fn find(words: &[u64; POOL_WORDS], st: Statement) -> Found
     ensures { λ r. ⌜ r ≡ foundOf (numberOf (now (words .entry)) (stmtOf st)) ⌝ }
 {
     let end = read::pool_len(words);
+    let key = head_of(st);
     let mut i = 0usize;
     while i < end {
+        if read::head(words, i as u16) != key {
+            i += 1;
+            continue;
+        }
         if same_at(words, i as u16, st) {
             return Found::At(i as u16);
         }

@@ -7,7 +7,7 @@ use Rattle.engine.proofs.rules.rule10.Statement.{statement}
 use Rattle.engine.proofs.rules.rule10.Tie as tie
 use Rattle.engine.proofs.rules.rule10.Reads as reads
 use Rattle.engine.proofs.rules.rule10.Lts as lts
-use Rattle.engine.proofs.rules.has_signed.Reads as has-signed-reads
+use Rattle.pool.proofs.holds.Reads as holds-reads
 use Rattle.engine.proofs.rules.rest.Reads as rest-reads
 use Rattle.engine.proofs.rules.sign.Reads as sign-reads
 use Rattle.statements.proofs.leave.Reads as leave-reads
@@ -42,8 +42,8 @@ leave-requires : tie.Need-leave-requires
 leave-requires c κs = search needs
 
 -- src/rules.rt:483:8
-has-signed-requires : tie.Need-has-signed-requires
-has-signed-requires c κs = search needs
+holds-requires : tie.Need-holds-requires
+holds-requires c κs = search needs
 
 -- src/rules.rt:484:9
 rest-requires-3 : tie.Need-rest-requires-3
@@ -51,15 +51,15 @@ rest-requires-3 c κs = search needs
 
 -- src/rules.rt:484:9
 returns-3 : tie.Need-returns-3
-returns-3 c = does (tenth _ _ _ (c .before .before .before .before .before .before .before .sending .given .1)) (go _ _ _ _ (not-false _ (c .before .before .before .before .if1 .left)) (stop _ _ _ (signed-before _ _ (c .before .before .before .leave .ensures) (c .before .before .has-signed .ensures) (c .before .if2 .taken)))) (c .rest3 .ensures)
+returns-3 c = does (tenth _ _ _ (c .before .before .before .before .before .before .before .sending .given .1)) (go _ _ _ _ (not-false _ (c .before .before .before .before .if1 .left)) (stop _ _ _ (signed-before _ _ (c .before .before .before .leave .ensures) (c .before .before .holds .ensures) (c .before .if2 .taken)))) (c .rest3 .ensures)
 
 -- src/rules.rt:486:9
 prepare-requires : tie.Need-prepare-requires
 prepare-requires c κs = search needs
 
 -- src/rules.rt:487:8
-has-signed-requires-2 : tie.Need-has-signed-requires-2
-has-signed-requires-2 c κs = search needs
+holds-requires-2 : tie.Need-holds-requires-2
+holds-requires-2 c κs = search needs
 
 -- src/rules.rt:488:9
 rest-requires-4 : tie.Need-rest-requires-4
@@ -67,7 +67,7 @@ rest-requires-4 c κs = search needs
 
 -- src/rules.rt:488:9
 returns-4 : tie.Need-returns-4
-returns-4 c = does (tenth _ _ _ (c .before .before .before .before .before .before .before .before .before .before .sending .given .1)) (go _ _ _ _ (not-false _ (c .before .before .before .before .before .before .before .if1 .left)) (go _ _ _ _ (not-signed _ _ (c .before .before .before .before .before .before .leave .ensures) (c .before .before .before .before .before .has-signed .ensures) (c .before .before .before .before .if2 .left)) (stop _ _ _ (signed-before _ _ (c .before .before .before .prepare .ensures) (c .before .before .has-signed2 .ensures) (c .before .if3 .taken))))) (c .rest4 .ensures)
+returns-4 c = does (tenth _ _ _ (c .before .before .before .before .before .before .before .before .before .before .sending .given .1)) (go _ _ _ _ (not-false _ (c .before .before .before .before .before .before .before .if1 .left)) (go _ _ _ _ (not-signed _ _ (c .before .before .before .before .before .before .leave .ensures) (c .before .before .before .before .before .holds .ensures) (c .before .before .before .before .if2 .left)) (stop _ _ _ (signed-before _ _ (c .before .before .before .prepare .ensures) (c .before .before .holds2 .ensures) (c .before .if3 .taken))))) (c .rest4 .ensures)
 
 -- src/rules.rt:490:5
 sign-requires : tie.Need-sign-requires
@@ -75,7 +75,7 @@ sign-requires c κs = c .before .before .prepare .ensures .short
 
 -- src/rules.rt:473:1
 returns-5 : tie.Need-returns-5
-returns-5 c = does (tenth _ _ _ (c .before .before .before .before .before .before .before .before .before .before .sending .given .1)) (go _ _ _ _ (not-false _ (c .before .before .before .before .before .before .before .if1 .left)) (go _ _ _ _ (not-signed _ _ (c .before .before .before .before .before .before .leave .ensures) (c .before .before .before .before .before .has-signed .ensures) (c .before .before .before .before .if2 .left)) (go _ _ _ _ (not-signed _ _ (c .before .before .before .prepare .ensures) (c .before .before .has-signed2 .ensures) (c .before .if3 .left)) (done _)))) (signs-made (c .before .before .before .prepare .ensures) (c .sign .ensures))
+returns-5 c = does (tenth _ _ _ (c .before .before .before .before .before .before .before .before .before .before .sending .given .1)) (go _ _ _ _ (not-false _ (c .before .before .before .before .before .before .before .if1 .left)) (go _ _ _ _ (not-signed _ _ (c .before .before .before .before .before .before .leave .ensures) (c .before .before .before .before .before .holds .ensures) (c .before .before .before .before .if2 .left)) (go _ _ _ _ (not-signed _ _ (c .before .before .before .prepare .ensures) (c .before .before .holds2 .ensures) (c .before .if3 .left)) (done _)))) (signs-made (c .before .before .before .prepare .ensures) (c .sign .ensures))
 
 pub rule10-spec : {M : Type 1} → statement M
 rule10-spec =
@@ -88,11 +88,11 @@ rule10-spec =
     rest-requires-2
     returns-2
     leave-requires
-    has-signed-requires
+    holds-requires
     rest-requires-3
     returns-3
     prepare-requires
-    has-signed-requires-2
+    holds-requires-2
     rest-requires-4
     returns-4
     sign-requires

@@ -8,7 +8,7 @@ use Rattle.engine.proofs.rules.rule3.Statement.{statement}
 use Rattle.engine.proofs.rules.rule3.Tie as tie
 use Rattle.engine.proofs.rules.rule3.Reads as reads
 use Rattle.engine.proofs.rules.rule3.Lts as lts
-use Rattle.engine.proofs.rules.has_signed.Reads as has-signed-reads
+use Rattle.pool.proofs.holds.Reads as holds-reads
 use Rattle.engine.proofs.rules.rest.Reads as rest-reads
 use Rattle.engine.proofs.rules.sign.Reads as sign-reads
 use Rattle.statements.proofs.agree_view.Reads as agree-view-reads
@@ -52,8 +52,8 @@ agree-view-requires : tie.Need-agree-view-requires
 agree-view-requires c κs = search needs
 
 -- src/rules.rt:206:8
-has-signed-requires : tie.Need-has-signed-requires
-has-signed-requires c κs = search needs
+holds-requires : tie.Need-holds-requires
+holds-requires c κs = search needs
 
 -- src/rules.rt:207:9
 rest-requires-4 : tie.Need-rest-requires-4
@@ -61,7 +61,7 @@ rest-requires-4 c κs = search needs
 
 -- src/rules.rt:207:9
 returns-4 : tie.Need-returns-4
-returns-4 c = does (third _ _) (go _ _ _ _ (not-false _ (c .before .before .before .before .before .before .before .before .before .before .if1 .left)) (go _ _ _ _ (sym (c .before .before .before .before .before .before .before .has-members .ensures) ∙ not-false _ (c .before .before .before .before .before .before .if2 .left)) (go _ _ _ _ (ap not (sym (c .before .before .before .before .before .same .ensures) ∙ c .before .before .before .before .if3 .left)) (stop _ _ _ (signed-before _ _ (c .before .before .before .agree-view .ensures) (c .before .before .has-signed .ensures) (c .before .if4 .taken)))))) (c .rest4 .ensures)
+returns-4 c = does (third _ _) (go _ _ _ _ (not-false _ (c .before .before .before .before .before .before .before .before .before .before .if1 .left)) (go _ _ _ _ (sym (c .before .before .before .before .before .before .before .has-members .ensures) ∙ not-false _ (c .before .before .before .before .before .before .if2 .left)) (go _ _ _ _ (ap not (sym (c .before .before .before .before .before .same .ensures) ∙ c .before .before .before .before .if3 .left)) (stop _ _ _ (signed-before _ _ (c .before .before .before .agree-view .ensures) (c .before .before .holds .ensures) (c .before .if4 .taken)))))) (c .rest4 .ensures)
 
 -- src/rules.rt:209:5
 sign-requires : tie.Need-sign-requires
@@ -69,7 +69,7 @@ sign-requires c κs = search needs
 
 -- src/rules.rt:191:1
 returns-5 : tie.Need-returns-5
-returns-5 c = does (third _ _) (go _ _ _ _ (not-false _ (c .before .before .before .before .before .before .before .before .before .before .if1 .left)) (go _ _ _ _ (sym (c .before .before .before .before .before .before .before .has-members .ensures) ∙ not-false _ (c .before .before .before .before .before .before .if2 .left)) (go _ _ _ _ (ap not (sym (c .before .before .before .before .before .same .ensures) ∙ c .before .before .before .before .if3 .left)) (go _ _ _ _ (not-signed _ _ (c .before .before .before .agree-view .ensures) (c .before .before .has-signed .ensures) (c .before .if4 .left)) (done _))))) (signs-made (c .before .before .before .agree-view .ensures) (c .sign .ensures))
+returns-5 c = does (third _ _) (go _ _ _ _ (not-false _ (c .before .before .before .before .before .before .before .before .before .before .if1 .left)) (go _ _ _ _ (sym (c .before .before .before .before .before .before .before .has-members .ensures) ∙ not-false _ (c .before .before .before .before .before .before .if2 .left)) (go _ _ _ _ (ap not (sym (c .before .before .before .before .before .same .ensures) ∙ c .before .before .before .before .if3 .left)) (go _ _ _ _ (not-signed _ _ (c .before .before .before .agree-view .ensures) (c .before .before .holds .ensures) (c .before .if4 .left)) (done _))))) (signs-made (c .before .before .before .agree-view .ensures) (c .sign .ensures))
 
 pub rule3-spec : {M : Type 1} → statement M
 rule3-spec =
@@ -84,7 +84,7 @@ rule3-spec =
     rest-requires-3
     returns-3
     agree-view-requires
-    has-signed-requires
+    holds-requires
     rest-requires-4
     returns-4
     sign-requires

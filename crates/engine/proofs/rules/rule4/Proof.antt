@@ -7,7 +7,7 @@ use Rattle.engine.proofs.rules.rule4.Statement.{statement}
 use Rattle.engine.proofs.rules.rule4.Tie as tie
 use Rattle.engine.proofs.rules.rule4.Reads as reads
 use Rattle.engine.proofs.rules.rule4.Lts as lts
-use Rattle.engine.proofs.rules.has_signed.Reads as has-signed-reads
+use Rattle.pool.proofs.holds.Reads as holds-reads
 use Rattle.engine.proofs.rules.history_of.Reads as history-of-reads
 use Rattle.engine.proofs.rules.rest.Reads as rest-reads
 use Rattle.engine.proofs.rules.sign.Reads as sign-reads
@@ -60,8 +60,8 @@ agree-history-requires : tie.Need-agree-history-requires
 agree-history-requires c κs = c .history-of .ensures .1
 
 -- src/rules.rt:337:8
-has-signed-requires : tie.Need-has-signed-requires
-has-signed-requires c κs = search needs
+holds-requires : tie.Need-holds-requires
+holds-requires c κs = search needs
 
 -- src/rules.rt:338:9
 rest-requires-3 : tie.Need-rest-requires-3
@@ -69,7 +69,7 @@ rest-requires-3 c κs = search needs
 
 -- src/rules.rt:338:9
 returns-3 : tie.Need-returns-3
-returns-3 c = does (fourth _ _ (c .before .before .before .before .history-of .ensures .0) (c .before .before .before .before .before .before .before .before .before .before .before .before .pre .0)) (go _ _ _ _ (not-false _ (c .before .before .before .before .before .before .before .before .before .before .if1 .left)) (go _ _ _ _ (not-top _ _ (c .before .before .before .before .before .before .before .of-word .ensures) (c .before .before .before .before .before .before .same .ensures) (c .before .before .before .before .before .if2 .left)) (stop _ _ _ (signed-before _ _ (c .before .before .before .agree-history .ensures) (c .before .before .has-signed .ensures) (c .before .if3 .taken))))) (c .rest3 .ensures)
+returns-3 c = does (fourth _ _ (c .before .before .before .before .history-of .ensures .0) (c .before .before .before .before .before .before .before .before .before .before .before .before .pre .0)) (go _ _ _ _ (not-false _ (c .before .before .before .before .before .before .before .before .before .before .if1 .left)) (go _ _ _ _ (not-top _ _ (c .before .before .before .before .before .before .before .of-word .ensures) (c .before .before .before .before .before .before .same .ensures) (c .before .before .before .before .before .if2 .left)) (stop _ _ _ (signed-before _ _ (c .before .before .before .agree-history .ensures) (c .before .before .holds .ensures) (c .before .if3 .taken))))) (c .rest3 .ensures)
 
 -- src/rules.rt:340:5
 sign-requires : tie.Need-sign-requires
@@ -77,7 +77,7 @@ sign-requires c κs = c .before .before .agree-history .ensures .short
 
 -- src/rules.rt:322:1
 returns-4 : tie.Need-returns-4
-returns-4 c = does (fourth _ _ (c .before .before .before .before .history-of .ensures .0) (c .before .before .before .before .before .before .before .before .before .before .before .before .pre .0)) (go _ _ _ _ (not-false _ (c .before .before .before .before .before .before .before .before .before .before .if1 .left)) (go _ _ _ _ (not-top _ _ (c .before .before .before .before .before .before .before .of-word .ensures) (c .before .before .before .before .before .before .same .ensures) (c .before .before .before .before .before .if2 .left)) (go _ _ _ _ (not-signed _ _ (c .before .before .before .agree-history .ensures) (c .before .before .has-signed .ensures) (c .before .if3 .left)) (done _)))) (signs-made (c .before .before .before .agree-history .ensures) (c .sign .ensures))
+returns-4 c = does (fourth _ _ (c .before .before .before .before .history-of .ensures .0) (c .before .before .before .before .before .before .before .before .before .before .before .before .pre .0)) (go _ _ _ _ (not-false _ (c .before .before .before .before .before .before .before .before .before .before .if1 .left)) (go _ _ _ _ (not-top _ _ (c .before .before .before .before .before .before .before .of-word .ensures) (c .before .before .before .before .before .before .same .ensures) (c .before .before .before .before .before .if2 .left)) (go _ _ _ _ (not-signed _ _ (c .before .before .before .agree-history .ensures) (c .before .before .holds .ensures) (c .before .if3 .left)) (done _)))) (signs-made (c .before .before .before .agree-history .ensures) (c .sign .ensures))
 
 pub rule4-spec : {M : Type 1} → statement M
 rule4-spec =
@@ -94,7 +94,7 @@ rule4-spec =
     returns-2
     history-of-requires
     agree-history-requires
-    has-signed-requires
+    holds-requires
     rest-requires-3
     returns-3
     sign-requires

@@ -6,7 +6,7 @@ use Rattle.engine.proofs.rules.rule8.Statement.{statement}
 use Rattle.engine.proofs.rules.rule8.Tie as tie
 use Rattle.engine.proofs.rules.rule8.Reads as reads
 use Rattle.engine.proofs.rules.rule8.Lts as lts
-use Rattle.engine.proofs.rules.has_signed.Reads as has-signed-reads
+use Rattle.pool.proofs.holds.Reads as holds-reads
 use Rattle.engine.proofs.rules.rest.Reads as rest-reads
 use Rattle.engine.proofs.rules.sign.Reads as sign-reads
 use Rattle.statements.proofs.join.Reads as join-reads
@@ -24,8 +24,8 @@ join-requires : tie.Need-join-requires
 join-requires c κs = search needs
 
 -- src/rules.rt:436:8
-has-signed-requires : tie.Need-has-signed-requires
-has-signed-requires c κs = search needs
+holds-requires : tie.Need-holds-requires
+holds-requires c κs = search needs
 
 -- src/rules.rt:437:9
 rest-requires-2 : tie.Need-rest-requires-2
@@ -33,7 +33,7 @@ rest-requires-2 c κs = search needs
 
 -- src/rules.rt:437:9
 returns-2 : tie.Need-returns-2
-returns-2 c = does (eighth _ _) (go _ _ _ _ (not-false _ (c .before .before .before .before .if1 .left)) (stop _ _ _ (signed-before _ _ (c .before .before .before .join .ensures) (c .before .before .has-signed .ensures) (c .before .if2 .taken)))) (c .rest2 .ensures)
+returns-2 c = does (eighth _ _) (go _ _ _ _ (not-false _ (c .before .before .before .before .if1 .left)) (stop _ _ _ (signed-before _ _ (c .before .before .before .join .ensures) (c .before .before .holds .ensures) (c .before .if2 .taken)))) (c .rest2 .ensures)
 
 -- src/rules.rt:439:5
 sign-requires : tie.Need-sign-requires
@@ -41,7 +41,7 @@ sign-requires c κs = search needs
 
 -- src/rules.rt:429:1
 returns-3 : tie.Need-returns-3
-returns-3 c = does (eighth _ _) (go _ _ _ _ (not-false _ (c .before .before .before .before .if1 .left)) (go _ _ _ _ (not-signed _ _ (c .before .before .before .join .ensures) (c .before .before .has-signed .ensures) (c .before .if2 .left)) (done _))) (signs-made (c .before .before .before .join .ensures) (c .sign .ensures))
+returns-3 c = does (eighth _ _) (go _ _ _ _ (not-false _ (c .before .before .before .before .if1 .left)) (go _ _ _ _ (not-signed _ _ (c .before .before .before .join .ensures) (c .before .before .holds .ensures) (c .before .if2 .left)) (done _))) (signs-made (c .before .before .before .join .ensures) (c .sign .ensures))
 
 pub rule8-spec : {M : Type 1} → statement M
 rule8-spec =
@@ -50,7 +50,7 @@ rule8-spec =
     rest-requires
     returns
     join-requires
-    has-signed-requires
+    holds-requires
     rest-requires-2
     returns-2
     sign-requires

@@ -7,7 +7,7 @@ use Rattle.engine.proofs.rules.rule9.Statement.{statement}
 use Rattle.engine.proofs.rules.rule9.Tie as tie
 use Rattle.engine.proofs.rules.rule9.Reads as reads
 use Rattle.engine.proofs.rules.rule9.Lts as lts
-use Rattle.engine.proofs.rules.has_signed.Reads as has-signed-reads
+use Rattle.pool.proofs.holds.Reads as holds-reads
 use Rattle.engine.proofs.rules.may_leave.Reads as may-leave-reads
 use Rattle.engine.proofs.rules.rest.Reads as rest-reads
 use Rattle.engine.proofs.rules.sign.Reads as sign-reads
@@ -26,8 +26,8 @@ leave-requires : tie.Need-leave-requires
 leave-requires c κs = search needs
 
 -- src/rules.rt:463:8
-has-signed-requires : tie.Need-has-signed-requires
-has-signed-requires c κs = search needs
+holds-requires : tie.Need-holds-requires
+holds-requires c κs = search needs
 
 -- src/rules.rt:464:9
 rest-requires-2 : tie.Need-rest-requires-2
@@ -35,7 +35,7 @@ rest-requires-2 c κs = search needs
 
 -- src/rules.rt:464:9
 returns-2 : tie.Need-returns-2
-returns-2 c = does (ninth _ _) (go _ _ _ _ (not-false _ (c .before .before .before .before .if1 .left)) (stop _ _ _ (signed-before _ _ (c .before .before .before .leave .ensures) (c .before .before .has-signed .ensures) (c .before .if2 .taken)))) (c .rest2 .ensures)
+returns-2 c = does (ninth _ _) (go _ _ _ _ (not-false _ (c .before .before .before .before .if1 .left)) (stop _ _ _ (signed-before _ _ (c .before .before .before .leave .ensures) (c .before .before .holds .ensures) (c .before .if2 .taken)))) (c .rest2 .ensures)
 
 -- src/rules.rt:466:9
 may-leave-requires : tie.Need-may-leave-requires
@@ -47,7 +47,7 @@ rest-requires-3 c κs = search needs
 
 -- src/rules.rt:467:9
 returns-3 : tie.Need-returns-3
-returns-3 c = does (ninth _ _) (go _ _ _ _ (not-false _ (c .before .before .before .before .before .before .if1 .left)) (go _ _ _ _ (not-signed _ _ (c .before .before .before .before .before .leave .ensures) (c .before .before .before .before .has-signed .ensures) (c .before .before .before .if2 .left)) (stop _ _ _ (sym (c .before .before .may-leave .ensures) ∙ not-true _ (c .before .if3 .taken))))) (c .rest3 .ensures)
+returns-3 c = does (ninth _ _) (go _ _ _ _ (not-false _ (c .before .before .before .before .before .before .if1 .left)) (go _ _ _ _ (not-signed _ _ (c .before .before .before .before .before .leave .ensures) (c .before .before .before .before .holds .ensures) (c .before .before .before .if2 .left)) (stop _ _ _ (sym (c .before .before .may-leave .ensures) ∙ not-true _ (c .before .if3 .taken))))) (c .rest3 .ensures)
 
 -- src/rules.rt:469:5
 sign-requires : tie.Need-sign-requires
@@ -55,7 +55,7 @@ sign-requires c κs = search needs
 
 -- src/rules.rt:456:1
 returns-4 : tie.Need-returns-4
-returns-4 c = does (ninth _ _) (go _ _ _ _ (not-false _ (c .before .before .before .before .before .before .if1 .left)) (go _ _ _ _ (not-signed _ _ (c .before .before .before .before .before .leave .ensures) (c .before .before .before .before .has-signed .ensures) (c .before .before .before .if2 .left)) (go _ _ _ _ (sym (c .before .before .may-leave .ensures) ∙ not-false _ (c .before .if3 .left)) (done _)))) (signs-made (c .before .before .before .before .before .leave .ensures) (c .sign .ensures))
+returns-4 c = does (ninth _ _) (go _ _ _ _ (not-false _ (c .before .before .before .before .before .before .if1 .left)) (go _ _ _ _ (not-signed _ _ (c .before .before .before .before .before .leave .ensures) (c .before .before .before .before .holds .ensures) (c .before .before .before .if2 .left)) (go _ _ _ _ (sym (c .before .before .may-leave .ensures) ∙ not-false _ (c .before .if3 .left)) (done _)))) (signs-made (c .before .before .before .before .before .leave .ensures) (c .sign .ensures))
 
 pub rule9-spec : {M : Type 1} → statement M
 rule9-spec =
@@ -64,7 +64,7 @@ rule9-spec =
     rest-requires
     returns
     leave-requires
-    has-signed-requires
+    holds-requires
     rest-requires-2
     returns-2
     may-leave-requires

@@ -1,65 +1,71 @@
 use native.Mathlib.Omega.{arith}
-use native.Mathlib.Omega.{arith}
 use mathlib.Core.Path.{sym, ap, _∙_}
 use Rattle.views.proofs.Views.{view-inj}
 use Rattle.statements.specs.Meaning.{stmtOf}
-use Rattle.pool.proofs.Searches.{differs, heads-differ, heads-same, views-tell}
+use Rattle.pool.proofs.Searches.{differs, views-tell}
 use Rattle.views.specs.View.{viewOf}
 use borrow.Author.Needs.{needs}
 use Rattle.pool.proofs.seek.same_at.Statement.{statement}
 use Rattle.pool.proofs.seek.same_at.Tie as tie
 use Rattle.pool.proofs.seek.same_at.Reads as reads
 use Rattle.pool.proofs.seek.same_at.Lts as lts
+use Rattle.pool.proofs.read.at.Reads as at-reads
 use Rattle.pool.proofs.read.binding.Reads as binding-reads
 use Rattle.pool.proofs.read.flag.Reads as flag-reads
 use Rattle.pool.proofs.read.kept.Reads as kept-reads
+use Rattle.pool.proofs.read.kind.Reads as kind-reads
+use Rattle.pool.proofs.read.origin.Reads as origin-reads
 use Rattle.pool.proofs.read.payload.Reads as payload-reads
 use Rattle.pool.proofs.read.stored.Reads as stored-reads
 use Rattle.pool.proofs.read.view.Reads as view-reads
-use Rattle.pool.proofs.seek.same_head.Reads as same-head-reads
 use Rattle.pool.proofs.seek.same_history.Reads as same-history-reads
 use Rattle.statements.proofs.binding_number.Reads as binding-number-reads
 use Rattle.statements.proofs.payload_of.Reads as payload-of-reads
 use Rattle.views.proofs.View.word.Reads as word-reads
 
--- src/seek.rt:57:9
+-- src/seek.rt:42:9
+returns : tie.Need-returns
+unfolding stmtOf
+returns c = differs (λ s. s .kind) _ _ (λ q. c .if1 .taken (q ∙ sym (c .before .kind .ensures .0)))
+
+-- src/seek.rt:45:9
 returns-2 : tie.Need-returns-2
 unfolding stmtOf
-returns-2 c = differs (λ s. s .view) _ _ (λ q. c .if2 .taken (view-inj _ _ (omega arith) (omega arith) (c .before .before .word .ensures ∙ q ∙ sym (c .before .view .ensures))))
+returns-2 c = differs (λ s. s .origin) _ _ (λ q. c .if2 .taken (q ∙ sym (c .before .origin .ensures .0)))
 
--- src/seek.rt:60:9
+-- src/seek.rt:49:9
 returns-3 : tie.Need-returns-3
 unfolding stmtOf
-returns-3 c = differs (λ s. s .payload) _ _ (λ q. c .if3 .taken (c .before .before .payload-of .ensures ∙ q ∙ sym (c .before .payload .ensures)))
+returns-3 c = differs (λ s. s .at) _ _ (λ q. c .if3 .taken (view-inj _ _ (omega arith) (omega arith) (c .before .before .word .ensures ∙ q ∙ sym (c .before .at .ensures))))
 
--- src/seek.rt:63:9
+-- src/seek.rt:53:9
 returns-4 : tie.Need-returns-4
 unfolding stmtOf
-returns-4 c = differs (λ s. s .binding) _ _ (λ q. c .if4 .taken (c .before .before .binding-number .ensures .0 ∙ q ∙ sym (c .before .binding .ensures .0)))
+returns-4 c = differs (λ s. s .view) _ _ (λ q. c .if4 .taken (view-inj _ _ (omega arith) (omega arith) (c .before .before .word2 .ensures ∙ q ∙ sym (c .before .view .ensures))))
 
--- src/seek.rt:66:9
-returns-5 : tie.Need-returns-5
-unfolding stmtOf
-returns-5 c = differs (λ s. s .stored) _ _ (λ q. c .if5 .taken (c .before .before .flag .ensures .0 ∙ q ∙ sym (c .before .stored .ensures .0)))
-
--- src/seek.rt:69:9
-returns-6 : tie.Need-returns-6
-unfolding stmtOf
-returns-6 c = differs (λ s. s .kept) _ _ (λ q. c .if6 .taken (q ∙ sym (c .before .before .kept .ensures)))
-
--- src/seek.rt:49:1
+-- src/seek.rt:62:9
 returns-7 : tie.Need-returns-7
 unfolding stmtOf
-returns-7 c = let h : _ = heads-same _ _ _ (c .before .before .before .before .before .before .before .before .before .before .before .before .before .before .before .before .before .before .before .same-head .ensures) (c .before .before .before .before .before .before .before .before .before .before .before .before .before .before .before .before .before .before .if1 .left) in
-    views-tell _ _ _ (h .0) (h .1) (h .2) (sym (c .before .before .before .before .before .before .before .before .before .before .before .before .before .before .before .before .word .ensures) ∙ ap viewOf (c .before .before .before .before .before .before .before .before .before .before .before .before .before .before .if2 .left) ∙ c .before .before .before .before .before .before .before .before .before .before .before .before .before .before .before .view .ensures) (sym (c .before .before .before .before .before .before .before .before .before .before .binding-number .ensures .0) ∙ c .before .before .before .before .before .before .before .before .if4 .left ∙ c .before .before .before .before .before .before .before .before .before .binding .ensures .0) (sym (c .before .before .before .before .before .before .before .before .before .before .before .before .before .payload-of .ensures) ∙ c .before .before .before .before .before .before .before .before .before .before .before .if3 .left ∙ c .before .before .before .before .before .before .before .before .before .before .before .before .payload .ensures) (sym (c .before .before .before .before .before .before .before .flag .ensures .0) ∙ c .before .before .before .before .before .if5 .left ∙ c .before .before .before .before .before .before .stored .ensures .0) (c .before .before .if6 .left ∙ c .before .before .before .before .kept .ensures) (c .same-history .ensures)
+returns-7 c = differs (λ s. s .stored) _ _ (λ q. c .if7 .taken (c .before .before .flag .ensures .0 ∙ q ∙ sym (c .before .stored .ensures .0)))
+
+-- src/seek.rt:65:9
+returns-8 : tie.Need-returns-8
+unfolding stmtOf
+returns-8 c = differs (λ s. s .kept) _ _ (λ q. c .if8 .taken (q ∙ sym (c .before .before .kept .ensures)))
+
+-- src/seek.rt:38:1
+returns-9 : tie.Need-returns-9
+unfolding stmtOf
+returns-9 c = views-tell _ _ _ (c .before .before .before .before .before .before .before .before .before .before .before .before .before .before .before .before .before .before .before .before .before .before .before .before .before .if1 .left ∙ c .before .before .before .before .before .before .before .before .before .before .before .before .before .before .before .before .before .before .before .before .before .before .before .before .before .before .kind .ensures .0) (c .before .before .before .before .before .before .before .before .before .before .before .before .before .before .before .before .before .before .before .before .before .before .if2 .left ∙ c .before .before .before .before .before .before .before .before .before .before .before .before .before .before .before .before .before .before .before .before .before .before .before .origin .ensures .0) (sym (c .before .before .before .before .before .before .before .before .before .before .before .before .before .before .before .before .before .before .before .before .word .ensures) ∙ ap viewOf (c .before .before .before .before .before .before .before .before .before .before .before .before .before .before .before .before .before .before .if3 .left) ∙ c .before .before .before .before .before .before .before .before .before .before .before .before .before .before .before .before .before .before .before .at .ensures) (sym (c .before .before .before .before .before .before .before .before .before .before .before .before .before .before .before .before .word2 .ensures) ∙ ap viewOf (c .before .before .before .before .before .before .before .before .before .before .before .before .before .before .if4 .left) ∙ c .before .before .before .before .before .before .before .before .before .before .before .before .before .before .before .view .ensures) (sym (c .before .before .before .before .before .before .before .before .before .before .binding-number .ensures .0) ∙ c .before .before .before .before .before .before .before .before .if6 .left ∙ c .before .before .before .before .before .before .before .before .before .binding .ensures .0) (sym (c .before .before .before .before .before .before .before .before .before .before .before .before .before .payload-of .ensures) ∙ c .before .before .before .before .before .before .before .before .before .before .before .if5 .left ∙ c .before .before .before .before .before .before .before .before .before .before .before .before .payload .ensures) (sym (c .before .before .before .before .before .before .before .flag .ensures .0) ∙ c .before .before .before .before .before .if7 .left ∙ c .before .before .before .before .before .before .stored .ensures .0) (c .before .before .if8 .left ∙ c .before .before .before .before .kept .ensures) (c .same-history .ensures)
 
 pub same-at-spec : {M : Type 1} → statement M
 same-at-spec =
     tie.close
     (tie.spec
+    (λ c. search needs)
     (λ c κs. search needs)
-    (λ c. heads-differ _ _ _ (c .before .same-head .ensures) (c .if1 .taken))
-    (λ c κs. search needs)
+    returns
+    (λ c. search needs)
     (λ c κs. search needs)
     returns-2
     (λ c κs. search needs)
@@ -70,8 +76,14 @@ same-at-spec =
     returns-4
     (λ c κs. search needs)
     (λ c κs. search needs)
-    returns-5
+    (λ c. differs (λ s. s .payload) _ _ (λ q. c .if5 .taken (c .before .before .payload-of .ensures ∙ q ∙ sym (c .before .payload .ensures))))
     (λ c κs. search needs)
-    returns-6
     (λ c κs. search needs)
-    returns-7)
+    (λ c. differs (λ s. s .binding) _ _ (λ q. c .if6 .taken (c .before .before .binding-number .ensures .0 ∙ q ∙ sym (c .before .binding .ensures .0))))
+    (λ c κs. search needs)
+    (λ c κs. search needs)
+    returns-7
+    (λ c κs. search needs)
+    returns-8
+    (λ c κs. search needs)
+    returns-9)
