@@ -31,7 +31,7 @@ use Rattle.views.proofs.Views.{passes, fails, signed-by-set}
 use Rattle.pool.specs.Pool.{stmtAt, recordOf}
 use Rattle.votes.specs.Votes.{isVote, alike, entry, Groups}
 use Rattle.votes.proofs.Alike.{says-vote, Alike, says-alike, alike-both, alike-turned}
-use Rattle.evidence.specs.Shown.{isBacked, Backed, certifies, storesIt, CertificatesOf}
+use Rattle.evidence.specs.Shown.{isBacked, Backed, AckedOf, certifies, storesIt, CertificatesOf}
 use Rattle.evidence.proofs.Members.{table-out}
 
 -- ---- tests of one statement
@@ -201,6 +201,48 @@ module _ (W ids : List ℕ) (len init : ℕ) where
   pub record Unstored (F B : List ℕ) (m g : ℕ) : Type 0 where
     pub none : (h : ℕ) → h < g → getD B h 0 ≡ 1 → T (storesIt m (entry W ids (getD F h 0))) → ⊥
 
+  -- ---- what is acked
+
+  module _ (F B : List ℕ) (n : ℕ) where
+    abbrev ack : ℕ → Stmt
+    ack g = entry W ids (getD F g 0)
+
+    -- the groups of acks before g have one payload
+    pub record AckedTo (g : ℕ) (some : Bool) (payload : ℕ) : Type 0 where
+      pub one : some ≡ true → (h : ℕ) × (h < n) × (getD B h 0 ≡ 1) × (ack h .kind ≡ 7) × (ack h .payload ≡ payload)
+      pub all : (h : ℕ) → h < g → getD B h 0 ≡ 1 → ack h .kind ≡ 7 → (some ≡ true) × (ack h .payload ≡ payload)
+
+    pub acked-first : (payload : ℕ) → AckedTo 0 false payload
+    acked-first payload = record { one = λ t. absurd (subst (λ b. T (not b)) t tt); all = λ h l. absurd (omega arith) }
+
+    acked-step : {g payload : ℕ} {some : Bool} → ((getD B g 0 ≡ 1) → ack g .kind ≡ 7 → (some ≡ true) × (ack g .payload ≡ payload)) → AckedTo g some payload → AckedTo (g + 1) some payload
+    acked-step {g} {payload} {some} f c = record {
+      one = c .one;
+      all = λ h l. elim (ℕ-discrete h g) [
+        | yes e ↦ subst (λ h. getD B h 0 ≡ 1 → ack h .kind ≡ 7 → (some ≡ true) × (ack h .payload ≡ payload)) (sym e) f
+        | no n ↦ c .all h (omega arith)
+      ];
+    }
+
+    pub acked-skip : {g payload : ℕ} {some : Bool} → (getD B g 0 ≡ 1 → ⊥) → AckedTo g some payload → AckedTo (g + 1) some payload
+    acked-skip d c = acked-step (λ b. absurd (d b)) c
+
+    pub acked-not : {g payload : ℕ} {some : Bool} (k : ℕ) → k ≡ ack g .kind → (k ≡ 7 → ⊥) → AckedTo g some payload → AckedTo (g + 1) some payload
+    acked-not k e d c = acked-step (λ b q. absurd (d (e ∙ q))) c
+
+    pub acked-start : {g payload : ℕ} {some : Bool} (k m : ℕ) → g < n → getD B g 0 ≡ 1 → k ≡ ack g .kind → k ≡ 7 → m ≡ ack g .payload → some ≡ false → AckedTo g some payload → AckedTo (g + 1) true m
+    acked-start {g} k m l b e f is z c =
+        acked-step (λ b q. (refl, sym is)) (record { one = λ t. (g, l, b, sym e ∙ f, sym is); all = λ h k b q. absurd (subst T (sym (c .all h k b q .0) ∙ z) tt) })
+
+    pub acked-same : {g payload : ℕ} {some : Bool} (m : ℕ) → m ≡ ack g .payload → some ≡ true → m ≡ payload → AckedTo g some payload → AckedTo (g + 1) some payload
+    acked-same m is t e c = acked-step (λ b q. (t, sym is ∙ e)) c
+
+    pub acked-many : (some : Bool) (payload : ℕ) → AckedOf W ids F n B true some payload
+    acked-many y payload = record { one = λ e. absurd (subst T e tt); all = λ e. absurd (subst T e tt) }
+
+    pub acked-end : {g payload : ℕ} {some : Bool} → g ≡ n → AckedTo g some payload → AckedOf W ids F n B false some payload
+    acked-end e c = record { one = λ q. c .one; all = λ q h l. c .all h (omega arith) }
+
   module _ (F B : List ℕ) (n : ℕ) (backed : Backed W ids len init F n B) where
     abbrev vote : ℕ → Stmt
     vote g = entry W ids (getD F g 0)
@@ -291,6 +333,33 @@ module _ (W ids : List ℕ) (len init : ℕ) where
           go true f (m ∷ l) h = ap some (sym (only (certificates-out (ring init) sender X (subst (λ l. m ∈ l) (sym h) (List·Memᴰ·head refl))) .1))
           go false f [] h = refl
           go false f (m ∷ l) h = absurd (subst T (sym (only (certificates-out (ring init) sender X (subst (λ l. m ∈ l) (sym h) (List·Memᴰ·head refl))) .0) ∙ f) tt)
+
+      -- ---- one payload alone
+
+      module _ {many some : Bool} {payload : ℕ} (a : AckedOf W ids F n B many some payload) (few : many ≡ false) where
+        only-in : {h : ℕ} → h < n → getD B h 0 ≡ 1 → T (certifies sender X (vote h)) → (some ≡ true) × (vote h .payload ≡ payload) × T (isPrepared sender X payload)
+        only-in {h} l b t =
+            let (k, p) = says-certifies (vote h) .sound t in
+            let (y, q) = a .all few h l b k in
+            (y, q, subst (λ m. T (isPrepared sender X m)) q p)
+
+        pub only-prepared : (r : Bool) → some ≡ true → r ≡ isPrepared sender X payload → CertificatesOf init sender X (record { conflict = false; some = r; payload = payload })
+        only-prepared r y e = gathered-end n payload r refl (record {
+          sound = λ t.
+              let (g, l, b, k, q) = a .one few y in
+              subst Cert q (cert-sound g l b (says-certifies (vote g) .complete (k, subst (λ m. T (isPrepared sender X m)) (sym q) (subst T (sym t ∙ e) tt))));
+          all = λ h l b t. let (_, q, p) = only-in l b t in (e ∙ is-true p, q);
+        })
+          where
+            is-true : {b : Bool} → T b → b ≡ true
+            is-true {b = true} t = refl
+            is-true {b = false} t = absurd t
+
+        pub only-none : some ≡ false → CertificatesOf init sender X (record { conflict = false; some = false; payload = 0 })
+        only-none f = gathered-end n 0 false refl (record {
+          sound = λ t. absurd (subst (λ b. T (not b)) t tt);
+          all = λ h l b t. absurd (subst T (sym (only-in l b t .0) ∙ f) tt);
+        })
 
     -- ---- stored
 

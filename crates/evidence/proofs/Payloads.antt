@@ -21,7 +21,7 @@ use Rattle.views.specs.Table.{table}
 use Rattle.views.proofs.Tables.{any-zero, any-suc, any-more, any-at, table-cong}
 use Rattle.pool.specs.Pool.{recordOf}
 use Rattle.pool.proofs.Records.{entry, none-first, any-next, whole}
-use Rattle.evidence.specs.Shown.{listed, twofold, PreparedList}
+use Rattle.evidence.specs.Shown.{preparesIt, listed, twofold, PreparedList}
 use Rattle.evidence.proofs.Members.{table-in, table-out}
 
 -- ---- one statement
@@ -33,6 +33,14 @@ prepare-kind sender k s e n = rw (sym e, ne-eqb k 6 n)
 pub prepare-origin : (sender k o : ℕ) (s : Stmt) → k ≡ s .kind → k ≡ 6 → o ≡ s .origin → eqb o sender ≡ prepares sender s
 unfolding prepares isKind
 prepare-origin sender k o s e f g = rw (sym e, eq-eqb k 6 f, sym g)
+
+pub prepares-not : (sender m : ℕ) (s : Stmt) (r : Bool) → r ≡ prepares sender s → r ≡ false → false ≡ preparesIt sender m s
+unfolding preparesIt
+prepares-not sender m s r e f = sym (ap (λ b. b && eqb (s .payload) m) (sym e ∙ f))
+
+pub prepares-payload : (sender m p : ℕ) (s : Stmt) (r : Bool) → r ≡ prepares sender s → r ≡ true → p ≡ s .payload → eqb p m ≡ preparesIt sender m s
+unfolding preparesIt
+prepares-payload sender m p s r e f g = ap (λ x. eqb x m) g ∙ sym (ap (λ b. b && eqb (s .payload) m) (sym e ∙ f))
 
 -- ---- the list, as it is written
 

@@ -11,7 +11,7 @@ use Rattle.protocol.specs.Lists.{any, pairwise, first, when}
 use Rattle.protocol.specs.View.{View, comparable}
 use Rattle.protocol.specs.History.{holds, Holds}
 use Rattle.protocol.specs.Statement.{Stmt, isKind}
-use Rattle.protocol.specs.Evidence.{signedByQuorum, Candidate, candidates, Sealed, sealedHistories, isPrepared, certificates}
+use Rattle.protocol.specs.Evidence.{signedByQuorum, Candidate, candidates, Sealed, sealedHistories, prepares, isPrepared, certificates}
 use Rattle.protocol.specs.Grounds.{isTop}
 use Rattle.views.specs.Table.{table}
 use Rattle.views.specs.View.{viewOf, ring}
@@ -68,6 +68,16 @@ module _ (W ids : List ℕ) (len init : ℕ) where
     pub sound : (g : ℕ) → g < n → getD B g 0 ≡ 1 → T (isBacked init (recordOf W ids len) (entry W ids (getD F g 0)))
     pub covers : (i : ℕ) → i < min len 512 → T (isBacked init (recordOf W ids len) (entry W ids i))
         → (g : ℕ) × (g < n) × (getD B g 0 ≡ 1) × T (alike (entry W ids (getD F g 0)) (entry W ids i))
+
+-- Of the first n groups, those that B marks and that are of acks have one payload; or they have many.
+module _ (W ids : List ℕ) where
+  pub record AckedOf (F : List ℕ) (n : ℕ) (B : List ℕ) (many some : Bool) (payload : ℕ) : Type 0 where
+    pub one : many ≡ false → some ≡ true → (g : ℕ) × (g < n) × (getD B g 0 ≡ 1) × (entry W ids (getD F g 0) .kind ≡ 7) × (entry W ids (getD F g 0) .payload ≡ payload)
+    pub all : many ≡ false → (g : ℕ) → g < n → getD B g 0 ≡ 1 → entry W ids (getD F g 0) .kind ≡ 7 → (some ≡ true) × (entry W ids (getD F g 0) .payload ≡ payload)
+
+-- A prepare of m by the sender.
+unfoldable pub preparesIt : ℕ → ℕ → Stmt → Bool
+preparesIt sender m s = prepares sender s && eqb (s .payload) m
 
 -- m is one of the first n of P; two of them differ.
 

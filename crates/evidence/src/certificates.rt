@@ -10,7 +10,7 @@ ghost use Rattle.votes.specs.Votes.{alike, Groups};
 ghost use Rattle.votes.specs.Tables.{Tables};
 ghost use Rattle.sealing.specs.Memos.{Tops};
 ghost use Rattle.sealing.specs.Rows.{Indexed};
-ghost use Rattle.evidence.specs.Shown.{isBacked, Backed, PreparedList, certifies, storesIt, CertificatesOf};
+ghost use Rattle.evidence.specs.Shown.{isBacked, Backed, AckedOf, PreparedList, certifies, storesIt, CertificatesOf};
 use crate::prepares;
 use pool::POOL_WORDS;
 use sealing::INDEX;
@@ -20,6 +20,13 @@ pub struct Certified {
     pub conflict: bool,
     pub some: bool,
     pub payload: u64,
+}
+
+// What quorums of sealed tops acked: several payloads, or one, or none.
+struct Acked {
+    many: bool,
+    some: bool,
+    payload: u64,
 }
 
 // A test as it is kept.
@@ -204,8 +211,8 @@ fn certify(
     }
 }
 
-// The certificate of a record, of whose groups `marks` has those by a quorum of a sealed top.
-pub fn certificate(
+// The certificate, where quorums acked several payloads.
+fn certify_many(
     words: &[u64; POOL_WORDS],
     ids: &[u16; 512],
     len: usize,
@@ -232,6 +239,90 @@ pub fn certificate(
         &prepared,
         np,
     )
+}
+
+// The payload that quorums of sealed tops acked, if they acked one alone.
+fn only_acked(
+    words: &[u64; POOL_WORDS],
+    ids: &[u16; 512],
+    len: usize,
+    init: u32,
+    first: &[u16; 512],
+    n: usize,
+    marks: &[u8; 512],
+) -> Acked
+    requires { ⌜ Backed (now words) (now ids) len init (now first) n (now marks) ⌝ }
+    ensures { λ r. ⌜ AckedOf (now (words .entry)) (now (ids .entry)) (now (first .entry)) n (now (marks .entry)) (r .many) (r .some) (r .payload) ⌝ }
+{
+    let mut some = false;
+    let mut payload = 0u64;
+    let mut g = 0usize;
+    while g < n {
+        if marks[g] != 1 {
+            g += 1;
+            continue;
+        }
+        let f = first[g] as usize;
+        let s = ids[f];
+        if pool::kind(words, s) != 7 {
+            g += 1;
+            continue;
+        }
+        let m = pool::payload(words, s);
+        if !some {
+            some = true;
+            payload = m;
+            g += 1;
+            continue;
+        }
+        if m != payload {
+            return Acked {
+                many: true,
+                some,
+                payload,
+            };
+        }
+        g += 1;
+    }
+    Acked {
+        many: false,
+        some,
+        payload,
+    }
+}
+
+// The certificate of a record, of whose groups `marks` has those by a quorum of a sealed top.
+pub fn certificate(
+    words: &[u64; POOL_WORDS],
+    ids: &[u16; 512],
+    len: usize,
+    init: u32,
+    sender: u8,
+    first: &[u16; 512],
+    n: usize,
+    marks: &[u8; 512],
+) -> Certified
+    requires { ⌜ Backed (now words) (now ids) len init (now first) n (now marks) ⌝ }
+    ensures { λ r. ⌜ CertificatesOf init sender (recordOf (now (words .entry)) (now (ids .entry)) len) r ⌝ }
+{
+    let a = only_acked(words, ids, len, init, first, n, marks);
+    if a.many {
+        return certify_many(words, ids, len, init, sender, first, n, marks);
+    }
+    if !a.some {
+        return Certified {
+            conflict: false,
+            some: false,
+            payload: 0,
+        };
+    }
+    let m = a.payload;
+    let some = prepares::is_prepared(words, ids, len, sender, m);
+    Certified {
+        conflict: false,
+        some,
+        payload: m,
+    }
 }
 
 // Whether statement s is a store of m.

@@ -1,10 +1,10 @@
-// What the sender prepared, listed once.
+// What the sender prepared.
 ghost use mathlib.Core.Path.{_≡_};
 ghost use Prim.Native.Nat.{_≤_};
 ghost use lib.ListN.{length};
-ghost use Rattle.protocol.specs.Evidence.{prepares};
+ghost use Rattle.protocol.specs.Evidence.{prepares, isPrepared};
 ghost use Rattle.pool.specs.Pool.{stmtAt, recordOf};
-ghost use Rattle.evidence.specs.Shown.{listed, twofold, PreparedList};
+ghost use Rattle.evidence.specs.Shown.{preparesIt, listed, twofold, PreparedList};
 use pool::POOL_WORDS;
 
 // Whether statement s is a prepare of the sender.
@@ -15,6 +15,37 @@ fn is_prepare(words: &[u64; POOL_WORDS], s: u16, sender: u8) -> bool
         return false;
     }
     pool::origin(words, s) == sender as u64
+}
+
+// Whether statement s is a prepare of m by the sender.
+fn prepares_it(words: &[u64; POOL_WORDS], s: u16, sender: u8, m: u64) -> bool
+    ensures { λ r. ⌜ r ≡ preparesIt sender m (stmtAt (now (words .entry)) s) ⌝ }
+{
+    if !is_prepare(words, s, sender) {
+        return false;
+    }
+    pool::payload(words, s) == m
+}
+
+// Whether the sender prepared m. Where this is asked of many payloads, the list below answers faster.
+pub fn is_prepared(
+    words: &[u64; POOL_WORDS],
+    ids: &[u16; 512],
+    len: usize,
+    sender: u8,
+    m: u64,
+) -> bool
+    ensures { λ r. ⌜ r ≡ isPrepared sender (recordOf (now (words .entry)) (now (ids .entry)) len) m ⌝ }
+{
+    let end = pool::limit(len);
+    let mut i = 0usize;
+    while i < end {
+        if prepares_it(words, ids[i], sender, m) {
+            return true;
+        }
+        i += 1;
+    }
+    false
 }
 
 // How many payloads there is room for: a proof that one was written asks for it.
