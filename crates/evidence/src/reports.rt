@@ -168,31 +168,6 @@ fn counts(
     kept_holds(words, ids, len, init, sender, e, s)
 }
 
-// Whether statement s is a report on u that counts.
-fn counts_on(
-    words: &[u64; POOL_WORDS],
-    ids: &[u16; 512],
-    len: usize,
-    init: u32,
-    sender: u8,
-    e: Evidence,
-    prepared: &[u64; 512],
-    np: usize,
-    u: u32,
-    s: u16,
-) -> bool
-    requires { ⌜ Settled (ring init) sender (recordOf (now words) (now ids) len) e × PreparedList sender (recordOf (now words) (now ids) len) (now prepared) np ⌝ }
-    ensures { λ r. ⌜ r ≡ isCountedOn (ring init) sender (recordOf (now (words .entry)) (now (ids .entry)) len) (viewOf u) (stmtAt (now (words .entry)) s) ⌝ }
-{
-    if pool::kind(words, s) != 5 {
-        return false;
-    }
-    if pool::at(words, s) != u {
-        return false;
-    }
-    counts(words, ids, len, init, sender, e, prepared, np, s)
-}
-
 // Who signed a report on u that counts.
 fn reporters(
     words: &[u64; POOL_WORDS],
@@ -213,7 +188,15 @@ fn reporters(
     let mut i = 0usize;
     while i < end {
         let s = ids[i];
-        let hit = counts_on(words, ids, len, init, sender, e, prepared, np, u, s);
+        if pool::kind(words, s) != 5 {
+            i += 1;
+            continue;
+        }
+        if pool::at(words, s) != u {
+            i += 1;
+            continue;
+        }
+        let hit = counts(words, ids, len, init, sender, e, prepared, np, s);
         seen = views::note(seen, hit, pool::origin(words, s));
         i += 1;
     }
