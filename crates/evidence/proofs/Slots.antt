@@ -8,15 +8,13 @@ use Prim.Native.Nat.{ℕ, zero, suc, _+_, _/_, _%_, _≤_, _<_}
 use native.Mathlib.Decide.{decLt, ℕ-discrete}
 use native.Mathlib.Numerals.{add-one}
 use native.Mathlib.Omega.{arith}
-use lib.Count.{ones, ones-le}
 use lib.Dec.{T, ltb}
 use lib.ListN.{length, getD, set, replicate, length-set, length-append, length-replicate, getD-replicate}
 use lib.Seq.{getD-set-same, getD-set-other}
 use borrow.Author.Tests.{eq-eqb, ne-eqb, lt-ltb}
-use Rattle.protocol.specs.Sets.{bit, count}
+use Rattle.protocol.specs.Sets.{bit}
 use Rattle.protocol.specs.Lists.{if_then_else_, _∈_, _⊆_}
 use Rattle.protocol.specs.View.{View, size, Within}
-use Rattle.protocol.proofs.Bits.{ones-count}
 use Rattle.protocol.proofs.Counting.{count-mono}
 use Rattle.protocol.proofs.Different.{ordered-append}
 use Rattle.views.specs.Table.{table}
@@ -26,15 +24,6 @@ use Rattle.evidence.specs.Slots.{Scale, viewScale, viewsOf, Stands, Slot
 use Rattle.evidence.proofs.Members.{in-left, in-right, Climbs}
 
 -- ---- sizes
-
-pub size-ones : (v : ℕ) → v < 4294967296 → ones (v % 65536) + ones (v / 65536) ≡ size 16 (viewOf v)
-unfolding size viewOf
-size-ones v h =
-    let e : v / 65536 % 65536 ≡ v / 65536 = omega arith in
-    ap₂ _+_ (ones-count 16 (v % 65536) (omega arith)) (ones-count 16 (v / 65536) (omega arith) ∙ ap (λ x. count 16 (bit x)) (sym e))
-
-pub size-small : (v : ℕ) → v < 4294967296 → ones (v % 65536) + ones (v / 65536) ≤ 32
-size-small v h = omega (arith, ones-le 16 (v % 65536) (omega arith), ones-le 16 (v / 65536) (omega arith))
 
 pub within-size : {u v : View} → Within 16 u v → size 16 u ≤ size 16 v
 unfolding size

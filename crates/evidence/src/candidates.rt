@@ -29,7 +29,18 @@ fn high_of(x: u64) -> u32
 fn size_of(v: u32) -> usize
     ensures { λ r. ⌜ (r ≡ size 16 (viewOf v)) × (r ≤ 32) ⌝ }
 {
-    (u32::count_ones(v % 65536) + u32::count_ones(v / 65536)) as usize
+    views::size_view(v) as usize
+}
+
+// The size of v; most slots still hold the initial view, whose size is known.
+fn slot_size(v: u32, init: u32, least: usize) -> usize
+    requires { ⌜ (least ≡ size 16 (viewOf init)) × (least ≤ 32) ⌝ }
+    ensures { λ r. ⌜ (r ≡ size 16 (viewOf v)) × (r ≤ 32) ⌝ }
+{
+    if v == init {
+        return least;
+    }
+    size_of(v)
 }
 
 // What slot k holds.
@@ -74,7 +85,8 @@ fn fill_slots(
 }
 
 // Whether every two views of the slots are comparable: it is enough that each lies within the next.
-fn compare_slots(slots: &[u32; 33]) -> bool
+fn compare_slots(slots: &[u32; 33], init: u32, least: usize) -> bool
+    requires { ⌜ (least ≡ size 16 (viewOf init)) × (least ≤ 32) ⌝ }
     ensures { λ r. ⌜ Compared (now (slots .entry)) r ⌝ }
 {
     let mut some = false;
@@ -82,7 +94,7 @@ fn compare_slots(slots: &[u32; 33]) -> bool
     let mut k = 0usize;
     while k < 33 {
         let v = slot_at(slots, k);
-        if size_of(v) != k {
+        if slot_size(v, init, least) != k {
             k += 1;
             continue;
         }
@@ -102,15 +114,15 @@ fn compare_slots(slots: &[u32; 33]) -> bool
 }
 
 // Lists the views of the slots: how many, or 17 for more than sixteen.
-fn list_slots(slots: &[u32; 33], out: &mut [u32; 16]) -> usize
-    requires { ⌜ length (now out) ≡ 16 ⌝ }
+fn list_slots(slots: &[u32; 33], init: u32, least: usize, out: &mut [u32; 16]) -> usize
+    requires { ⌜ (length (now out) ≡ 16) × (least ≡ size 16 (viewOf init)) × (least ≤ 32) ⌝ }
     ensures { λ r. ⌜ Listed (now (slots .entry)) (now (out .exit)) r ⌝ }
 {
     let mut n = 0usize;
     let mut k = 0usize;
     while k < 33 {
         let v = slot_at(slots, k);
-        if size_of(v) != k {
+        if slot_size(v, init, least) != k {
             k += 1;
             continue;
         }
@@ -139,7 +151,8 @@ pub fn rank(chosen: &[u64; 512], nc: usize, mc: &[u8; 512], init: u32) -> Ranked
             views,
         };
     }
-    if !compare_slots(&slots) {
+    let least = size_of(init);
+    if !compare_slots(&slots, init, least) {
         return Ranked {
             conflict: true,
             many: false,
@@ -147,7 +160,7 @@ pub fn rank(chosen: &[u64; 512], nc: usize, mc: &[u8; 512], init: u32) -> Ranked
             views,
         };
     }
-    let count = list_slots(&slots, &mut views);
+    let count = list_slots(&slots, init, least, &mut views);
     Ranked {
         conflict: false,
         many: 16 < count,
