@@ -1,20 +1,20 @@
 -- Laws of the wished view: it is put together from the sets of those who join and leave.
 -- Assumes nothing.
-use mathlib.Core.Path.{_≡_, ap, ap₂, _∙_}
-use mathlib.Core.Bool.{_&&_, _||_}
+use mathlib.Core.Path.{_≡_, sym, ap, ap₂, subst, _∙_}
+use mathlib.Core.Bool.{true, _&&_, _||_}
 use mathlib.Core.List.{List}
-use Prim.Native.Nat.{ℕ, _+_, _*_, _/_, _%_, _<_, min}
+use Prim.Native.Nat.{ℕ, _+_, _*_, _/_, _%_, _<_}
 use native.Mathlib.Omega.{arith}
+use lib.Dec.{eqb}
 use lib.Bits.{bitAnd, and-lt}
+use borrow.Author.Tests.{eq-eqb, ne-eqb}
 use Rattle.protocol.specs.Sets.{bit}
 use Rattle.protocol.specs.Statement.{Stmt, isKind}
 use Rattle.protocol.specs.Evidence.{signs, joinedBy, leftBy, wished}
 use Rattle.protocol.proofs.Bits.{bit-and, bit-or}
-use Rattle.views.specs.Sets.{IsSet, Joined}
+use Rattle.views.specs.Sets.{IsSet, Noted, Joined}
 use Rattle.views.specs.View.{viewOf, ring}
-use Rattle.views.proofs.Sets.{set-is}
-use Rattle.pool.specs.Pool.{recordOf}
-use Rattle.pool.proofs.Records.{set-whole}
+use Rattle.views.proofs.Sets.{set-is, note-none}
 
 module _ (init : ℕ) (X : List Stmt) where
   joined-is : (j r : ℕ) → IsSet j (signs (isKind 1) X) → Joined (init % 65536) j r → IsSet r (joinedBy (ring init) X)
@@ -54,7 +54,15 @@ module _ (init : ℕ) (X : List Stmt) where
   pub wish-is : (a b j l : ℕ) → init < 4294967296 → Wish a b j l → viewOf (j + l * 65536) ≡ wished (ring init) X
   wish-is a b j l h w = let s = joined-is a j (w .joins) (w .joined) in sets-are j l s (left-is j b l h s (w .leaves) (w .left))
 
--- the sets that a loop over a whole record leaves
-pub wish-of : (init : ℕ) (W ids : List ℕ) (len i end a b j l : ℕ) → i ≡ end → end ≡ min len 512 → IsSet a (signs (isKind 1) (recordOf W ids i)) → IsSet b (signs (isKind 2) (recordOf W ids i))
-    → Joined (init % 65536) a j → Joined (init / 65536) (bitAnd j b) l → Wish init (recordOf W ids len) a b j l
-wish-of init W ids len i end a b j l e f s t p q = record { joins = set-whole W ids (isKind 1) len i a end e f s; leaves = set-whole W ids (isKind 2) len i b end e f t; joined = p; left = q }
+-- the bounds that the sum asks for
+pub wish-bounds : (init a b j l : ℕ) → init < 4294967296 → a < 65536 → b < 65536 → Joined (init % 65536) a j → Joined (init / 65536) (bitAnd j b) l → (j < 65536) × (l < 65536)
+wish-bounds init a b j l h p q d e = let s : j < 65536 = d .small (omega arith) p in (s, e .small (omega arith) (and-lt 16 j b s q))
+
+-- one statement more, and whether it is of this kind
+pub kind-noted : (s : Stmt) (k kind seen o r : ℕ) → k ≡ s .kind → k ≡ kind → o ≡ s .origin → Noted seen true o r → Noted seen (isKind kind s) (s .origin) r
+unfolding isKind
+kind-noted s k kind seen o r e f g n = subst (λ b. Noted seen b (s .origin) r) (sym (eq-eqb (s .kind) kind (sym e ∙ f))) (subst (λ x. Noted seen true x r) g n)
+
+pub kind-passed : (s : Stmt) (k kind seen : ℕ) → k ≡ s .kind → (k ≡ kind → ⊥) → Noted seen (isKind kind s) (s .origin) seen
+unfolding isKind
+kind-passed s k kind seen e d = note-none seen (s .origin) (eqb (s .kind) kind) (ne-eqb (s .kind) kind (λ q. d (e ∙ q)))

@@ -1,9 +1,14 @@
 // The votes of a record in groups, found by the slots of their words.
+ghost use mathlib.Core.Path.{_≡_};
 ghost use Prim.Native.Nat.{_+_, _<_, _≤_};
+ghost use Rattle.protocol.specs.Evidence.{wished};
+ghost use Rattle.views.specs.View.{viewOf, ring};
+ghost use Rattle.pool.specs.Pool.{recordOf};
 ghost use Rattle.votes.specs.Votes.{Groups};
 ghost use Rattle.votes.specs.Keys.{Key, Keyed, Chained, Place, Sofar};
 use crate::keys;
 use crate::lengths;
+use crate::wish;
 use pool::POOL_WORDS;
 
 // The group of statement s, whose words are given, or n. A slot holds its newest group plus one, and a link leads to the one before it.
@@ -93,40 +98,56 @@ fn add(
     n + 1
 }
 
+// How many groups there are, and the view that the record wishes: both in one pass.
+pub struct Sifted {
+    pub groups: usize,
+    pub wished: u32,
+}
+
 // The groups, with room for their words and chains.
 fn gather_in(
     words: &[u64; POOL_WORDS],
     ids: &[u16; 512],
     len: usize,
+    init: u32,
     heads: &mut [u64; 512],
     tails: &mut [u64; 512],
     first: &mut [u16; 512],
     seen: &mut [u32; 512],
     slots: &mut [u16; 1024],
     links: &mut [u16; 512],
-) -> usize
+) -> Sifted
     requires { ⌜ Sofar (now words) (now ids) 0 (now heads) (now tails) (now first) (now seen) (now slots) (now links) 0 ⌝ }
-    ensures { λ r. ⌜ Groups (now (words .entry)) (now (ids .entry)) len (now (first .exit)) (now (seen .exit)) r ⌝ }
+    ensures { λ r. ⌜ Groups (now (words .entry)) (now (ids .entry)) len (now (first .exit)) (now (seen .exit)) (r .groups) × (viewOf (r .wished) ≡ wished (ring init) (recordOf (now (words .entry)) (now (ids .entry)) len)) ⌝ }
 {
     let end = pool::limit(len);
+    let mut joins: u32 = 0;
+    let mut leaves: u32 = 0;
     let mut n = 0usize;
     let mut i = 0usize;
     while i < end {
+        let s = ids[i];
+        joins = wish::note_kind(words, s, 1, joins);
+        leaves = wish::note_kind(words, s, 2, leaves);
         n = add(words, ids, i, heads, tails, first, seen, slots, links, n);
         i += 1;
     }
-    n
+    Sifted {
+        groups: n,
+        wished: wish::wished_view(init, joins, leaves),
+    }
 }
 
-// The votes of a record in groups: the place of each group's first vote, and who signed it. Returns how many groups there are.
+// The votes of a record in groups: the place of each group's first vote, and who signed it; and the view that it wishes.
 pub fn gather(
     words: &[u64; POOL_WORDS],
     ids: &[u16; 512],
     len: usize,
+    init: u32,
     first: &mut [u16; 512],
     seen: &mut [u32; 512],
-) -> usize
-    ensures { λ r. ⌜ Groups (now (words .entry)) (now (ids .entry)) len (now (first .exit)) (now (seen .exit)) r ⌝ }
+) -> Sifted
+    ensures { λ r. ⌜ Groups (now (words .entry)) (now (ids .entry)) len (now (first .exit)) (now (seen .exit)) (r .groups) × (viewOf (r .wished) ≡ wished (ring init) (recordOf (now (words .entry)) (now (ids .entry)) len)) ⌝ }
 {
     let mut heads = [0u64; 512];
     let mut tails = [0u64; 512];
@@ -138,6 +159,7 @@ pub fn gather(
         words,
         ids,
         len,
+        init,
         &mut heads,
         &mut tails,
         first,

@@ -7,5 +7,5 @@ mod wish;
 
 pub use chosen::agreements;
 pub use chosen::choices;
+pub use groups::Sifted;
 pub use groups::gather;
-pub use wish::wished_view;

@@ -1,31 +1,29 @@
-// The view that a record wishes.
+// The view that a record wishes, from those who sign joins and leaves.
 ghost use mathlib.Core.Path.{_≡_};
-ghost use Rattle.protocol.specs.Evidence.{wished};
+ghost use mathlib.Core.List.{List};
+ghost use Prim.Native.Nat.{_<_};
+ghost use Rattle.protocol.specs.Statement.{Stmt, isKind};
+ghost use Rattle.protocol.specs.Evidence.{signs, wished};
+ghost use Rattle.views.specs.Sets.{IsSet, Noted};
 ghost use Rattle.views.specs.View.{viewOf, ring};
-ghost use Rattle.pool.specs.Pool.{recordOf};
+ghost use Rattle.pool.specs.Pool.{stmtAt};
 use pool::POOL_WORDS;
 
-// The initial view, with every join origin joined and every leave origin that is joined marked left.
-pub fn wished_view(words: &[u64; POOL_WORDS], ids: &[u16; 512], len: usize, init: u32) -> u32
-    ensures { λ r. ⌜ viewOf r ≡ wished (ring init) (recordOf (now (words .entry)) (now (ids .entry)) len) ⌝ }
+// `seen`, and the origin of statement s too where that is of this kind.
+pub fn note_kind(words: &[u64; POOL_WORDS], s: u16, kind: u64, seen: u32) -> u32
+    ensures { λ r. ⌜ Noted seen (isKind kind (stmtAt (now (words .entry)) s)) (stmtAt (now (words .entry)) s .origin) r ⌝ }
 {
-    let end = pool::limit(len);
-    let mut joins: u32 = 0;
-    let mut leaves: u32 = 0;
-    let mut i = 0usize;
-    while i < end {
-        let n = ids[i];
-        let k = pool::kind(words, n);
-        // Most statements are neither a join nor a leave.
-        if k > 2 {
-            i += 1;
-            continue;
-        }
-        let o = pool::origin(words, n);
-        joins = views::note(joins, k == 1, o);
-        leaves = views::note(leaves, k == 2, o);
-        i += 1;
+    if pool::kind(words, s) != kind {
+        return seen;
     }
+    views::note(seen, true, pool::origin(words, s))
+}
+
+// The initial view, with every join origin joined and every leave origin that is joined marked left.
+pub fn wished_view(init: u32, joins: u32, leaves: u32) -> u32
+    requires { ⌜ (joins < 65536) × (leaves < 65536) ⌝ }
+    ensures { λ r. ⌜ ((X : List Stmt) → IsSet joins (signs (isKind 1) X) → IsSet leaves (signs (isKind 2) X) → viewOf r ≡ wished (ring init) X) ⌝ }
+{
     let joined = views::union(init % 65536, joins);
     let left = views::union(init / 65536, joined & leaves);
     joined + left * 65536
