@@ -3,6 +3,12 @@ use Rattle.sealing.proofs.Judged.{memos-first, verdicts-of}
 use borrow.Author.Needs.{needs}
 use Rattle.sealing.proofs.judge.verdicts.Statement.{statement}
 use Rattle.sealing.proofs.judge.verdicts.Tie as tie
+use Rattle.sealing.proofs.judge.verdicts.Reads as reads
+use Rattle.sealing.proofs.judge.verdicts.Lts as lts
+use Rattle.sealing.proofs.judge.agreements.Reads as agreements-reads
+use Rattle.sealing.proofs.judge.choices.Reads as choices-reads
+use Rattle.sealing.proofs.judge.room.Reads as room-reads
+use Rattle.sealing.proofs.rows.index_rows.Reads as index-rows-reads
 
 pub verdicts-spec : {M : Type 1} → statement M
 verdicts-spec =
@@ -10,9 +16,8 @@ verdicts-spec =
     (tie.spec
     (λ c κs. search needs)
     (λ c κs. search needs)
-    (λ c κs. search needs)
-    (λ c κs. c .before .before .before .before .before .before .before .pre .choices)
-    (λ c κs. c .before .before .before .before .before .before .before .before .before .pre .agreements)
-    (λ c κs. (c .before .before .before .before .before .before .before .before .before .before .before .before .before .before .pre, record { choices = c .before .before .before .before .before .before .index-rows .ensures; agreements = c .before .before .before .before .index-rows2 .ensures }, memos-first 1536, c .before .before .before .before .before .before .before .before .before .before .before .before .room .ensures))
-    (λ c κs. (c .before .before .before .before .before .before .before .before .before .before .before .before .before .before .before .before .before .before .before .before .pre, record { choices = c .before .before .before .before .before .before .before .before .before .before .before .before .index-rows .ensures; agreements = c .before .before .before .before .before .before .before .before .before .before .index-rows2 .ensures }, c .before .before .before .before .before .choices .ensures .1, c .before .before .before .before .before .before .before .before .before .before .before .before .before .before .before .before .room2 .ensures, c .before .before .before .before .before .before .before .before .before .before .before .before .before .before .room3 .ensures))
-    (λ c. (verdicts-of (c .before .before .before .before .before .before .choices .ensures .0) (c .histories .ensures .0), c .histories .ensures .1, c .before .before .before .before .before .before .before .before .before .before .before .index-rows2 .ensures)))
+    (λ c κs. c .before .before .before .before .before .pre .choices)
+    (λ c κs. c .before .before .before .before .before .before .before .pre .agreements)
+    (λ c κs. (c .before .before .before .before .before .before .before .before .before .before .before .before .pre, record { choices = c .before .before .before .before .before .before .index-rows .ensures; agreements = c .before .before .before .before .index-rows2 .ensures }, memos-first 1024, c .before .before .before .before .before .before .before .before .before .before .room .ensures))
+    (λ c κs. (c .before .before .before .before .before .before .before .before .before .before .before .before .before .before .before .before .before .pre, record { choices = c .before .before .before .before .before .before .before .before .before .before .before .index-rows .ensures; agreements = c .before .before .before .before .before .before .before .before .before .index-rows2 .ensures }, c .before .before .before .before .choices .ensures .1, c .before .before .before .before .before .before .before .before .before .before .before .before .before .room2 .ensures))
+    (λ c. (verdicts-of (c .before .before .before .before .before .choices .ensures .0) (c .agreements .ensures .0), c .agreements .ensures .0, c .before .before .before .before .before .before .before .before .before .before .index-rows2 .ensures)))
