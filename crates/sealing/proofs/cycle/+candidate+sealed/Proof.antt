@@ -1,7 +1,6 @@
 use borrow.Author.Needs.{needs}
 use native.Mathlib.Omega.{arith}
-use mathlib.Core.Path.{refl, sym}
-use Prim.Native.Nat.{_+_, _-_, _*_, _≤_}
+use mathlib.Core.Path.{refl}
 use lib.ListN.{getD}
 use borrow.Author.Tests.{not-true, not-false}
 use Rattle.protocol.specs.View.{size}
@@ -9,7 +8,7 @@ use Rattle.views.specs.View.{viewOf}
 use Rattle.votes.specs.Tables.{high}
 use Rattle.sealing.specs.Memos.{Memos}
 use Rattle.sealing.proofs.Laws as laws
-use Prim.Native.Nat.{ℕ, _<_}
+use Prim.Native.Nat.{ℕ, _+_, _-_, _*_, _≤_, _<_}
 use borrow.Fn.Kinds.{In}
 use borrow.Fn.PlainCycle.{Measures, is, falls, and}
 use Rattle.sealing.proofs.cycle.candidate.Reads as candidate

@@ -1,14 +1,7 @@
-use native.Mathlib.Omega.{arith}
 use Rattle.sealing.proofs.Judged.{memos-first, verdicts-of}
 use borrow.Author.Needs.{needs}
 use Rattle.sealing.proofs.judge.verdicts.Statement.{statement}
 use Rattle.sealing.proofs.judge.verdicts.Tie as tie
-use Rattle.sealing.proofs.judge.verdicts.Reads as reads
-use Rattle.sealing.proofs.judge.verdicts.Lts as lts
-use Rattle.sealing.proofs.judge.agreements.Reads as agreements-reads
-use Rattle.sealing.proofs.judge.choices.Reads as choices-reads
-use Rattle.sealing.proofs.judge.room.Reads as room-reads
-use Rattle.sealing.proofs.rows.index_rows.Reads as index-rows-reads
 
 pub verdicts-spec : {M : Type 1} → statement M
 verdicts-spec =
