@@ -8,7 +8,7 @@ ghost use Rattle.views.specs.View.{ring};
 ghost use Rattle.pool.specs.Pool.{stmtAt, recordOf};
 ghost use Rattle.votes.specs.Votes.{alike, Groups};
 ghost use Rattle.votes.specs.Tables.{Tables};
-ghost use Rattle.sealing.specs.Memos.{Tops};
+ghost use Rattle.sealing.specs.Memos.{Agreements};
 ghost use Rattle.sealing.specs.Rows.{Indexed};
 ghost use Rattle.evidence.specs.Shown.{isBacked, Backed, AckedOf, PreparedList, certifies, storesIt, CertificatesOf};
 use crate::prepares;
@@ -59,11 +59,11 @@ fn is_backed(
     entry: &[u16; 512],
     na: usize,
     ai: &[u16; INDEX],
-    mt: &[u8; 512],
+    ma: &[u8; 512],
     s: u16,
     seen: u32,
 ) -> bool
-    requires { ⌜ Tables (now words) (now ids) len init (now chosen) nc (now agreed) (now entry) na × Tops (now words) (now ids) len init (now agreed) na (now mt) × Indexed (now agreed) 0 na (now ai) × IsSet seen (signs (alike (stmtAt (now words) s)) (recordOf (now words) (now ids) len)) ⌝ }
+    requires { ⌜ Tables (now words) (now ids) len init (now chosen) nc (now agreed) (now entry) na × Agreements (now words) (now ids) len init (now agreed) (now entry) na (now ma) × Indexed (now agreed) 0 na (now ai) × IsSet seen (signs (alike (stmtAt (now words) s)) (recordOf (now words) (now ids) len)) ⌝ }
     ensures { λ r. ⌜ r ≡ isBacked init (recordOf (now (words .entry)) (now (ids .entry)) len) (stmtAt (now (words .entry)) s) ⌝ }
 {
     let k = pool::kind(words, s);
@@ -88,7 +88,7 @@ fn is_backed(
         entry,
         na,
         ai,
-        mt,
+        ma,
         t,
     )
 }
@@ -105,13 +105,13 @@ pub fn mark_backed(
     entry: &[u16; 512],
     na: usize,
     ai: &[u16; INDEX],
-    mt: &[u8; 512],
+    ma: &[u8; 512],
     first: &[u16; 512],
     seen: &[u32; 512],
     n: usize,
     marks: &mut [u8; 512],
 )
-    requires { ⌜ Tables (now words) (now ids) len init (now chosen) nc (now agreed) (now entry) na × Tops (now words) (now ids) len init (now agreed) na (now mt) × Indexed (now agreed) 0 na (now ai) × Groups (now words) (now ids) len (now first) (now seen) n ⌝ }
+    requires { ⌜ Tables (now words) (now ids) len init (now chosen) nc (now agreed) (now entry) na × Agreements (now words) (now ids) len init (now agreed) (now entry) na (now ma) × Indexed (now agreed) 0 na (now ai) × Groups (now words) (now ids) len (now first) (now seen) n ⌝ }
     ensures { λ r. ⌜ Backed (now (words .entry)) (now (ids .entry)) len init (now (first .entry)) n (now (marks .exit)) ⌝ }
 {
     room(marks);
@@ -130,7 +130,7 @@ pub fn mark_backed(
             entry,
             na,
             ai,
-            mt,
+            ma,
             s,
             seen[g],
         );

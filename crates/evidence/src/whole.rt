@@ -77,7 +77,6 @@ fn judge(
     ensures { λ r. ⌜ Verdicts (now (words .entry)) (now (ids .entry)) len init (now (chosen .entry)) nc (now (agreed .entry)) (now (entry .entry)) na (now (mc .exit)) (now (ma .exit)) × Backed (now (words .entry)) (now (ids .entry)) len init (now (first .entry)) n (now (marks .exit)) ⌝ }
 {
     let mut ai = [0u16; INDEX];
-    let mut mt = [0u8; 512];
     sealing::verdicts(
         words,
         ids,
@@ -91,7 +90,6 @@ fn judge(
         &mut ai,
         mc,
         ma,
-        &mut mt,
     );
     certificates::mark_backed(
         words,
@@ -104,7 +102,7 @@ fn judge(
         entry,
         na,
         &ai,
-        &mt,
+        ma,
         first,
         seen,
         n,

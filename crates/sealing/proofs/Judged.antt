@@ -11,10 +11,9 @@ use lib.ListN.{length, getD, set, length-set, replicate, getD-replicate, length-
 use lib.Seq.{getD-set-same, getD-set-other}
 use borrow.Author.Tests.{eq-eqb, ne-eqb}
 use Rattle.views.specs.View.{viewOf}
-use Rattle.votes.specs.Tables.{high, sealsAt, Tables, Verdicts}
-use Rattle.sealing.specs.Memos.{Memos, Choices, Agreements, Tops}
-use Rattle.sealing.specs.Rows.{Next}
-use Rattle.sealing.proofs.Laws.{cand, tops}
+use Rattle.votes.specs.Tables.{high, sealsAt, Verdicts}
+use Rattle.sealing.specs.Memos.{Memos, Choices, Agreements}
+use Rattle.sealing.proofs.Laws.{cand}
 
 -- what is written at n
 module _ (q : ℕ → Bool) where
@@ -54,19 +53,6 @@ module _ {W ids : List ℕ} {len init : ℕ} where
   pub agreements-all : {A E m : List ℕ} {na a : ℕ} → Agreements W ids len init A E a m → na ≤ a → Agreements W ids len init A E na m
   agreements-all w l = record { long = w .long; right = λ i k. w .right i (omega arith) }
 
-  pub tops-first : {A m : List ℕ} → length m ≡ 512 → Tops W ids len init A 0 m
-  tops-first l = record { long = l; right = λ c k. absurd (omega arith) }
-
-  pub tops-next : (x : ℕ) {A m : List ℕ} {a t : ℕ} {r : Bool} → Tops W ids len init A a m → a < 512 → t ≡ high (getD A a 0) → r ≡ tops W ids len init t → eqb x 1 ≡ r
-      → Tops W ids len init A (a + 1) (set m a x)
-  tops-next x {A} {m} {a} w l e f g = record {
-    long = length-set m a x ∙ w .long;
-    right = mark-next (λ i. tops W ids len init (high (getD A i 0))) m a x (omega (arith, w .long)) (w .right) (g ∙ f ∙ ap (tops W ids len init) e);
-  }
-
-  pub tops-all : {A m : List ℕ} {na a : ℕ} → Tops W ids len init A a m → na ≤ a → Tops W ids len init A na m
-  tops-all w l = record { long = w .long; right = λ i k. w .right i (omega arith) }
-
   pub verdicts-of : {C A E mc ma : List ℕ} {nc na : ℕ} → Choices W ids len init C nc mc → Agreements W ids len init A E na ma → Verdicts W ids len init C nc A E na mc ma
   verdicts-of c a = record { candidate = c .right; sealed = a .right }
 
@@ -79,10 +65,12 @@ fresh n i = go (decLt i n)
     go (no l) = List·getD-eq-default (replicate n 0) 0 (omega (arith, length-replicate {A = ℕ} n 0))
 
 pub memos-first : (n : ℕ) {W ids : List ℕ} {len init : ℕ} {C A E : List ℕ} → Memos W ids len init C A E (replicate n 0)
-memos-first n = record { yes = λ k e. absurd (omega (arith, fresh n k)); no = λ k e. absurd (omega (arith, fresh n k)) }
+memos-first n = record { right = λ k d. absurd (d (fresh n k)) }
 
--- the verdict on the first agreement with the top t
-pub told-top : {W ids : List ℕ} {len init : ℕ} {A m : List ℕ} {na t a : ℕ} → Tops W ids len init A na m → Next A na t 0 a → (a ≡ na → ⊥) → eqb (getD m a 0) 1 ≡ tops W ids len init t
-told-top {W} {ids} {len} {init} {A} {m} {na} {t} {a} w s d =
-    let l : a < na = omega (arith, s .most, d) in
-    w .right a l ∙ ap (tops W ids len init) (s .here l)
+-- what the verdict on agreement a says
+module _ {W ids : List ℕ} {len init : ℕ} {A E m : List ℕ} {na : ℕ} (ok : Agreements W ids len init A E na m) where
+  pub says-yes : {a : ℕ} → a < na → getD m a 0 ≡ 1 → sealsAt W ids len init A E a ≡ true
+  says-yes {a} l e = sym (ok .right a l) ∙ eq-eqb (getD m a 0) 1 e
+
+  pub says-no : {a : ℕ} → a < na → (getD m a 0 ≡ 1 → ⊥) → false ≡ sealsAt W ids len init A E a
+  says-no {a} l e = sym (ne-eqb (getD m a 0) 1 e) ∙ ok .right a l

@@ -90,15 +90,12 @@ module _ {W ids : List ℕ} {len init : ℕ} {C : List ℕ} {nc : ℕ} {A E : Li
   pub top-init : {t : ℕ} → t < 4294967296 → t ≡ init → tops W ids len init t ≡ true
   top-init {t} l e = ok .tops t l ∙ ap (λ b. b || any (ends W ids len init A E t) (upTo na)) (eq-eqb t init e)
 
-  pub top-found : {t a : ℕ} {r : Bool} → t < 4294967296 → Sought W ids len init A E na t a → a < na → r ≡ sealsAt W ids len init A E a → r ≡ true → tops W ids len init t ≡ true
-  top-found {t} {a} l w m e f =
-      ok .tops t l ∙ or-right (eqb t init) (any (ends W ids len init A E t) (upTo na)) (any-at (ends W ids len init A E t) (λ i. i) na m (end-is W ids len init A E t a true (w .so .here m) (sym e ∙ f)))
+  pub top-found : {t a : ℕ} → t < 4294967296 → Sought W ids len init A E na t a → a < na → sealsAt W ids len init A E a ≡ true → tops W ids len init t ≡ true
+  top-found {t} {a} l w m e =
+      ok .tops t l ∙ or-right (eqb t init) (any (ends W ids len init A E t) (upTo na)) (any-at (ends W ids len init A E t) (λ i. i) na m (end-is W ids len init A E t a true (w .so .here m) e))
 
   pub top-none : {t a : ℕ} → t < 4294967296 → (t ≡ init → ⊥) → Sought W ids len init A E na t a → na ≤ a → tops W ids len init t ≡ false
   top-none {t} {a} l d w m = ok .tops t l ∙ or-none (eqb t init) (any (ends W ids len init A E t) (upTo na)) (ne-eqb t init d) (none-has na (λ i h. w .so .none i (omega arith)))
-
-  pub top-rowless : {t a : ℕ} → t < 4294967296 → (t ≡ init → ⊥) → Next A na t 0 a → a ≡ na → false ≡ tops W ids len init t
-  top-rowless l d s e = sym (top-none l d (seek-first s) (omega arith))
 
   -- ---- candidates
 
@@ -111,26 +108,32 @@ module _ {W ids : List ℕ} {len init : ℕ} {C : List ℕ} {nc : ℕ} {A E : Li
   pub cand-rowless : {v f : ℕ} → v < 4294967296 → (v ≡ init → ⊥) → Next C nc v 0 f → f ≡ nc → false ≡ cand W ids len init (viewOf v)
   cand-rowless l d s e = sym (cand-none l d (try-first s) (omega arith))
 
-  pub cand-at : {v c t : ℕ} {r : Bool} → v < 4294967296 → Tried W ids len init C nc v c → c < nc → t ≡ low (getD C c 0) → r ≡ tops W ids len init t → r ≡ true → cand W ids len init (viewOf v) ≡ true
-  cand-at {v} {c} {t} l w m e f g =
-      ok .candidates v l ∙ or-right (eqb v init) (any (gives W ids len init C v) (upTo nc)) (any-at (gives W ids len init C v) (λ i. i) nc m (give-is W ids len init C v c t true (w .so .here m) e (sym f ∙ g)))
+  chosen-at : {v c t : ℕ} → v < 4294967296 → Tried W ids len init C nc v c → c < nc → t ≡ low (getD C c 0) → tops W ids len init t ≡ true → cand W ids len init (viewOf v) ≡ true
+  chosen-at {v} {c} {t} l w m e f =
+      ok .candidates v l ∙ or-right (eqb v init) (any (gives W ids len init C v) (upTo nc)) (any-at (gives W ids len init C v) (λ i. i) nc m (give-is W ids len init C v c t true (w .so .here m) e f))
 
-  pub try-next : {v c t d : ℕ} {r : Bool} → Tried W ids len init C nc v c → c < nc → t ≡ low (getD C c 0) → r ≡ tops W ids len init t → r ≡ false → Next C nc v (c + 1) d → Tried W ids len init C nc v d
-  try-next {v} {c} {t} w m e f g q = record { so = passed-next (give-other W ids len init C v) (w .so) (give-is W ids len init C v c t false (w .so .here m) e (sym f ∙ g)) q }
+  pub cand-at-init : {v c t : ℕ} → v < 4294967296 → Tried W ids len init C nc v c → c < nc → t ≡ low (getD C c 0) → t ≡ init → cand W ids len init (viewOf v) ≡ true
+  cand-at-init l w m e f = chosen-at l w m e (top-init (omega arith) f)
+
+  pub cand-at : {v c t a : ℕ} {r : Bool} → v < 4294967296 → Tried W ids len init C nc v c → c < nc → t ≡ low (getD C c 0) → Sought W ids len init A E na t a → a < na
+      → r ≡ sealsAt W ids len init A E a → r ≡ true → cand W ids len init (viewOf v) ≡ true
+  cand-at l w m e s k f g = chosen-at l w m e (top-found (omega arith) s k (sym f ∙ g))
+
+  pub try-next : {v c t a d : ℕ} → Tried W ids len init C nc v c → c < nc → t ≡ low (getD C c 0) → (t ≡ init → ⊥) → Sought W ids len init A E na t a → na ≤ a → Next C nc v (c + 1) d
+      → Tried W ids len init C nc v d
+  try-next {v} {c} {t} w m e n s k q = record { so = passed-next (give-other W ids len init C v) (w .so) (give-is W ids len init C v c t false (w .so .here m) e (top-none (omega arith) n s k)) q }
 
   -- ---- what falls from call to call
 
   same-size : {x y : ℕ} → x ≡ y → size 16 (viewOf x) ≡ size 16 (viewOf y)
   same-size e = ap (λ x. size 16 (viewOf x)) e
 
-  pub choice-less : {v c t : ℕ} → Tried W ids len init C nc v c → c < nc → t ≡ low (getD C c 0) → size 16 (viewOf t) < size 16 (viewOf v)
-  choice-less {v} {c} w m e = omega (arith, ok .rises c m, same-size (w .so .here m), same-size e)
+  pub seal-less : {v c t a : ℕ} → Tried W ids len init C nc v c → c < nc → t ≡ low (getD C c 0) → Sought W ids len init A E na t a → a < na
+      → size 16 (viewOf (high (getD A a 0))) < size 16 (viewOf v)
+  seal-less {v} {c} w m e s k = omega (arith, ok .rises c m, same-size (w .so .here m), same-size e, same-size (s .so .here k))
 
-  pub top-same : {t a : ℕ} → Sought W ids len init A E na t a → a < na → size 16 (viewOf (high (getD A a 0))) ≡ size 16 (viewOf t)
-  top-same s k = same-size (s .so .here k)
-
-  pub agreement-less : {a t : ℕ} → a < na → t ≡ low (getD A a 0) → size 16 (viewOf t) < size 16 (viewOf (high (getD A a 0)))
-  agreement-less {a} l e = omega (arith, ok .climbs a l, same-size e)
+  pub top-less : {a t b : ℕ} → a < na → t ≡ low (getD A a 0) → Sought W ids len init A E na t b → b < na → size 16 (viewOf (high (getD A b 0))) < size 16 (viewOf (high (getD A a 0)))
+  top-less {a} l e s k = omega (arith, ok .climbs a l, same-size e, same-size (s .so .here k))
 
   pub view-less : {a n e p : ℕ} (v : ℕ) → a < na → n ≡ getD E a 0 → e ≡ countOf W n → p < e → viewOf v ≡ viewAt W n p → size 16 (viewOf v) ≤ size 16 (viewOf (high (getD A a 0)))
   unfolding stmtAt
@@ -151,17 +154,23 @@ module _ {W ids : List ℕ} {len init : ℕ} {C : List ℕ} {nc : ℕ} {A E : Li
   pub all-next : (v : ℕ) {n p : ℕ} {r : Bool} → AllTo W ids len init n p → viewOf v ≡ viewAt W n p → r ≡ cand W ids len init (viewOf v) → r ≡ true → AllTo W ids len init n (p + 1)
   all-next v {n} {p} {r} a y z w = record { are = all-more (cand W ids len init) (viewAt W n) p (a .are) (ap (cand W ids len init) (sym y) ∙ sym z ∙ w) }
 
-  pub seal-by : (a : ℕ) {n e p t : ℕ} {r : Bool} → n ≡ getD E a 0 → e ≡ countOf W n → p ≤ e → e ≤ p → AllTo W ids len init n p → t ≡ low (getD A a 0) → r ≡ tops W ids len init t → r ≡ true
-      → sealsAt W ids len init A E a ≡ true
+  seal-by : (a : ℕ) {n e p t : ℕ} → n ≡ getD E a 0 → e ≡ countOf W n → p ≤ e → e ≤ p → AllTo W ids len init n p → t ≡ low (getD A a 0) → tops W ids len init t ≡ true → sealsAt W ids len init A E a ≡ true
   unfolding sealsAt stmtAt
-  seal-by a {n} {e} {p} {t} q f l m al g h j =
+  seal-by a {n} {e} {p} {t} q f l m al g h =
       let d : countOf W n ≡ p = omega arith in
-      ap₂ _&&_ (ap (tops W ids len init) (sym g) ∙ sym h ∙ j) (rw (sym q) (ap (λ m. all (cand W ids len init) (table m (viewAt W n))) d ∙ al .are))
+      ap₂ _&&_ (ap (tops W ids len init) (sym g) ∙ h) (rw (sym q) (ap (λ m. all (cand W ids len init) (table m (viewAt W n))) d ∙ al .are))
 
-  pub seal-none : (a : ℕ) {t : ℕ} {r : Bool} → t ≡ low (getD A a 0) → r ≡ tops W ids len init t → r ≡ false → sealsAt W ids len init A E a ≡ false
+  pub seal-init : (a : ℕ) {n e p t : ℕ} → n ≡ getD E a 0 → e ≡ countOf W n → p ≤ e → e ≤ p → AllTo W ids len init n p → t ≡ low (getD A a 0) → t ≡ init → sealsAt W ids len init A E a ≡ true
+  seal-init a q f l m al g h = seal-by a q f l m al g (top-init (omega arith) h)
+
+  pub seal-found : (a : ℕ) {n e p t b : ℕ} {r : Bool} → n ≡ getD E a 0 → e ≡ countOf W n → p ≤ e → e ≤ p → AllTo W ids len init n p → t ≡ low (getD A a 0)
+      → Sought W ids len init A E na t b → b < na → r ≡ sealsAt W ids len init A E b → r ≡ true → sealsAt W ids len init A E a ≡ true
+  seal-found a q f l m al g s k h j = seal-by a q f l m al g (top-found (omega arith) s k (sym h ∙ j))
+
+  pub seal-none : (a : ℕ) {t b : ℕ} → t ≡ low (getD A a 0) → (t ≡ init → ⊥) → Sought W ids len init A E na t b → na ≤ b → sealsAt W ids len init A E a ≡ false
   unfolding sealsAt
-  seal-none a {t} g h j =
-      ap (λ b. b && all (cand W ids len init) (stmtAt W (getD E a 0) .views)) (ap (tops W ids len init) (sym g) ∙ sym h ∙ j)
+  seal-none a {t} g d s k =
+      ap (λ b. b && all (cand W ids len init) (stmtAt W (getD E a 0) .views)) (ap (tops W ids len init) (sym g) ∙ top-none (omega arith) d s k)
 
 -- ---- what is remembered
 
@@ -190,47 +199,25 @@ module _ {W ids : List ℕ} {len init : ℕ} {C A E : List ℕ} where
   unfolding asked
   about-choice l = record { so = pick _ _ _ (lt-ltb _ _ l) }
 
-  pub about-agreement : (a : ℕ) → a < 512 → About W ids len init C A E (512 + a) (sealsAt W ids len init A E a)
+  pub about-agreement : (a : ℕ) → About W ids len init C A E (512 + a) (sealsAt W ids len init A E a)
   unfolding asked
-  about-agreement a l = record { so = skip _ _ _ (le-ltb (512 + a) 512 (omega arith)) ∙ pick _ _ _ (lt-ltb (512 + a) 1024 (omega arith)) ∙ ap (sealsAt W ids len init A E) back }
+  about-agreement a = record { so = skip _ _ _ (le-ltb (512 + a) 512 (omega arith)) ∙ ap (sealsAt W ids len init A E) back }
     where
       back : (512 + a) - 512 ≡ a
-      back = omega arith
-
-  about-top : (a : ℕ) → About W ids len init C A E (1024 + a) (tops W ids len init (high (getD A a 0)))
-  unfolding asked
-  about-top a = record { so = skip _ _ _ (le-ltb (1024 + a) 512 (omega arith)) ∙ skip _ _ _ (le-ltb (1024 + a) 1024 (omega arith)) ∙ ap (λ i. tops W ids len init (high (getD A i 0))) back }
-    where
-      back : (1024 + a) - 1024 ≡ a
       back = omega arith
 
   pub about-view : {nc v f : ℕ} → nc ≤ 512 → Next C nc v 0 f → (f ≡ nc → ⊥) → About W ids len init C A E f (cand W ids len init (viewOf v))
   about-view l s d = record { so = about-choice (omega (arith, s .most, d)) .so ∙ ap (λ x. cand W ids len init (viewOf x)) (s .here (omega (arith, s .most, d))) }
 
-  pub about-its-top : {na t f : ℕ} → Next A na t 0 f → (f ≡ na → ⊥) → About W ids len init C A E (1024 + f) (tops W ids len init t)
-  about-its-top {na} {t} {f} s d = record { so = about-top f .so ∙ ap (tops W ids len init) (s .here (omega (arith, s .most, d))) }
-
 module _ {W ids : List ℕ} {len init : ℕ} {C A E M : List ℕ} (ok : Memos W ids len init C A E M) where
-  pub known-yes : {k : ℕ} {b : Bool} → About W ids len init C A E k b → getD M k 0 ≡ 1 → true ≡ b
-  known-yes {k} a e = sym (ok .yes k e) ∙ a .so
+  pub known : {k : ℕ} {b : Bool} → About W ids len init C A E k b → (getD M k 0 ≡ 0 → ⊥) → eqb (getD M k 0) 1 ≡ b
+  known {k} a d = ok .right k d ∙ a .so
 
-  pub known-no : {k : ℕ} {b : Bool} → About W ids len init C A E k b → getD M k 0 ≡ 2 → false ≡ b
-  known-no {k} a e = sym (ok .no k e) ∙ a .so
+  write : (x : ℕ) {k : ℕ} {b : Bool} → About W ids len init C A E k b → eqb x 1 ≡ b → Memos W ids len init C A E (set M k x)
+  write x {k} a e = record { right = put (λ c y. (y ≡ 0 → ⊥) → eqb y 1 ≡ asked W ids len init C A E c) M k x (ok .right) (λ q. e ∙ sym (a .so)) }
 
   pub put-yes : {k : ℕ} {b : Bool} → About W ids len init C A E k b → b ≡ true → (true ≡ b) × Memos W ids len init C A E (set M k 1)
-  put-yes {k} a e = (
-    sym e,
-    record {
-      yes = put (λ c y. y ≡ 1 → asked W ids len init C A E c ≡ true) M k 1 (ok .yes) (λ q. a .so ∙ e);
-      no = put (λ c y. y ≡ 2 → asked W ids len init C A E c ≡ false) M k 1 (ok .no) (λ q. absurd (omega arith));
-    },
-  )
+  put-yes a e = (sym e, write 1 a (eq-eqb 1 1 refl ∙ sym e))
 
   pub put-no : {k : ℕ} {b : Bool} → About W ids len init C A E k b → b ≡ false → (false ≡ b) × Memos W ids len init C A E (set M k 2)
-  put-no {k} a e = (
-    sym e,
-    record {
-      yes = put (λ c y. y ≡ 1 → asked W ids len init C A E c ≡ true) M k 2 (ok .yes) (λ q. absurd (omega arith));
-      no = put (λ c y. y ≡ 2 → asked W ids len init C A E c ≡ false) M k 2 (ok .no) (λ q. a .so ∙ e);
-    },
-  )
+  put-no a e = (sym e, write 2 a (ne-eqb 2 1 (λ q. omega arith) ∙ sym e))

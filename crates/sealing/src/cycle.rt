@@ -1,13 +1,11 @@
-// Candidates rest on sealed tops, sealed tops on sealed histories, and sealed histories on candidates and on sealed tops: three functions that call each other.
+// Candidates rest on sealed tops, and sealed histories on candidates and on sealed tops: two functions that call each other.
 //
-// What falls from call to call is three times the size of the view, and one more for a history with that top, two more for a top. A size is at most 32, so
-// that the first call has at most 3 * 32 + 2 and at most 99 calls are open at once; compiled, each takes less than 200 bytes of stack, 20 KiB in all.
-// Each verdict, yes or no, is remembered, so that none is found out twice: on the view of a choice, on agreement a at 512 + a, on the top of an agreement
-// at 1024 and more; the first choice of a view and the first agreement with a top stand for all.
+// What falls from call to call is twice the size of the view, or twice the size of the history's top and one more. A size is at most 32, so that the
+// first call has at most 2 * 32 + 1 and at most 66 calls are open at once; compiled, each takes less than 200 bytes of stack, 13 KiB in all.
+// Each verdict, yes or no, is remembered, so that none is found out twice: on the view of a choice at the first choice of that view, on agreement a at 512 + a.
 ghost use mathlib.Core.Path.{_≡_};
 ghost use Prim.Native.Nat.{_<_};
 ghost use Rattle.protocol.specs.Evidence.{isCandidate};
-ghost use Rattle.protocol.specs.Grounds.{isTop};
 ghost use Rattle.views.specs.View.{viewOf, ring};
 ghost use Rattle.pool.specs.Pool.{recordOf};
 ghost use Rattle.votes.specs.Tables.{Tables, sealsAt};
@@ -18,7 +16,7 @@ use crate::rows::INDEX;
 use pool::POOL_WORDS;
 
 // How many verdicts are remembered.
-pub const MEMO: usize = 1536;
+pub const MEMO: usize = 1024;
 
 // Whether v is a candidate: it is the initial view, or was chosen at a sealed top.
 pub fn candidate(
@@ -47,96 +45,42 @@ pub fn candidate(
         return false;
     }
     let known = memo[f];
-    if known == 1 {
-        return true;
-    }
-    if known == 2 {
-        return false;
+    if known != 0 {
+        return known == 1;
     }
     let mut c = f;
     while c < nc {
         let x = chosen[c];
         let t = rows::low_of(x);
-        if top(
-            words,
-            ids,
-            len,
-            init,
-            chosen,
-            nc,
-            ci,
-            agreed,
-            entry,
-            na,
-            ai,
-            memo,
-            t,
-        ) {
+        if t == init {
             memo[f] = 1;
             return true;
+        }
+        let mut a = rows::first(agreed, na, ai, t);
+        while a < na {
+            if sealed(
+                words,
+                ids,
+                len,
+                init,
+                chosen,
+                nc,
+                ci,
+                agreed,
+                entry,
+                na,
+                ai,
+                memo,
+                a,
+            ) {
+                memo[f] = 1;
+                return true;
+            }
+            a = rows::after(agreed, na, ai, t, a);
         }
         c = rows::after(chosen, nc, ci, v, c);
     }
     memo[f] = 2;
-    false
-}
-
-// Whether t is a sealed top: it is the initial view, or an agreement with that top seals its history.
-pub fn top(
-    words: &[u64; POOL_WORDS],
-    ids: &[u16; 512],
-    len: usize,
-    init: u32,
-    chosen: &[u64; 512],
-    nc: usize,
-    ci: &[u16; INDEX],
-    agreed: &[u64; 512],
-    entry: &[u16; 512],
-    na: usize,
-    ai: &[u16; INDEX],
-    memo: &mut [u8; MEMO],
-    t: u32,
-) -> bool
-    requires { ⌜ Tables (now words) (now ids) len init (now chosen) nc (now agreed) (now entry) na × Indexes (now chosen) nc (now ci) (now agreed) na (now ai) × Memos (now words) (now ids) len init (now chosen) (now agreed) (now entry) (now memo) ⌝ }
-    ensures { λ r. ⌜ (r ≡ isTop (ring init) (recordOf (now (words .entry)) (now (ids .entry)) len) (viewOf t)) × Memos (now (words .entry)) (now (ids .entry)) len init (now (chosen .entry)) (now (agreed .entry)) (now (entry .entry)) (now (memo .exit)) ⌝ }
-{
-    if t == init {
-        return true;
-    }
-    let f = rows::first(agreed, na, ai, t);
-    if f == na {
-        return false;
-    }
-    let known = memo[1024 + f];
-    if known == 1 {
-        return true;
-    }
-    if known == 2 {
-        return false;
-    }
-    let mut a = f;
-    while a < na {
-        if sealed(
-            words,
-            ids,
-            len,
-            init,
-            chosen,
-            nc,
-            ci,
-            agreed,
-            entry,
-            na,
-            ai,
-            memo,
-            a,
-        ) {
-            memo[1024 + f] = 1;
-            return true;
-        }
-        a = rows::after(agreed, na, ai, t, a);
-    }
-    memo[1024 + f] = 2;
     false
 }
 
@@ -160,11 +104,8 @@ pub fn sealed(
     ensures { λ r. ⌜ (r ≡ sealsAt (now (words .entry)) (now (ids .entry)) len init (now (agreed .entry)) (now (entry .entry)) a) × Memos (now (words .entry)) (now (ids .entry)) len init (now (chosen .entry)) (now (agreed .entry)) (now (entry .entry)) (now (memo .exit)) ⌝ }
 {
     let known = memo[512 + a];
-    if known == 1 {
-        return true;
-    }
-    if known == 2 {
-        return false;
+    if known != 0 {
+        return known == 1;
     }
     let n = entry[a];
     let e = pool::count(words, n);
@@ -193,23 +134,31 @@ pub fn sealed(
     }
     let x = agreed[a];
     let t = rows::low_of(x);
-    if top(
-        words,
-        ids,
-        len,
-        init,
-        chosen,
-        nc,
-        ci,
-        agreed,
-        entry,
-        na,
-        ai,
-        memo,
-        t,
-    ) {
+    if t == init {
         memo[512 + a] = 1;
         return true;
+    }
+    let mut b = rows::first(agreed, na, ai, t);
+    while b < na {
+        if sealed(
+            words,
+            ids,
+            len,
+            init,
+            chosen,
+            nc,
+            ci,
+            agreed,
+            entry,
+            na,
+            ai,
+            memo,
+            b,
+        ) {
+            memo[512 + a] = 1;
+            return true;
+        }
+        b = rows::after(agreed, na, ai, t, b);
     }
     memo[512 + a] = 2;
     false

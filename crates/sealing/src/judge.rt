@@ -1,4 +1,4 @@
-// The verdicts on all choices, all agreements and all their tops, and what follows from them.
+// The verdicts on all choices and all agreements, and what follows from them.
 ghost use mathlib.Core.Path.{_≡_};
 ghost use lib.Dec.{eqb};
 ghost use lib.ListN.{length};
@@ -6,7 +6,7 @@ ghost use Rattle.protocol.specs.Grounds.{isTop};
 ghost use Rattle.views.specs.View.{viewOf, ring};
 ghost use Rattle.pool.specs.Pool.{recordOf};
 ghost use Rattle.votes.specs.Tables.{Tables, Verdicts};
-ghost use Rattle.sealing.specs.Memos.{Memos, Choices, Agreements, Tops};
+ghost use Rattle.sealing.specs.Memos.{Memos, Choices, Agreements};
 ghost use Rattle.sealing.specs.Rows.{Indexed, Indexes};
 use crate::cycle;
 use crate::cycle::MEMO;
@@ -116,101 +116,6 @@ fn agreements(
     }
 }
 
-// The verdict on the top of each agreement, into `out`.
-fn tops(
-    words: &[u64; POOL_WORDS],
-    ids: &[u16; 512],
-    len: usize,
-    init: u32,
-    chosen: &[u64; 512],
-    nc: usize,
-    ci: &[u16; INDEX],
-    agreed: &[u64; 512],
-    entry: &[u16; 512],
-    na: usize,
-    ai: &[u16; INDEX],
-    memo: &mut [u8; MEMO],
-    out: &mut [u8; 512],
-)
-    requires { ⌜ Tables (now words) (now ids) len init (now chosen) nc (now agreed) (now entry) na × Indexes (now chosen) nc (now ci) (now agreed) na (now ai) × Memos (now words) (now ids) len init (now chosen) (now agreed) (now entry) (now memo) × (length (now out) ≡ 512) ⌝ }
-    ensures { λ r. ⌜ Tops (now (words .entry)) (now (ids .entry)) len init (now (agreed .entry)) na (now (out .exit)) ⌝ }
-{
-    let mut a = 0usize;
-    while a < na {
-        let x = agreed[a];
-        let t = rows::high_of(x);
-        let yes = cycle::top(
-            words,
-            ids,
-            len,
-            init,
-            chosen,
-            nc,
-            ci,
-            agreed,
-            entry,
-            na,
-            ai,
-            memo,
-            t,
-        );
-        out[a] = mark(yes);
-        a += 1;
-    }
-}
-
-// The verdicts on the agreements and on their tops.
-fn histories(
-    words: &[u64; POOL_WORDS],
-    ids: &[u16; 512],
-    len: usize,
-    init: u32,
-    chosen: &[u64; 512],
-    nc: usize,
-    ci: &[u16; INDEX],
-    agreed: &[u64; 512],
-    entry: &[u16; 512],
-    na: usize,
-    ai: &[u16; INDEX],
-    memo: &mut [u8; MEMO],
-    ma: &mut [u8; 512],
-    mt: &mut [u8; 512],
-)
-    requires { ⌜ Tables (now words) (now ids) len init (now chosen) nc (now agreed) (now entry) na × Indexes (now chosen) nc (now ci) (now agreed) na (now ai) × Memos (now words) (now ids) len init (now chosen) (now agreed) (now entry) (now memo) × (length (now ma) ≡ 512) × (length (now mt) ≡ 512) ⌝ }
-    ensures { λ r. ⌜ Agreements (now (words .entry)) (now (ids .entry)) len init (now (agreed .entry)) (now (entry .entry)) na (now (ma .exit)) × Tops (now (words .entry)) (now (ids .entry)) len init (now (agreed .entry)) na (now (mt .exit)) ⌝ }
-{
-    agreements(
-        words,
-        ids,
-        len,
-        init,
-        chosen,
-        nc,
-        ci,
-        agreed,
-        entry,
-        na,
-        ai,
-        memo,
-        ma,
-    );
-    tops(
-        words,
-        ids,
-        len,
-        init,
-        chosen,
-        nc,
-        ci,
-        agreed,
-        entry,
-        na,
-        ai,
-        memo,
-        mt,
-    );
-}
-
 // All verdicts, and the index of the agreements. What the memory held before does not matter.
 pub fn verdicts(
     words: &[u64; POOL_WORDS],
@@ -225,14 +130,12 @@ pub fn verdicts(
     ai: &mut [u16; INDEX],
     mc: &mut [u8; 512],
     ma: &mut [u8; 512],
-    mt: &mut [u8; 512],
 )
     requires { ⌜ Tables (now words) (now ids) len init (now chosen) nc (now agreed) (now entry) na ⌝ }
-    ensures { λ r. ⌜ Verdicts (now (words .entry)) (now (ids .entry)) len init (now (chosen .entry)) nc (now (agreed .entry)) (now (entry .entry)) na (now (mc .exit)) (now (ma .exit)) × Tops (now (words .entry)) (now (ids .entry)) len init (now (agreed .entry)) na (now (mt .exit)) × Indexed (now (agreed .entry)) 0 na (now (ai .exit)) ⌝ }
+    ensures { λ r. ⌜ Verdicts (now (words .entry)) (now (ids .entry)) len init (now (chosen .entry)) nc (now (agreed .entry)) (now (entry .entry)) na (now (mc .exit)) (now (ma .exit)) × Agreements (now (words .entry)) (now (ids .entry)) len init (now (agreed .entry)) (now (entry .entry)) na (now (ma .exit)) × Indexed (now (agreed .entry)) 0 na (now (ai .exit)) ⌝ }
 {
     room(mc);
     room(ma);
-    room(mt);
     let mut ci = [0u16; INDEX];
     rows::index_rows(chosen, nc, &mut ci);
     rows::index_rows(agreed, na, ai);
@@ -252,7 +155,7 @@ pub fn verdicts(
         &mut memo,
         mc,
     );
-    histories(
+    agreements(
         words,
         ids,
         len,
@@ -266,7 +169,6 @@ pub fn verdicts(
         ai,
         &mut memo,
         ma,
-        mt,
     );
 }
 
@@ -282,18 +184,21 @@ pub fn is_sealed_top(
     entry: &[u16; 512],
     na: usize,
     ai: &[u16; INDEX],
-    mt: &[u8; 512],
+    ma: &[u8; 512],
     t: u32,
 ) -> bool
-    requires { ⌜ Tables (now words) (now ids) len init (now chosen) nc (now agreed) (now entry) na × Tops (now words) (now ids) len init (now agreed) na (now mt) × Indexed (now agreed) 0 na (now ai) ⌝ }
+    requires { ⌜ Tables (now words) (now ids) len init (now chosen) nc (now agreed) (now entry) na × Agreements (now words) (now ids) len init (now agreed) (now entry) na (now ma) × Indexed (now agreed) 0 na (now ai) ⌝ }
     ensures { λ r. ⌜ r ≡ isTop (ring init) (recordOf (now (words .entry)) (now (ids .entry)) len) (viewOf t) ⌝ }
 {
     if t == init {
         return true;
     }
-    let a = rows::first(agreed, na, ai, t);
-    if a == na {
-        return false;
+    let mut a = rows::first(agreed, na, ai, t);
+    while a < na {
+        if ma[a] == 1 {
+            return true;
+        }
+        a = rows::after(agreed, na, ai, t, a);
     }
-    mt[a] == 1
+    false
 }

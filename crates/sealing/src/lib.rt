@@ -5,7 +5,6 @@ mod rows;
 
 pub use cycle::candidate;
 pub use cycle::sealed;
-pub use cycle::top;
 pub use judge::is_sealed_top;
 pub use judge::verdicts;
 pub use rows::INDEX;

@@ -6,10 +6,10 @@ use Rattle.evidence.proofs.certificates.mark_backed.Statement.{statemen
 use Rattle.evidence.proofs.certificates.mark_backed.Tie as tie
 
 abbrev Inv-loop : tie.InvT-loop
-Inv-loop words ids len init chosen nc agreed entry na ai mt first seen n marks₀ g₀ marks g = (g ≤ n) × laws.MarkedTo words ids len init first marks g
+Inv-loop words ids len init chosen nc agreed entry na ai ma first seen n marks₀ g₀ marks g = (g ≤ n) × laws.MarkedTo words ids len init first marks g
 
 abbrev μ-loop : tie.MeasureT-loop
-μ-loop words ids len init chosen nc agreed entry na ai mt first seen n marks₀ g₀ marks g = n - g
+μ-loop words ids len init chosen nc agreed entry na ai ma first seen n marks₀ g₀ marks g = n - g
 
 pub mark-backed-spec : {M : Type 1} → statement M
 mark-backed-spec =

@@ -1,4 +1,3 @@
-use native.Mathlib.Omega.{arith}
 use Rattle.sealing.proofs.Judged.{memos-first, verdicts-of}
 use borrow.Author.Needs.{needs}
 use Rattle.sealing.proofs.judge.verdicts.Statement.{statement}
@@ -10,9 +9,8 @@ verdicts-spec =
     (tie.spec
     (λ c κs. search needs)
     (λ c κs. search needs)
-    (λ c κs. search needs)
-    (λ c κs. c .before .before .before .before .before .before .before .pre .choices)
-    (λ c κs. c .before .before .before .before .before .before .before .before .before .pre .agreements)
-    (λ c κs. (c .before .before .before .before .before .before .before .before .before .before .before .before .before .before .pre, record { choices = c .before .before .before .before .before .before .index-rows .ensures; agreements = c .before .before .before .before .index-rows2 .ensures }, memos-first 1536, c .before .before .before .before .before .before .before .before .before .before .before .before .room .ensures))
-    (λ c κs. (c .before .before .before .before .before .before .before .before .before .before .before .before .before .before .before .before .before .before .before .before .pre, record { choices = c .before .before .before .before .before .before .before .before .before .before .before .before .index-rows .ensures; agreements = c .before .before .before .before .before .before .before .before .before .before .index-rows2 .ensures }, c .before .before .before .before .before .choices .ensures .1, c .before .before .before .before .before .before .before .before .before .before .before .before .before .before .before .before .room2 .ensures, c .before .before .before .before .before .before .before .before .before .before .before .before .before .before .room3 .ensures))
-    (λ c. (verdicts-of (c .before .before .before .before .before .before .choices .ensures .0) (c .histories .ensures .0), c .histories .ensures .1, c .before .before .before .before .before .before .before .before .before .before .before .index-rows2 .ensures)))
+    (λ c κs. c .before .before .before .before .before .pre .choices)
+    (λ c κs. c .before .before .before .before .before .before .before .pre .agreements)
+    (λ c κs. (c .before .before .before .before .before .before .before .before .before .before .before .before .pre, record { choices = c .before .before .before .before .before .before .index-rows .ensures; agreements = c .before .before .before .before .index-rows2 .ensures }, memos-first 1024, c .before .before .before .before .before .before .before .before .before .before .room .ensures))
+    (λ c κs. (c .before .before .before .before .before .before .before .before .before .before .before .before .before .before .before .before .before .pre, record { choices = c .before .before .before .before .before .before .before .before .before .before .before .index-rows .ensures; agreements = c .before .before .before .before .before .before .before .before .before .index-rows2 .ensures }, c .before .before .before .before .choices .ensures .1, c .before .before .before .before .before .before .before .before .before .before .before .before .before .room2 .ensures))
+    (λ c. (verdicts-of (c .before .before .before .before .before .choices .ensures .0) (c .agreements .ensures .0), c .agreements .ensures .0, c .before .before .before .before .before .before .before .before .before .before .index-rows2 .ensures)))
