@@ -10,3 +10,4 @@ pub mod States
 pub mod Starts
 pub mod Runs
 pub mod One
+pub mod Answers

@@ -11,7 +11,7 @@ use native.Mathlib.Omega.{arith}
 use lib.Dec.{T, eqb, ltb, ltb→lt}
 use Rattle.protocol.proofs.Rules.{and-first, and-second}
 use lib.ListN.{length, getD, set, take, drop, replicate, length-replicate, getD-replicate, length-set, length-drop, length-append, drop-of-length-le}
-use lib.Seq.{sets, length-sets, getD-set-same, getD-set-other, ext-getD, drop-drop, take-all, sets-eq, take-append-seam}
+use lib.Seq.{sets, length-sets, getD-set-same, getD-set-other, ext-getD, drop-drop, take-all}
 use borrow.Author.Tests.{lt-ltb, le-ltb, eq-eqb, ne-eqb}
 use Rattle.protocol.specs.Lists.{if_then_else_}
 use Rattle.protocol.specs.View.{controllers}
@@ -44,7 +44,7 @@ use Rattle.bench.specs.Bench.{Seat, emptySeat, Bench, newBench, step}
 use Rattle.bench.specs.Rows.{rowText, headerText, rowsFrom, refusedRow, Printed}
 use Rattle.bench.specs.Writing.{wordFor, valueIs, rowOf, Shows}
 use Rattle.bench.specs.Seats.{blank, seatIs, benchOf, Distinct, Sound, Grows, Fit, seatOf, seatsAfter, replyIs, Advanced, wordOf, valueOf}
-use Rattle.bench.specs.Running.{rowIs, seatsIs, benchIs, Kept, Started, Reading, Going, Ran}
+use Rattle.bench.specs.Running.{rowIs, seatsIs, benchIs, Kept, Started, Reading, Going, Ran, Wrote}
 use Rattle.bench.proofs.Rows.{shown}
 use Rattle.bench.proofs.States.{seat-kept, whole-kept, no-pool}
 
@@ -193,8 +193,8 @@ module _ (S : List ℕ) (at n : ℕ) (b b′ : Bench) (R R′ : List ℕ) (out :
   }
 
 -- what the next line needs of the rows
-pub going-room : {S : List ℕ} {at n : ℕ} {b : Bench} {R R′ : List ℕ} {out : ℕ} → Going S at n b R R′ out → length S ≤ 65536 → at < length S → 2621504 ≤ length R → (out + 40 ≤ length R′) × (n < 100000)
-going-room {R = R} g s m l = (omega (arith, g .end, g .small, ap length (g .rows), length-sets R 22 (g .printed)), omega (arith, g .number))
+pub going-room : {S : List ℕ} {at n : ℕ} {b : Bench} {R R′ : List ℕ} {out : ℕ} → Going S at n b R R′ out → length S ≤ 65536 → at < length S → (out ≤ 2621504) × (n < 100000)
+going-room g s m = (omega (arith, g .end, g .small), omega (arith, g .number))
 
 pub going-long : {S : List ℕ} {at n : ℕ} {b : Bench} {R R′ : List ℕ} {out : ℕ} → Going S at n b R R′ out → length R′ ≡ length R
 going-long {R = R} g = ap length (g .rows) ∙ length-sets R 22 (g .printed)
@@ -267,13 +267,14 @@ next-moves S at of l = of .moves (omega (arith, length-drop at S))
 
 -- ---- the header and what stands after it
 
-take-sets : (R xs : List ℕ) → length xs ≤ length R → take (length xs) (sets R 0 xs) ≡ xs
-take-sets R xs l = ap (take (length xs)) (sets-eq xs R 0 (omega arith)) ∙ take-append-seam xs (drop (0 + length xs) R)
-
-headed : (R R′ R″ xs : List ℕ) (r : ℕ) → 2621504 ≤ length R → R′ ≡ sets R 0 headerText → R″ ≡ sets R′ 22 xs → r ≡ 22 + length xs → length xs ≤ 2621440 → take r R″ ≡ headerText ++ xs
-headed R R′ R″ xs r l e f g m =
-    ap₂ take (g ∙ sym (length-append headerText xs)) (f ∙ ap (λ t. sets t 22 xs) e ∙ sym (sets-append headerText xs R 0))
-    ∙ take-sets R (headerText ++ xs) (omega (arith, length-append headerText xs))
+headed : (S R R′ R″ xs : List ℕ) (r : ℕ) → Printed S (headerText ++ xs) → R′ ≡ sets R 0 headerText → R″ ≡ sets R′ 22 xs → r ≡ 22 + length xs → length xs ≤ 2621440 → Wrote S R r R″
+headed S R R′ R″ xs r p e f g m = record {
+  text = headerText ++ xs;
+  printed = p;
+  long = g ∙ sym (length-append headerText xs);
+  small = omega (arith, length-append headerText xs);
+  rows = f ∙ ap (λ t. sets t 22 xs) e ∙ sym (sets-append headerText xs R 0);
+}
 
 empty-reads : (S : List ℕ) → length S ≡ 0 → ReadAll (lines S) []
 unfolding lines
@@ -283,25 +284,24 @@ empty-reads (x ∷ S) e = absurd (omega arith)
 refused-row : rowOf 0 16 word.Refused (value.Number 8) ≡ refusedRow
 refused-row = shown 0 (record { named = refl; word = refl; value = refl })
 
-module _ (S R R′ R″ : List ℕ) (r : ℕ) (l : 2621504 ≤ length R) (e : R′ ≡ sets R 0 headerText)
+module _ (S R R′ R″ : List ℕ) (r : ℕ) (e : R′ ≡ sets R 0 headerText)
     (put : (r ≡ 22 + length (rowOf 0 16 word.Refused (value.Number 8))) × (R″ ≡ sets R′ 22 (rowOf 0 16 word.Refused (value.Number 8))) × (length (rowOf 0 16 word.Refused (value.Number 8)) ≤ 40)) where
-  refusal : take r R″ ≡ headerText ++ refusedRow
-  refusal = headed R R′ R″ (rowOf 0 16 word.Refused (value.Number 8)) r l e (put .1) (put .0) (omega (arith, put .2)) ∙ ap (λ t. headerText ++ t) refused-row
+  refusal : Printed S (headerText ++ refusedRow) → Wrote S R r R″
+  refusal p = headed S R R′ R″ (rowOf 0 16 word.Refused (value.Number 8)) r (subst (λ t. Printed S (headerText ++ t)) (sym refused-row) p) e (put .1) (put .0) (omega (arith, put .2))
 
-  pub printed-empty : length S ≡ 0 → Printed S (take r R″)
-  printed-empty z = record { reading = []; reads = λ h. empty-reads S z; prints = refusal ∙ ap (λ t. headerText ++ t) (sym (pick-true (eqb (length S) 0 || ltb 65536 (length S)) refusedRow (rowsFrom 1 newBench []) (ap (λ b. b || ltb 65536 (length S)) (eq-eqb (length S) 0 z)))) }
+  pub printed-empty : length S ≡ 0 → Wrote S R r R″
+  printed-empty z = refusal (record { reading = []; reads = λ h. empty-reads S z; prints = ap (λ t. headerText ++ t) (sym (pick-true (eqb (length S) 0 || ltb 65536 (length S)) refusedRow (rowsFrom 1 newBench []) (ap (λ b. b || ltb 65536 (length S)) (eq-eqb (length S) 0 z)))) })
 
   or-yes : (b : Bool) → (b || true) ≡ true
   or-yes true = refl
   or-yes false = refl
 
-  pub printed-long : 65536 < length S → Printed S (take r R″)
-  printed-long z = record { reading = []; reads = λ h. absurd (omega arith); prints = refusal ∙ ap (λ t. headerText ++ t) (sym (pick-true (eqb (length S) 0 || ltb 65536 (length S)) refusedRow (rowsFrom 1 newBench []) (ap (λ b. eqb (length S) 0 || b) (lt-ltb 65536 (length S) z) ∙ or-yes (eqb (length S) 0)))) }
+  pub printed-long : 65536 < length S → Wrote S R r R″
+  printed-long z = refusal (record { reading = []; reads = λ h. absurd (omega arith); prints = ap (λ t. headerText ++ t) (sym (pick-true (eqb (length S) 0 || ltb 65536 (length S)) refusedRow (rowsFrom 1 newBench []) (ap (λ b. eqb (length S) 0 || b) (lt-ltb 65536 (length S) z) ∙ or-yes (eqb (length S) 0)))) })
 
-pub printed-run : (S R R′ R″ : List ℕ) (r : ℕ) → 2621504 ≤ length R → R′ ≡ sets R 0 headerText → Ran S R′ R″ r → (length S ≡ 0 → ⊥) → length S ≤ 65536 → Printed S (take r R″)
-printed-run S R R′ R″ r l e m a b = record {
+pub printed-run : (S R R′ R″ : List ℕ) (r : ℕ) → R′ ≡ sets R 0 headerText → Ran S R′ R″ r → (length S ≡ 0 → ⊥) → length S ≤ 65536 → Wrote S R r R″
+printed-run S R R′ R″ r e m a b = headed S R R′ R″ (m .printed) r (record {
   reading = m .ran .reading;
   reads = λ h. m .ran .reads;
-  prints = headed R R′ R″ (m .printed) r l e (m .rows) (m .end) (m .small)
-      ∙ ap (λ t. headerText ++ t) (sym (m .ran .rows ∙ append-nil (m .printed)) ∙ sym (pick-false (eqb (length S) 0 || ltb 65536 (length S)) refusedRow (rowsFrom 1 newBench (m .ran .reading)) (ap₂ _||_ (ne-eqb (length S) 0 a) (le-ltb 65536 (length S) b))));
-}
+  prints = ap (λ t. headerText ++ t) (sym (m .ran .rows ∙ append-nil (m .printed)) ∙ sym (pick-false (eqb (length S) 0 || ltb 65536 (length S)) refusedRow (rowsFrom 1 newBench (m .ran .reading)) (ap₂ _||_ (ne-eqb (length S) 0 a) (le-ltb 65536 (length S) b))));
+}) e (m .rows) (m .end) (m .small)

@@ -64,15 +64,15 @@ step-requires c κs = (record { distinct = c .before .before .before .before .be
 
 -- src/run.rt:140:9
 put-step-requires : tie.Need-put-step-requires Inv-loop μ-loop
-put-step-requires c κs = (going-room (c .before .before .before .before .before .before .before .before .before .loop .inv .1) (c .before .before .before .before .before .before .before .before .before .before .before .before .before .pre .0) (c .before .before .before .before .before .before .before .before .loop-test .taken) (c .before .before .before .before .before .before .before .before .before .before .before .before .before .pre .1) .0, going-room (c .before .before .before .before .before .before .before .before .before .loop .inv .1) (c .before .before .before .before .before .before .before .before .before .before .before .before .before .pre .0) (c .before .before .before .before .before .before .before .before .loop-test .taken) (c .before .before .before .before .before .before .before .before .before .before .before .before .before .pre .1) .1, c .before .step .ensures .who)
+put-step-requires c κs = (going-room (c .before .before .before .before .before .before .before .before .before .loop .inv .1) (c .before .before .before .before .before .before .before .before .before .before .before .before .before .pre) (c .before .before .before .before .before .before .before .before .loop-test .taken) .0, going-room (c .before .before .before .before .before .before .before .before .before .loop .inv .1) (c .before .before .before .before .before .before .before .before .before .before .before .before .before .pre) (c .before .before .before .before .before .before .before .before .loop-test .taken) .1, c .before .step .ensures .who)
 
 -- src/run.rt:143:9
 add-at : tie.Need-add-at Inv-loop μ-loop
-add-at c = omega (arith, c .before .before .before .before .before .before .before .before .before .before .before .before .before .before .before .before .before .before .pre .0, next-within (c .before .before .before .before .before .before .before .before .before .before .before .before .before .before .before .before .before .before .args .schedule .now) (c .before .before .before .before .before .before .before .before .before .before .before .before .before .before .loop .at) (part-read (c .before .before .before .before .before .before .before .before .before .before .before .before .before .before .before .before .before .before .args .schedule .now) (c .before .before .before .before .before .before .before .before .before .before .before .before .before .before .loop .at) _ (c .before .before .before .before .before .before .before .before .before .before .before .read-line .ensures)) (c .before .before .before .before .before .before .before .before .before .before .before .before .before .before .loop .inv .1 .within))
+add-at c = omega (arith, c .before .before .before .before .before .before .before .before .before .before .before .before .before .before .before .before .before .before .pre, next-within (c .before .before .before .before .before .before .before .before .before .before .before .before .before .before .before .before .before .before .args .schedule .now) (c .before .before .before .before .before .before .before .before .before .before .before .before .before .before .loop .at) (part-read (c .before .before .before .before .before .before .before .before .before .before .before .before .before .before .before .before .before .before .args .schedule .now) (c .before .before .before .before .before .before .before .before .before .before .before .before .before .before .loop .at) _ (c .before .before .before .before .before .before .before .before .before .before .before .read-line .ensures)) (c .before .before .before .before .before .before .before .before .before .before .before .before .before .before .loop .inv .1 .within))
 
 -- src/run.rt:144:9
 add-n : tie.Need-add-n Inv-loop μ-loop
-add-n c = omega (arith, c .before .before .before .before .before .before .before .before .before .before .before .before .before .before .before .before .before .before .pre .0, c .before .before .before .before .before .before .before .before .before .before .before .before .before .before .loop .inv .1 .number, c .before .before .before .before .before .before .before .before .before .before .before .before .before .before .loop .inv .1 .within)
+add-n c = omega (arith, c .before .before .before .before .before .before .before .before .before .before .before .before .before .before .before .before .before .before .pre, c .before .before .before .before .before .before .before .before .before .before .before .before .before .before .loop .inv .1 .number, c .before .before .before .before .before .before .before .before .before .before .before .before .before .before .loop .inv .1 .within)
 
 -- src/run.rt:146:17
 start-all-requires : tie.Need-start-all-requires Inv-loop μ-loop
@@ -108,7 +108,7 @@ same-length c = going-long (c .before .loop .inv .1)
 
 -- src/run.rt:117:1
 returns : tie.Need-returns Inv-loop μ-loop
-returns c = going-end (c .before .loop .inv .1) (omega arith) (c .before .before .before .before .before .pre .0)
+returns c = going-end (c .before .loop .inv .1) (omega arith) (c .before .before .before .before .before .pre)
 
 pub run-lines-spec : {M : Type 1} → statement M
 run-lines-spec =
