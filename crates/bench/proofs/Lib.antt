@@ -11,3 +11,4 @@ pub mod Starts
 pub mod Runs
 pub mod One
 pub mod Answers
+pub mod Lending

@@ -11,6 +11,8 @@ use Rattle.protocol.specs.Lists.{if_then_else_, any, filter}
 use Rattle.protocol.specs.View.{controllers}
 use Rattle.protocol.specs.Statement.{Stmt, sameStmt}
 use Rattle.protocol.specs.Call.{setupAllowed, started}
+use Rattle.protocol.specs.Pool.{hasRoom}
+use Rattle.protocol.specs.Turn.{turn as turnOf}
 use Rattle.views.specs.Table.{table}
 use Rattle.statements.specs.declared.Binding.the-variants.{Unbound}
 use Rattle.statements.specs.declared.Statement.{Statement}
@@ -23,6 +25,7 @@ use Rattle.engine.specs.declared.Answer.{Answer}
 use Rattle.engine.specs.declared.Answer.the-variants.{Taken, Signed, Entered, Delivered, Left, Quiet, Refused}
 use Rattle.engine.specs.declared.Refusal.{Refusal}
 use Rattle.engine.specs.Meaning.{controllerIs, recordIs, poolIs, AllIn, Whole, answerIs, refusalIs}
+use Rattle.engine.specs.Promise.{Turns}
 use Rattle.protocol.specs.Controller.{refusalNumber}
 use Rattle.bench.specs.declared.line.Line.the-variants as is
 use Rattle.bench.specs.declared.line.Parsed.{Parsed}
@@ -103,6 +106,10 @@ pub record Seated (W : List ℕ) (ready : Bool) (c : Controller) (k : ℕ) (l : 
       ≡ record { reply = record { who = k; answer = answerIs W′ (r .answer); number = r .number }; bench = benchOf ready faulty (set X k (seatIs W′ (r .controller))) W′ }
   pub sound : Sound W′ (r .controller)
   pub grows : Grows W W′
+
+-- A turn of c over the pool W answered a and left d and W′.
+abbrev pub TurnedTo : List ℕ → Controller → Answer → Controller → List ℕ → Type 0
+TurnedTo W c a d W′ = Turns W c (turnOf (controllerIs c) (recordIs W c) (hasRoom (poolIs W))) (record { answer = a; controller = d }) W′
 
 -- The number beside an engine's answer: of a signed statement its own.
 abbrev pub numberIs : Answer → ℕ

@@ -7,6 +7,7 @@ ghost use lib.Seq.{sets};
 ghost use Rattle.protocol.specs.Controller.{refusalNumber};
 ghost use Rattle.protocol.specs.Call.{setupAllowed};
 ghost use Rattle.engine.specs.Meaning.{refusalIs};
+ghost use Rattle.bench.specs.declared.line.Parsed.the-variants.{Readable};
 ghost use Rattle.bench.specs.Rows.{Answered};
 ghost use Rattle.bench.specs.Seats.{seatOf, wordOf, valueOf};
 ghost use Rattle.bench.specs.Running.{rowIs, Started, Ran, Wrote, Long};
@@ -80,12 +81,9 @@ fn put_step(rows: &mut [u8], at: usize, n: u64, s: Stepped) -> usize
 }
 
 // The seat of the controller that a line names; the first where it names none.
-fn seat_of(parsed: Parsed) -> usize
-    ensures { λ r. ⌜ r ≡ seatOf parsed ⌝ }
+fn seat_of(line: Line) -> usize
+    ensures { λ r. ⌜ r ≡ seatOf (Readable line) ⌝ }
 {
-    let Parsed::Readable(line) = parsed else {
-        return 0;
-    };
     match line {
         Line::Setup(_, _, _) => 0,
         Line::Join(k) => k as usize,
@@ -136,10 +134,17 @@ fn run_lines(schedule: &[u8], rows: &mut [u8]) -> usize
     while at < schedule.len() {
         let read = line::read_line(&schedule[at..]);
         let parsed = read.parsed;
+        // Nothing changes, so no controller is copied.
+        let Parsed::Readable(line) = parsed else {
+            out = row::put_row_within(rows, out, n, 16, Word::Refused, Value::Number(8));
+            at += read.next;
+            n += 1;
+            continue;
+        };
         let st = read.statement;
-        let k = seat_of(parsed);
+        let k = seat_of(line);
         let named = seats[k];
-        let s = state::step(named, &mut words, setting, parsed, st);
+        let s = state::step(named, &mut words, setting, line, st);
         out = put_step(rows, out, n, s);
         let g = s.setting;
         setting = g;

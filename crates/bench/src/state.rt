@@ -5,11 +5,12 @@ ghost use mathlib.Core.Option.{some};
 ghost use Prim.Native.Nat.{_<_, _≤_};
 ghost use lib.ListN.{length};
 ghost use Rattle.statements.specs.Meaning.{stmtOf};
+ghost use Rattle.bench.specs.declared.line.Parsed.the-variants.{Readable};
 ghost use Rattle.bench.specs.Line as lines;
 ghost use Rattle.bench.specs.Reading.{lineIs};
 ghost use Rattle.bench.specs.Seats.{Sound, Fit, seatOf, SeatedAs, RefusedAs, Advanced};
+use crate::lent;
 use crate::line::Line;
-use crate::line::Parsed;
 use crate::seat;
 use crate::seat::Replied;
 use engine::Answer;
@@ -166,15 +167,12 @@ pub fn step(
     c: Controller,
     words: &mut [u64; POOL_WORDS],
     g: Setting,
-    parsed: Parsed,
+    line: Line,
     st: Statement,
 ) -> Stepped
-    requires { ⌜ Sound (now words) c × Fit parsed st ⌝ }
-    ensures { λ r. ⌜ Advanced (now (words .entry)) g c (seatOf parsed) (lineIs parsed (stmtOf st)) r (now (words .exit)) ⌝ }
+    requires { ⌜ Sound (now words) c × Fit (Readable line) st ⌝ }
+    ensures { λ r. ⌜ Advanced (now (words .entry)) g c (seatOf (Readable line)) (lineIs (Readable line) (stmtOf st)) r (now (words .exit)) ⌝ }
 {
-    let Parsed::Readable(line) = parsed else {
-        return refused(c, g, 16, Refusal::OutOfPlace);
-    };
     match line {
         Line::Setup(members, sender, faulty) => set_up(c, words, g, members, sender, faulty),
         Line::Join(k) => seated(g, k, seat::noted(c.join())),
@@ -182,7 +180,7 @@ pub fn step(
         Line::Send(k, m) => seated(g, k, seat::noted(c.send(m))),
         Line::Give(k, n) => seated(g, k, seat::give(c, words, g.ready, k, n)),
         Line::All(k) => seated(g, k, seat::all(c, words, g.ready, k)),
-        Line::Turn(k) => seated(g, k, seat::turned(c.turn(words))),
+        Line::Turn(k) => seated(g, k, seat::turned(lent::lend_turn(c, words))),
         Line::Lie => lie(c, words, g, st),
         Line::NoStatement => no_statement(c, words, g),
     }
