@@ -39,7 +39,7 @@ use Rattle.bench.specs.declared.seat.Missing.{Missing}
 use Rattle.bench.specs.Line.{Line, join, leave, send, give, all, turn}
 use Rattle.bench.specs.Bench as bench
 use Rattle.bench.specs.Bench.{Seat, emptySeat, Bench, Stepped, step}
-use Rattle.bench.specs.Seats.{seatIs, benchOf, Distinct, Sound, Grows, listed, Marks, lacking, Filled, Seated, numberIs}
+use Rattle.bench.specs.Seats.{Numbered, seatIs, benchOf, Distinct, Sound, Grows, listed, Marks, lacking, Filled, Seated, numberIs}
 
 -- ---- a record's numbers
 
@@ -87,11 +87,10 @@ module _ (f : ℕ → ℕ) where
     ];
   }
 
-  pub marks-skip : (i : ℕ) (marks : List Bool) → (f i < 512 → ⊥) → MarksTo f i marks → MarksTo f (i + 1) marks
-  marks-skip i marks l m = record {
-    long = m .long;
-    tells = λ n h. m .tells n h ∙ sym (any-next f n i ∙ ap (λ b. any (eqb n) (table i f) || b) (ne-eqb n (f i) (λ e. l (omega arith))) ∙ or-false (any (eqb n) (table i f)));
-  }
+-- a record within a pool
+pub in-pool-numbered : (W : List ℕ) (r : Record) → AllIn W r → Numbered r
+unfolding poolLen
+in-pool-numbered W r w = record { below = λ i h. (let a = w i h in omega arith) }
 
 pub marks-are : (r : Record) (i : ℕ) (marks : List Bool) → i ≡ min (r .len) 512 → MarksTo (ids r) i marks → Marks r marks
 unfolding listed

@@ -85,6 +85,10 @@ pub record Grows (W W′ : List ℕ) : Type 0 where
 unfoldable pub listed : Record → ℕ → Bool
 listed r n = any (eqb n) (table (min (r .len) 512) (λ i. getD (r .ids) i 0))
 
+-- Every number that the record has is below 512.
+pub record Numbered (r : Record) : Type 0 where
+  pub below : (i : ℕ) → i < min (r .len) 512 → getD (r .ids) i 0 < 512
+
 -- marks tell which numbers below 512 the record has.
 pub record Marks (r : Record) (marks : List Bool) : Type 0 where
   pub tells : (n : ℕ) → n < 512 → getD marks n false ≡ listed r n
@@ -150,6 +154,9 @@ seatsAfter r W′ k X =
 
 abbrev pub replyIs : List ℕ → Stepped → Reply
 replyIs W r = record { who = r .who; answer = answerIs W (r .answer); number = r .number }
+
+abbrev pub replied : Answer → ℕ → Controller → Replied
+replied a n c = record { answer = a; number = n; controller = c }
 
 -- What is told of a line on controller k that was answered by r, and of one that was refused.
 pub record SeatedAs (g : Setting) (k : ℕ) (r : Replied) (s : Stepped) : Type 0 where

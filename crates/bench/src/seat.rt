@@ -3,10 +3,9 @@ ghost use mathlib.Core.Path.{_≡_};
 ghost use Rattle.engine.specs.Meaning.{AllIn};
 ghost use Rattle.pool.specs.Pool.{poolLen};
 ghost use Rattle.bench.specs.Line.{Line};
-ghost use Rattle.bench.specs.Seats.{Distinct, Sound, listed, Marks, Filled, Seated, numberIs};
+ghost use Rattle.bench.specs.Seats.{Distinct, Sound, listed, Numbered, Marks, Filled, Seated};
 use engine::Answer;
 use engine::Controller;
-use engine::Outcome;
 use engine::Refusal;
 use pool::POOL_WORDS;
 use pool::Record;
@@ -44,46 +43,6 @@ pub fn taken(c: Controller, n: u64) -> Replied
     }
 }
 
-// A request's row has no number of its own.
-pub fn noted(o: Outcome) -> Replied
-    ensures { λ r. ⌜ (r .answer ≡ o .answer) × (r .number ≡ 0) × (r .controller ≡ o .controller) ⌝ }
-{
-    let a = o.answer;
-    let c = o.controller;
-    Replied {
-        answer: a,
-        number: 0,
-        controller: c,
-    }
-}
-
-fn number_of(a: Answer) -> u64
-    ensures { λ r. ⌜ r ≡ numberIs a ⌝ }
-{
-    match a {
-        Answer::Taken => 0,
-        Answer::Signed(n) => n as u64,
-        Answer::Entered(_) => 0,
-        Answer::Delivered(_) => 0,
-        Answer::Left => 0,
-        Answer::Quiet => 0,
-        Answer::Refused(_) => 0,
-    }
-}
-
-// A turn that signs has the statement's number in its row.
-pub fn turned(o: Outcome) -> Replied
-    ensures { λ r. ⌜ (r .answer ≡ o .answer) × (r .number ≡ numberIs (o .answer)) × (r .controller ≡ o .controller) ⌝ }
-{
-    let a = o.answer;
-    let c = o.controller;
-    Replied {
-        answer: a,
-        number: number_of(a),
-        controller: c,
-    }
-}
-
 // Whether a record has the number n. The pool's statements differ, so that it has the statement just where it has the number.
 fn has_number(rec: Record, n: u16) -> bool
     ensures { λ r. ⌜ r ≡ listed rec n ⌝ }
@@ -108,6 +67,7 @@ fn index(id: u16) -> usize
 
 // Which numbers a record has.
 fn marks_of(rec: Record) -> [bool; 512]
+    requires { ⌜ Numbered rec ⌝ }
     ensures { λ r. ⌜ Marks rec r ⌝ }
 {
     let end = pool::limit(rec.len);
@@ -116,10 +76,6 @@ fn marks_of(rec: Record) -> [bool; 512]
     let mut i = 0usize;
     while i < end {
         let id = index(ids[i]);
-        if id >= 512 {
-            i += 1;
-            continue;
-        }
         marks[id] = true;
         i += 1;
     }
