@@ -16,7 +16,7 @@ rows-length-requires c κs = search needs
 
 -- src/run.rt:187:9
 returns : tie.Need-returns
-returns c = no-room _ _ _ (c .before .rows-length .ensures) (c .if1 .taken)
+returns c = no-room _ _ _ (c .before .rows-length .ensures) (omega (arith, c .if1 .taken))
 
 -- src/run.rt:189:5
 run-rows-requires : tie.Need-run-rows-requires
