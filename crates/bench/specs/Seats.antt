@@ -93,6 +93,17 @@ pub record Numbered (r : Record) : Type 0 where
 pub record Marks (r : Record) (marks : List Bool) : Type 0 where
   pub tells : (n : ℕ) → n < 512 → getD marks n false ≡ listed r n
 
+-- Every number from i on, below j, has a mark.
+unfoldable pub Marked : List Bool → ℕ → ℕ → Type 0
+Marked marks i j = (k : ℕ) → i ≤ k → k < j → getD marks k false ≡ true
+
+-- r is the first number from i on, below n, that has no mark; n where all have.
+pub record FirstFree (marks : List Bool) (i n r : ℕ) : Type 0 where
+  pub from : i ≤ r
+  pub most : r ≤ n
+  pub passed : Marked marks i r
+  pub free : r < n → getD marks r false ≡ false
+
 -- The statements of the pool below n that the list X lacks.
 unfoldable pub lacking : List ℕ → List Stmt → ℕ → List Stmt
 lacking W X n = filter (λ s. not (any (sameStmt s) X)) (table n (stmtAt W))

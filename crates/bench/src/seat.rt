@@ -1,9 +1,11 @@
 // What a line does to the controller that it names.
 ghost use mathlib.Core.Path.{_≡_};
+ghost use mathlib.Core.Bool.{true};
+ghost use Prim.Native.Nat.{_+_, _≤_};
 ghost use Rattle.engine.specs.Meaning.{AllIn};
 ghost use Rattle.pool.specs.Pool.{poolLen};
 ghost use Rattle.bench.specs.Line.{Line};
-ghost use Rattle.bench.specs.Seats.{Distinct, Sound, listed, Numbered, Marks, Filled, Seated};
+ghost use Rattle.bench.specs.Seats.{Distinct, Sound, listed, Numbered, Marks, Marked, FirstFree, Filled, Seated};
 use engine::Answer;
 use engine::Controller;
 use engine::Refusal;
@@ -82,6 +84,45 @@ fn marks_of(rec: Record) -> [bool; 512]
     marks
 }
 
+// Whether the eight numbers from i on have marks.
+fn has_eight(marks: &[bool; 512], i: usize) -> bool
+    requires { ⌜ i + 8 ≤ 512 ⌝ }
+    ensures { λ r. ⌜ (r ≡ true → Marked (now (marks .entry)) i (i + 8)) ⌝ }
+{
+    let a = marks[i] & marks[i + 1] & marks[i + 2] & marks[i + 3];
+    a & marks[i + 4] & marks[i + 5] & marks[i + 6] & marks[i + 7]
+}
+
+// Passes over marks, eight at a time: most statements are there already.
+fn skip_eights(marks: &[bool; 512], from: usize, n: usize) -> usize
+    requires { ⌜ (from ≤ n) × (n ≤ 512) ⌝ }
+    ensures { λ r. ⌜ (from ≤ r) × (r ≤ n) × Marked (now (marks .entry)) from r ⌝ }
+{
+    let mut i = from;
+    while i + 8 <= n {
+        if !has_eight(marks, i) {
+            return i;
+        }
+        i += 8;
+    }
+    i
+}
+
+// The first number from `from` on that has no mark, or n.
+fn unmarked(marks: &[bool; 512], from: usize, n: usize) -> usize
+    requires { ⌜ (from ≤ n) × (n ≤ 512) ⌝ }
+    ensures { λ r. ⌜ FirstFree (now (marks .entry)) from n r ⌝ }
+{
+    let mut i = skip_eights(marks, from, n);
+    while i < n {
+        if !marks[i] {
+            return i;
+        }
+        i += 1;
+    }
+    i
+}
+
 // The record with every statement below n that it lacks, in rising number.
 fn fill(words: &[u64; POOL_WORDS], rec: Record, marks: [bool; 512], n: usize) -> Missing
     requires { ⌜ Distinct (now words) × AllIn (now words) rec × Marks rec marks × (n ≡ poolLen (now words)) ⌝ }
@@ -89,16 +130,12 @@ fn fill(words: &[u64; POOL_WORDS], rec: Record, marks: [bool; 512], n: usize) ->
 {
     let mut more = rec;
     let mut count = 0usize;
-    let mut i = 0usize;
+    let mut i = unmarked(&marks, 0, n);
     while i < n {
-        if marks[i] {
-            i += 1;
-            continue;
-        }
         let next = pool::push(more, i as u16);
         more = next;
         count += 1;
-        i += 1;
+        i = unmarked(&marks, i + 1, n);
     }
     Missing {
         statements: more,
