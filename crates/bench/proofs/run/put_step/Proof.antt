@@ -1,14 +1,7 @@
 use borrow.Author.Needs.{needs}
-use native.Mathlib.Omega.{arith}
-use mathlib.Core.Path.{_≡_, refl, sym, ap, ap₂, _∙_}
 use Rattle.bench.proofs.Rows.{row-put}
 use Rattle.bench.proofs.run.put_step.Statement.{statement}
 use Rattle.bench.proofs.run.put_step.Tie as tie
-use Rattle.bench.proofs.run.put_step.Reads as reads
-use Rattle.bench.proofs.run.put_step.Lts as lts
-use Rattle.bench.proofs.row.put_row_within.Reads as put-row-within-reads
-use Rattle.bench.proofs.run.value_of.Reads as value-of-reads
-use Rattle.bench.proofs.run.word_of.Reads as word-of-reads
 
 -- src/run.rt:76:38
 word-of-requires : tie.Need-word-of-requires

@@ -1,23 +1,12 @@
 use borrow.Author.Needs.{needs}
 use native.Mathlib.Omega.{arith}
-use borrow.Author.Needs.{needs}
-use native.Mathlib.Omega.{arith}
-use mathlib.Core.Path.{_≡_, refl}
+use mathlib.Core.Path.{refl}
 use Prim.Native.Nat.{_-_}
 use lib.ListN.{length}
 use Rattle.bench.specs.Running.{benchIs, Kept, Going}
 use Rattle.bench.proofs.Runs.{kept-first, going-first, next-within, next-moves, line-fits, line-seat, line-on, unread-on, named-at, going-room, going-long, going-end, left-one, left-all, kept-one, kept-all}
 use Rattle.bench.proofs.run.run_lines.Statement.{statement}
 use Rattle.bench.proofs.run.run_lines.Tie as tie
-use Rattle.bench.proofs.run.run_lines.Reads as reads
-use Rattle.bench.proofs.run.run_lines.Lts as lts
-use Rattle.bench.proofs.line.read_line.Reads as read-line-reads
-use Rattle.bench.proofs.row.put_row_within.Reads as put-row-within-reads
-use Rattle.bench.proofs.run.put_step.Reads as put-step-reads
-use Rattle.bench.proofs.run.seat_of.Reads as seat-of-reads
-use Rattle.bench.proofs.run.start_all.Reads as start-all-reads
-use Rattle.bench.proofs.state.step.Reads as step-reads
-use Rattle.engine.proofs.Controller.new.Reads as new-reads
 
 abbrev Inv-loop : tie.InvT-loop
 Inv-loop schedule rows₀ seats₀ words₀ setting₀ at₀ n₀ out₀ rows seats words setting at n out = Kept words seats × Going schedule at n (benchIs setting words seats) rows₀ rows out

@@ -1,14 +1,8 @@
 use borrow.Author.Needs.{needs}
 use native.Mathlib.Omega.{arith}
-use mathlib.Core.Path.{_≡_, refl, sym, ap, _∙_}
 use Rattle.bench.proofs.Runs.{printed-empty, printed-long, printed-run}
 use Rattle.bench.proofs.run.run_rows.Statement.{statement}
 use Rattle.bench.proofs.run.run_rows.Tie as tie
-use Rattle.bench.proofs.run.run_rows.Reads as reads
-use Rattle.bench.proofs.run.run_rows.Lts as lts
-use Rattle.bench.proofs.row.put_header.Reads as put-header-reads
-use Rattle.bench.proofs.row.put_row_within.Reads as put-row-within-reads
-use Rattle.bench.proofs.run.run_lines.Reads as run-lines-reads
 
 -- src/run.rt:161:9
 put-header-requires : tie.Need-put-header-requires

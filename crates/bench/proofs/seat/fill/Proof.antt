@@ -1,8 +1,6 @@
 use borrow.Author.Needs.{needs}
 use native.Mathlib.Omega.{arith}
-use borrow.Author.Needs.{needs}
-use native.Mathlib.Omega.{arith}
-use mathlib.Core.Path.{_≡_, refl, sym, _∙_}
+use mathlib.Core.Path.{_≡_}
 use mathlib.Core.Bool.{false}
 use Prim.Native.Nat.{_-_, _≤_, _<_}
 use lib.ListN.{getD}
@@ -10,10 +8,6 @@ use Rattle.bench.specs.Seats.{Filled}
 use Rattle.bench.proofs.Seats.{made, fill-first, fill-over, fill-more, fill-end, pool-most}
 use Rattle.bench.proofs.seat.fill.Statement.{statement}
 use Rattle.bench.proofs.seat.fill.Tie as tie
-use Rattle.bench.proofs.seat.fill.Reads as reads
-use Rattle.bench.proofs.seat.fill.Lts as lts
-use Rattle.bench.proofs.seat.unmarked.Reads as unmarked-reads
-use Rattle.pool.proofs.push.Reads as push-reads
 
 abbrev Inv-loop : tie.InvT-loop
 Inv-loop words n marks more₀ count₀ i₀ more count i = (i ≤ n) × (count ≤ i) × Filled words more₀ i (made more count) × (i < n → getD marks i false ≡ false)

@@ -1,6 +1,4 @@
-use native.Mathlib.Omega.{arith}
-use native.Mathlib.Omega.{arith}
-use mathlib.Core.Path.{_≡_, refl, sym, ap, _∙_}
+use mathlib.Core.Path.{refl, ap}
 use Rattle.bench.specs.declared.line.Parsed.the-variants.{Readable}
 use Rattle.bench.specs.Seats.{replied, numberIs}
 use Rattle.bench.proofs.Seats.{seat-joins, seat-leaves, seat-sends, seat-turns}
@@ -8,20 +6,6 @@ use Rattle.bench.proofs.States.{at-line, fit-at, advance-seated}
 use borrow.Author.Needs.{needs}
 use Rattle.bench.proofs.state.step.Statement.{statement}
 use Rattle.bench.proofs.state.step.Tie as tie
-use Rattle.bench.proofs.state.step.Reads as reads
-use Rattle.bench.proofs.state.step.Lts as lts
-use Rattle.bench.proofs.lent.lend_turn.Reads as lend-turn-reads
-use Rattle.bench.proofs.seat.all.Reads as all-reads
-use Rattle.bench.proofs.seat.give.Reads as give-reads
-use Rattle.bench.proofs.state.lie.Reads as lie-reads
-use Rattle.bench.proofs.state.no_statement.Reads as no-statement-reads
-use Rattle.bench.proofs.state.noted.Reads as noted-reads
-use Rattle.bench.proofs.state.seated.Reads as seated-reads
-use Rattle.bench.proofs.state.set_up.Reads as set-up-reads
-use Rattle.bench.proofs.state.turned.Reads as turned-reads
-use Rattle.engine.proofs.Controller.join.Reads as join-reads
-use Rattle.engine.proofs.Controller.leave.Reads as leave-reads
-use Rattle.engine.proofs.Controller.send.Reads as send-reads
 
 -- src/state.rt:224:21
 enum-known-line : tie.Need-enum-known-line
