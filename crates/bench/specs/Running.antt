@@ -79,3 +79,4 @@ pub record Long (S : List ℕ) (r : ℕ) : Type 0 where
   pub text : List ℕ
   pub printed : Printed S text
   pub long : r ≡ length text
+  pub small : length text ≤ 2621504
