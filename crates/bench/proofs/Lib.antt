@@ -10,3 +10,5 @@ pub mod States
 pub mod Starts
 pub mod Runs
 pub mod One
+pub mod Answers
+pub mod Lending

@@ -2,13 +2,13 @@
 --     row-most   no row has more than 40 bytes
 --     shown      the row that is written is that of the reply
 -- Assumes nothing.
-use Prim.Native.Nat.{ℕ, _+_, _^_, _<_, _≤_}
+use Prim.Native.Nat.{ℕ, zero, suc, _+_, _-_, _^_, _<_, _≤_}
 use native.Mathlib.Omega.{arith}
 use native.Mathlib.Numerals.{add-one}
 use mathlib.Core.Path.{_≡_, refl, sym, ap, ap₂, subst, _∙_}
 use mathlib.Core.List.{List, [], _∷_, _++_, append-assoc}
-use lib.ListN.{length, take, getD, set, length-append}
-use lib.Seq.{sets, take-suc, length-take-le}
+use lib.ListN.{length, take, drop, getD, set, length-append, take-append-drop}
+use lib.Seq.{sets, take-suc, length-take-le, sets-eq, take-append-seam}
 use Rattle.protocol.specs.Controller.{Answer, taken, signed, entered, delivered, left, quiet, refused}
 use Rattle.text.specs.Text.{decText}
 use Rattle.text.proofs.Decimal.{long-below, most-long}
@@ -34,6 +34,36 @@ put-next out₀ out t at i h e =
     let n : length (take i t) ≡ i = length-take-le i t (omega arith) in
     ap (λ (o : List ℕ). set o (at + i) (getD t i 0)) e ∙ ap (λ (k : ℕ). sets (sets out₀ at (take i t)) (at + k) (getD t i 0 ∷ [])) (sym n)
     ∙ sym (sets-append (take i t) (getD t i 0 ∷ []) out₀ at) ∙ ap (sets out₀ at) (sym (ap (λ (k : ℕ). take k t) (add-one i) ∙ take-suc t i 0 h))
+
+-- ---- what has no room
+
+set-past : (l : List ℕ) (i v : ℕ) → length l ≤ i → set l i v ≡ l
+set-past [] i v h = refl
+set-past (x ∷ l) zero v h = absurd (omega arith)
+set-past (x ∷ l) (suc i) v h = ap (λ t. x ∷ t) (set-past l i v (omega arith))
+
+sets-past : (xs l : List ℕ) (i : ℕ) → length l ≤ i → sets l i xs ≡ l
+sets-past [] l i h = refl
+sets-past (x ∷ xs) l i h = ap (λ t. sets t (suc i) xs) (set-past l i x h) ∙ sets-past xs l (suc i) (omega arith)
+
+-- the rest of a text past the end
+pub put-past : (out₀ out t : List ℕ) (at i : ℕ) → i ≤ length t → out ≡ sets out₀ at (take i t) → length out ≤ at + i → out ≡ sets out₀ at t
+put-past out₀ out t at i h e m =
+    let n : length (take i t) ≡ i = length-take-le i t h in
+    sym (ap (sets out₀ at) (sym (take-append-drop i t)) ∙ sets-append (take i t) (drop i t) out₀ at ∙ ap₂ (λ o k. sets o (at + k) (drop i t)) (sym e) n ∙ sets-past (drop i t) out (at + i) m)
+
+-- a row that was written by itself, and what of it was put
+module _ (one one′ row : List ℕ) (end : ℕ) (alone : (end ≡ 0 + length row) × (one′ ≡ sets one 0 row) × (length row ≤ 40)) (l : length one ≡ 40) where
+  alone-is : take end one′ ≡ row
+  alone-is =
+      let n : end ≡ length row = omega arith in
+      ap₂ take n (alone .1 ∙ sets-eq row one 0 (omega arith)) ∙ take-append-seam row (drop (0 + length row) one)
+
+  pub alone-long : (end ≡ length (take end one′)) × (length (take end one′) ≤ 40)
+  alone-long = (omega (arith, ap length alone-is), omega (arith, ap length alone-is))
+
+  pub alone-put : (out : List ℕ) (at r : ℕ) (out′ : List ℕ) → (r ≡ at + length (take end one′)) × (out′ ≡ sets out at (take end one′)) → (r ≡ at + length row) × (out′ ≡ sets out at row) × (length row ≤ 40)
+  alone-put out at r out′ (e, f) = (e ∙ ap (λ t. at + length t) alone-is, f ∙ ap (sets out at) alone-is, alone .2)
 
 -- ---- how long the fields are
 pub word-most : (w : Word) → length (wordIs w) ≤ 9

@@ -11,7 +11,7 @@ use native.Mathlib.Omega.{arith}
 use lib.Dec.{T, eqb, ltb, ltb→lt}
 use Rattle.protocol.proofs.Rules.{and-first, and-second}
 use lib.ListN.{length, getD, set, take, drop, replicate, length-replicate, getD-replicate, length-set, length-drop, length-append, drop-of-length-le}
-use lib.Seq.{sets, length-sets, getD-set-same, getD-set-other, ext-getD, drop-drop, take-all, sets-eq, take-append-seam}
+use lib.Seq.{sets, length-sets, getD-set-same, getD-set-other, ext-getD, drop-drop, take-all}
 use borrow.Author.Tests.{lt-ltb, le-ltb, eq-eqb, ne-eqb}
 use Rattle.protocol.specs.Lists.{if_then_else_}
 use Rattle.protocol.specs.View.{controllers}
@@ -40,11 +40,11 @@ use Rattle.bench.specs.declared.state.Stepped.{Stepped}
 use Rattle.bench.specs.Line.{Line, lines, Reads, ReadAll}
 use Rattle.bench.specs.Reading.{lineIs, LineOf}
 use Rattle.bench.specs.Bench as bench
-use Rattle.bench.specs.Bench.{Seat, emptySeat, Bench, newBench, step}
+use Rattle.bench.specs.Bench.{Seat, emptySeat, Bench, Reply, newBench, step}
 use Rattle.bench.specs.Rows.{rowText, headerText, rowsFrom, refusedRow, Printed}
 use Rattle.bench.specs.Writing.{wordFor, valueIs, rowOf, Shows}
 use Rattle.bench.specs.Seats.{blank, seatIs, benchOf, Distinct, Sound, Grows, Fit, seatOf, seatsAfter, replyIs, Advanced, wordOf, valueOf}
-use Rattle.bench.specs.Running.{rowIs, seatsIs, benchIs, Kept, Started, Reading, Going, Ran}
+use Rattle.bench.specs.Running.{rowIs, seatsIs, benchIs, Kept, Started, Reading, Going, Ran, Wrote}
 use Rattle.bench.proofs.Rows.{shown}
 use Rattle.bench.proofs.States.{seat-kept, whole-kept, no-pool}
 
@@ -83,7 +83,7 @@ module _ (S : List ℕ) (st : Statement) (short : st .history .len ≤ 16) where
   unfolding fieldRules stmtOf
   fit-origin r = let a : T (ltb (st .origin) 16) = search (and-first, and-second) in ltb→lt (st .origin) 16 a
 
-  pub fits : (p : Parsed) → Reads S (lineIs p (stmtOf st)) → Fit p st
+  fits : (p : Parsed) → Reads S (lineIs p (stmtOf st)) → Fit p st
   fits p r = record { seat = fit-seat p r; origin = λ e. fit-origin (subst (λ q. Reads S (lineIs q (stmtOf st))) e r .0); short = short }
 
 -- ---- the seats after a line
@@ -156,51 +156,80 @@ module _ (W W′ : List ℕ) (g : Setting) (cs : List Controller) (k : ℕ) (l :
 
 -- ---- one line more
 
-module _ (S : List ℕ) (at n : ℕ) (b b′ : Bench) (R R′ : List ℕ) (out : ℕ) (going : Going S at n b R R′ out) (r : ReadLine) (of : LineOf (drop at S) r) (more : at < length S) (W′ : List ℕ) (s : Stepped)
-    (left : step b (lineIs (r .parsed) (stmtOf (r .statement))) ≡ record { reply = replyIs W′ s; bench = b′ }) (R″ : List ℕ) (out′ : ℕ)
-    (put : (out′ ≡ out + length (rowIs n s)) × (R″ ≡ sets R′ out (rowIs n s)) × (length (rowIs n s) ≤ 40)) where
-  abbrev this : Option Line
-  this = lineIs (r .parsed) (stmtOf (r .statement))
-
+module _ (S : List ℕ) (at n : ℕ) (b b′ : Bench) (R R′ : List ℕ) (out : ℕ) (going : Going S at n b R R′ out) (r : ReadLine) (of : LineOf (drop at S) r) (more : at < length S)
+    (this : Option Line) (is-this : lineIs (r .parsed) (stmtOf (r .statement)) ≡ this) (reply : Reply) (left : step b this ≡ record { reply = reply; bench = b′ })
+    (row : List ℕ) (row-text : row ≡ rowText n reply) (R″ : List ℕ) (out′ : ℕ) (put : (out′ ≡ out + length row) × (R″ ≡ sets R′ out row) × (length row ≤ 40)) where
   some-left : 0 < length (drop at S)
   some-left = omega (arith, length-drop at S)
 
-  rest-of : (L : List (Option Line)) → ReadAll (lines (drop (at + r .next) S)) L → Reading S (going .printed ++ rowIs n s) (rowsFrom (n + 1) b′ L)
+  rest-of : (L : List (Option Line)) → ReadAll (lines (drop (at + r .next) S)) L → Reading S (going .printed ++ row) (rowsFrom (n + 1) b′ L)
   unfolding rowsFrom
   rest-of L q =
       let q′ : ReadAll (lines (drop (r .next) (drop at S))) L = subst (λ t. ReadAll (lines t) L) (sym (drop-drop (r .next) at S)) q in
-      let all : ReadAll (lines (drop at S)) (this ∷ L) = subst (λ t. ReadAll t (this ∷ L)) (sym (of .first some-left)) (of .reads, q′) in
+      let all : ReadAll (lines (drop at S)) (this ∷ L) = subst (λ t. ReadAll t (this ∷ L)) (sym (of .first some-left)) (subst (Reads (take (r .next) (drop at S))) is-this (of .reads), q′) in
       let whole : Reading S (going .printed) (rowsFrom n b (this ∷ L)) = going .rest (this ∷ L) all in
       record {
         reading = whole .reading;
         reads = whole .reads;
         rows = whole .rows
             ∙ ap (λ (t : bench.Stepped). going .printed ++ (rowText n (t .reply) ++ rowsFrom (suc n) (t .bench) L)) left
-            ∙ ap (λ t. going .printed ++ (t ++ rowsFrom (suc n) b′ L)) (sym (row-is W′ n s))
-            ∙ sym (append-assoc (going .printed) (rowIs n s) (rowsFrom (suc n) b′ L))
-            ∙ ap (λ t. (going .printed ++ rowIs n s) ++ rowsFrom t b′ L) (sym (add-one n));
+            ∙ ap (λ t. going .printed ++ (t ++ rowsFrom (suc n) b′ L)) (sym row-text)
+            ∙ sym (append-assoc (going .printed) row (rowsFrom (suc n) b′ L))
+            ∙ ap (λ t. (going .printed ++ row) ++ rowsFrom t b′ L) (sym (add-one n));
       }
 
-  pub goes-on : Going S (at + r .next) (n + 1) b′ R R″ out′
+  goes-on : Going S (at + r .next) (n + 1) b′ R R″ out′
   goes-on = record {
-    printed = going .printed ++ rowIs n s;
-    rows = put .1 ∙ ap₂ (λ t o. sets t o (rowIs n s)) (going .rows) (going .end) ∙ sym (sets-append (going .printed) (rowIs n s) R 22);
-    end = omega (arith, put .0, going .end, length-append (going .printed) (rowIs n s));
-    small = omega (arith, put .2, going .small, length-append (going .printed) (rowIs n s), of .moves some-left);
+    printed = going .printed ++ row;
+    rows = put .1 ∙ ap₂ (λ t o. sets t o row) (going .rows) (going .end) ∙ sym (sets-append (going .printed) row R 22);
+    end = omega (arith, put .0, going .end, length-append (going .printed) row);
+    small = omega (arith, put .2, going .small, length-append (going .printed) row, of .moves some-left);
     number = omega (arith, going .number, of .moves some-left);
     within = omega (arith, of .within, length-drop at S, going .within);
     rest = rest-of;
   }
 
+part-read : (S : List ℕ) (at : ℕ) (r : ReadLine) → LineOf (take (length S - at) (drop at S)) r → LineOf (drop at S) r
+part-read S at r of = rw (take-all (length S - at) (drop at S) (omega (arith, length-drop at S))) at of
+
+refused-row : (n : ℕ) → rowOf n 16 word.Refused (value.Number 8) ≡ rowText n (record { who = 16; answer = controller.refused controller.outOfPlace; number = 0 })
+refused-row n = shown n (record { named = refl; word = refl; value = refl })
+
+module _ (S : List ℕ) (at : ℕ) (r : ReadLine) (of : LineOf (take (length S - at) (drop at S)) r) where
+  pub next-within : at ≤ length S → at + r .next ≤ length S
+  next-within l = omega (arith, part-read S at r of .within, length-drop at S)
+
+  pub next-moves : at < length S → 0 < r .next
+  next-moves l = part-read S at r of .moves (omega (arith, length-drop at S))
+
+  -- a line that reads
+  module _ (l : Held) (e : r .parsed ≡ Readable l) where
+    pub line-fits : Fit (Readable l) (r .statement)
+    line-fits = fits (take (r .next) (drop at S)) (r .statement) (part-read S at r of .short) (Readable l) (subst (λ p. Reads (take (r .next) (drop at S)) (lineIs p (stmtOf (r .statement)))) e (part-read S at r of .reads))
+
+    pub line-seat : {k : ℕ} → k ≡ seatOf (Readable l) → k < 16
+    line-seat q = omega (arith, q, line-fits .seat)
+
+    pub line-on : {n : ℕ} {b b′ : Bench} {R R′ : List ℕ} {out : ℕ} → Going S at n b R R′ out → at < length S → (W′ : List ℕ) (s : Stepped) → step b (lineIs (Readable l) (stmtOf (r .statement))) ≡ record { reply = replyIs W′ s; bench = b′ }
+        → {R″ : List ℕ} {out′ : ℕ} → (out′ ≡ out + length (rowIs n s)) × (R″ ≡ sets R′ out (rowIs n s)) × (length (rowIs n s) ≤ 40) → Going S (at + r .next) (n + 1) b′ R R″ out′
+    line-on {n} {b} {b′} {R} {R′} {out} going more W′ s left {R″} {out′} put =
+        goes-on S at n b b′ R R′ out going r (part-read S at r of) more (lineIs (Readable l) (stmtOf (r .statement))) (ap (λ p. lineIs p (stmtOf (r .statement))) e) (replyIs W′ s) left (rowIs n s) (row-is W′ n s) R″ out′ put
+
+  -- one that does not
+  pub unread-on : r .parsed ≡ Unreadable → {n : ℕ} {b : Bench} {R R′ : List ℕ} {out : ℕ} → Going S at n b R R′ out → at < length S
+      → {R″ : List ℕ} {out′ : ℕ} → (out′ ≡ out + length (rowOf n 16 word.Refused (value.Number 8))) × (R″ ≡ sets R′ out (rowOf n 16 word.Refused (value.Number 8))) × (length (rowOf n 16 word.Refused (value.Number 8)) ≤ 40)
+      → Going S (at + r .next) (n + 1) b R R″ out′
+  unfolding step
+  unread-on e {n} {b} {R} {R′} {out} going more {R″} {out′} put =
+      goes-on S at n b b R R′ out going r (part-read S at r of) more none (ap (λ p. lineIs p (stmtOf (r .statement))) e) (record { who = 16; answer = controller.refused controller.outOfPlace; number = 0 }) refl
+      (rowOf n 16 word.Refused (value.Number 8)) (refused-row n) R″ out′ put
+
 -- what the next line needs of the rows
-pub going-room : {S : List ℕ} {at n : ℕ} {b : Bench} {R R′ : List ℕ} {out : ℕ} → Going S at n b R R′ out → length S ≤ 65536 → at < length S → 2621504 ≤ length R → (out + 40 ≤ length R′) × (n < 100000)
-going-room {R = R} g s m l = (omega (arith, g .end, g .small, ap length (g .rows), length-sets R 22 (g .printed)), omega (arith, g .number))
+pub going-room : {S : List ℕ} {at n : ℕ} {b : Bench} {R R′ : List ℕ} {out : ℕ} → Going S at n b R R′ out → length S ≤ 65536 → at < length S → (out ≤ 2621504) × (n < 100000)
+going-room g s m = (omega (arith, g .end, g .small), omega (arith, g .number))
 
 pub going-long : {S : List ℕ} {at n : ℕ} {b : Bench} {R R′ : List ℕ} {out : ℕ} → Going S at n b R R′ out → length R′ ≡ length R
 going-long {R = R} g = ap length (g .rows) ∙ length-sets R 22 (g .printed)
-
-pub part-read : (S : List ℕ) (at : ℕ) (r : ReadLine) → LineOf (take (length S - at) (drop at S)) r → LineOf (drop at S) r
-part-read S at r of = rw (take-all (length S - at) (drop at S) (omega (arith, length-drop at S))) at of
 
 -- ---- the start and the end
 
@@ -259,49 +288,40 @@ module _ (c : Controller) (fresh : (controllerIs c ≡ controller.notSetUp) × (
 pub named-at : {W W′ : List ℕ} {g : Setting} {c : Controller} {k k′ : ℕ} {l : Option Line} {s : Stepped} → k ≡ k′ → Advanced W g c k′ l s W′ → Advanced W g c k l s W′
 named-at {W} {W′} {g} {c} {k} {k′} {l} {s} e a = subst (λ j. Advanced W g c j l s W′) (sym e) a
 
-pub next-within : (S : List ℕ) (at : ℕ) {r : ReadLine} → LineOf (drop at S) r → at ≤ length S → at + r .next ≤ length S
-next-within S at of l = omega (arith, of .within, length-drop at S)
-
-pub next-moves : (S : List ℕ) (at : ℕ) {r : ReadLine} → LineOf (drop at S) r → at < length S → 0 < r .next
-next-moves S at of l = of .moves (omega (arith, length-drop at S))
-
 -- ---- the header and what stands after it
 
-take-sets : (R xs : List ℕ) → length xs ≤ length R → take (length xs) (sets R 0 xs) ≡ xs
-take-sets R xs l = ap (take (length xs)) (sets-eq xs R 0 (omega arith)) ∙ take-append-seam xs (drop (0 + length xs) R)
-
-headed : (R R′ R″ xs : List ℕ) (r : ℕ) → 2621504 ≤ length R → R′ ≡ sets R 0 headerText → R″ ≡ sets R′ 22 xs → r ≡ 22 + length xs → length xs ≤ 2621440 → take r R″ ≡ headerText ++ xs
-headed R R′ R″ xs r l e f g m =
-    ap₂ take (g ∙ sym (length-append headerText xs)) (f ∙ ap (λ t. sets t 22 xs) e ∙ sym (sets-append headerText xs R 0))
-    ∙ take-sets R (headerText ++ xs) (omega (arith, length-append headerText xs))
+headed : (S R R′ R″ xs : List ℕ) (r : ℕ) → Printed S (headerText ++ xs) → R′ ≡ sets R 0 headerText → R″ ≡ sets R′ 22 xs → r ≡ 22 + length xs → length xs ≤ 2621440 → Wrote S R r R″
+headed S R R′ R″ xs r p e f g m = record {
+  text = headerText ++ xs;
+  printed = p;
+  long = g ∙ sym (length-append headerText xs);
+  small = omega (arith, length-append headerText xs);
+  rows = f ∙ ap (λ t. sets t 22 xs) e ∙ sym (sets-append headerText xs R 0);
+}
 
 empty-reads : (S : List ℕ) → length S ≡ 0 → ReadAll (lines S) []
 unfolding lines
 empty-reads [] e = tt
 empty-reads (x ∷ S) e = absurd (omega arith)
 
-refused-row : rowOf 0 16 word.Refused (value.Number 8) ≡ refusedRow
-refused-row = shown 0 (record { named = refl; word = refl; value = refl })
-
-module _ (S R R′ R″ : List ℕ) (r : ℕ) (l : 2621504 ≤ length R) (e : R′ ≡ sets R 0 headerText)
+module _ (S R R′ R″ : List ℕ) (r : ℕ) (e : R′ ≡ sets R 0 headerText)
     (put : (r ≡ 22 + length (rowOf 0 16 word.Refused (value.Number 8))) × (R″ ≡ sets R′ 22 (rowOf 0 16 word.Refused (value.Number 8))) × (length (rowOf 0 16 word.Refused (value.Number 8)) ≤ 40)) where
-  refusal : take r R″ ≡ headerText ++ refusedRow
-  refusal = headed R R′ R″ (rowOf 0 16 word.Refused (value.Number 8)) r l e (put .1) (put .0) (omega (arith, put .2)) ∙ ap (λ t. headerText ++ t) refused-row
+  refusal : Printed S (headerText ++ refusedRow) → Wrote S R r R″
+  refusal p = headed S R R′ R″ (rowOf 0 16 word.Refused (value.Number 8)) r (subst (λ t. Printed S (headerText ++ t)) (sym (refused-row 0)) p) e (put .1) (put .0) (omega (arith, put .2))
 
-  pub printed-empty : length S ≡ 0 → Printed S (take r R″)
-  printed-empty z = record { reading = []; reads = λ h. empty-reads S z; prints = refusal ∙ ap (λ t. headerText ++ t) (sym (pick-true (eqb (length S) 0 || ltb 65536 (length S)) refusedRow (rowsFrom 1 newBench []) (ap (λ b. b || ltb 65536 (length S)) (eq-eqb (length S) 0 z)))) }
+  pub printed-empty : length S ≡ 0 → Wrote S R r R″
+  printed-empty z = refusal (record { reading = []; reads = λ h. empty-reads S z; prints = ap (λ t. headerText ++ t) (sym (pick-true (eqb (length S) 0 || ltb 65536 (length S)) refusedRow (rowsFrom 1 newBench []) (ap (λ b. b || ltb 65536 (length S)) (eq-eqb (length S) 0 z)))) })
 
   or-yes : (b : Bool) → (b || true) ≡ true
   or-yes true = refl
   or-yes false = refl
 
-  pub printed-long : 65536 < length S → Printed S (take r R″)
-  printed-long z = record { reading = []; reads = λ h. absurd (omega arith); prints = refusal ∙ ap (λ t. headerText ++ t) (sym (pick-true (eqb (length S) 0 || ltb 65536 (length S)) refusedRow (rowsFrom 1 newBench []) (ap (λ b. eqb (length S) 0 || b) (lt-ltb 65536 (length S) z) ∙ or-yes (eqb (length S) 0)))) }
+  pub printed-long : 65536 < length S → Wrote S R r R″
+  printed-long z = refusal (record { reading = []; reads = λ h. absurd (omega arith); prints = ap (λ t. headerText ++ t) (sym (pick-true (eqb (length S) 0 || ltb 65536 (length S)) refusedRow (rowsFrom 1 newBench []) (ap (λ b. eqb (length S) 0 || b) (lt-ltb 65536 (length S) z) ∙ or-yes (eqb (length S) 0)))) })
 
-pub printed-run : (S R R′ R″ : List ℕ) (r : ℕ) → 2621504 ≤ length R → R′ ≡ sets R 0 headerText → Ran S R′ R″ r → (length S ≡ 0 → ⊥) → length S ≤ 65536 → Printed S (take r R″)
-printed-run S R R′ R″ r l e m a b = record {
+pub printed-run : (S R R′ R″ : List ℕ) (r : ℕ) → R′ ≡ sets R 0 headerText → Ran S R′ R″ r → (length S ≡ 0 → ⊥) → length S ≤ 65536 → Wrote S R r R″
+printed-run S R R′ R″ r e m a b = headed S R R′ R″ (m .printed) r (record {
   reading = m .ran .reading;
   reads = λ h. m .ran .reads;
-  prints = headed R R′ R″ (m .printed) r l e (m .rows) (m .end) (m .small)
-      ∙ ap (λ t. headerText ++ t) (sym (m .ran .rows ∙ append-nil (m .printed)) ∙ sym (pick-false (eqb (length S) 0 || ltb 65536 (length S)) refusedRow (rowsFrom 1 newBench (m .ran .reading)) (ap₂ _||_ (ne-eqb (length S) 0 a) (le-ltb 65536 (length S) b))));
-}
+  prints = ap (λ t. headerText ++ t) (sym (m .ran .rows ∙ append-nil (m .printed)) ∙ sym (pick-false (eqb (length S) 0 || ltb 65536 (length S)) refusedRow (rowsFrom 1 newBench (m .ran .reading)) (ap₂ _||_ (ne-eqb (length S) 0 a) (le-ltb 65536 (length S) b))));
+}) e (m .rows) (m .end) (m .small)

@@ -1,12 +1,13 @@
 -- What a line on one controller comes to.
 -- Assumes nothing.
 use mathlib.Core.Path.{_≡_, refl, sym, ap, ap₂, subst, _∙_}
-use mathlib.Core.Bool.{Bool, true, false, not, _||_}
+use mathlib.Core.Bool.{Bool, true, false, not, _&&_, _||_}
 use mathlib.Core.List.{List, [], _∷_, _++_, append-assoc, append-nil}
 use mathlib.Core.Option.{Option, some, none}
-use Prim.Native.Nat.{ℕ, zero, suc, _+_, _≤_, _<_, min}
+use Prim.Native.Nat.{ℕ, zero, suc, _+_, _-_, _≤_, _<_, min}
 use native.Mathlib.Decide.{decLt, ℕ-discrete}
 use native.Mathlib.Numerals.{add-one}
+use native.Mathlib.Nat.{add-zero}
 use native.Mathlib.Omega.{arith}
 use lib.Dec.{T, eqb, leb, ltb}
 use lib.ListN.{length, getD, set, replicate, length-replicate, getD-replicate, length-append, length-set, List·getD-append}
@@ -39,7 +40,7 @@ use Rattle.bench.specs.declared.seat.Missing.{Missing}
 use Rattle.bench.specs.Line.{Line, join, leave, send, give, all, turn}
 use Rattle.bench.specs.Bench as bench
 use Rattle.bench.specs.Bench.{Seat, emptySeat, Bench, Stepped, step}
-use Rattle.bench.specs.Seats.{seatIs, benchOf, Distinct, Sound, Grows, listed, Marks, lacking, Filled, Seated, numberIs}
+use Rattle.bench.specs.Seats.{seatIs, benchOf, Distinct, Sound, Grows, listed, Numbered, Marks, Marked, lacking, Filled, Seated, numberIs}
 
 -- ---- a record's numbers
 
@@ -87,11 +88,69 @@ module _ (f : ℕ → ℕ) where
     ];
   }
 
-  pub marks-skip : (i : ℕ) (marks : List Bool) → (f i < 512 → ⊥) → MarksTo f i marks → MarksTo f (i + 1) marks
-  marks-skip i marks l m = record {
-    long = m .long;
-    tells = λ n h. m .tells n h ∙ sym (any-next f n i ∙ ap (λ b. any (eqb n) (table i f) || b) (ne-eqb n (f i) (λ e. l (omega arith))) ∙ or-false (any (eqb n) (table i f)));
-  }
+-- one mark more
+pub marked-none : (marks : List Bool) (i : ℕ) → Marked marks i i
+unfolding Marked
+marked-none marks i k l h = absurd (omega arith)
+
+pub marked-more : (marks : List Bool) (i j : ℕ) → Marked marks i j → getD marks j false ≡ true → Marked marks i (j + 1)
+unfolding Marked
+marked-more marks i j m e k l h = elim (ℕ-discrete k j) [
+  | yes q ↦ ap (λ x. getD marks x false) q ∙ e
+  | no q ↦ m k l (omega arith)
+]
+
+pub marked-both : (marks : List Bool) (i j n : ℕ) → Marked marks i j → Marked marks j n → Marked marks i n
+unfolding Marked
+marked-both marks i j n m q k l h = elim (decLt k j) [
+  | yes p ↦ m k l p
+  | no p ↦ q k (omega arith) h
+]
+
+both-true : (a b : Bool) → (a && b) ≡ true → (a ≡ true) × (b ≡ true)
+both-true true true e = (refl, refl)
+both-true true false e = absurd (subst T (sym e) tt)
+both-true false b e = absurd (subst T (sym e) tt)
+
+pub marked-eight : (marks : List Bool) (i : ℕ)
+    → (((((((getD marks i false && getD marks (i + 1) false) && getD marks (i + 2) false) && getD marks (i + 3) false) && getD marks (i + 4) false) && getD marks (i + 5) false) && getD marks (i + 6) false) && getD marks (i + 7) false) ≡ true
+    → Marked marks i (i + 8)
+unfolding Marked
+marked-eight marks i e k l m = ap (λ x. getD marks x false) (omega arith) ∙ go (k - i) (omega arith)
+  where
+    e6 : ((((((getD marks i false && getD marks (i + 1) false) && getD marks (i + 2) false) && getD marks (i + 3) false) && getD marks (i + 4) false) && getD marks (i + 5) false) && getD marks (i + 6) false) ≡ true
+    e6 = both-true ((((((getD marks i false && getD marks (i + 1) false) && getD marks (i + 2) false) && getD marks (i + 3) false) && getD marks (i + 4) false) && getD marks (i + 5) false) && getD marks (i + 6) false) (getD marks (i + 7) false) e .0
+
+    e5 : (((((getD marks i false && getD marks (i + 1) false) && getD marks (i + 2) false) && getD marks (i + 3) false) && getD marks (i + 4) false) && getD marks (i + 5) false) ≡ true
+    e5 = both-true (((((getD marks i false && getD marks (i + 1) false) && getD marks (i + 2) false) && getD marks (i + 3) false) && getD marks (i + 4) false) && getD marks (i + 5) false) (getD marks (i + 6) false) e6 .0
+
+    e4 : ((((getD marks i false && getD marks (i + 1) false) && getD marks (i + 2) false) && getD marks (i + 3) false) && getD marks (i + 4) false) ≡ true
+    e4 = both-true ((((getD marks i false && getD marks (i + 1) false) && getD marks (i + 2) false) && getD marks (i + 3) false) && getD marks (i + 4) false) (getD marks (i + 5) false) e5 .0
+
+    e3 : (((getD marks i false && getD marks (i + 1) false) && getD marks (i + 2) false) && getD marks (i + 3) false) ≡ true
+    e3 = both-true (((getD marks i false && getD marks (i + 1) false) && getD marks (i + 2) false) && getD marks (i + 3) false) (getD marks (i + 4) false) e4 .0
+
+    e2 : ((getD marks i false && getD marks (i + 1) false) && getD marks (i + 2) false) ≡ true
+    e2 = both-true ((getD marks i false && getD marks (i + 1) false) && getD marks (i + 2) false) (getD marks (i + 3) false) e3 .0
+
+    e1 : (getD marks i false && getD marks (i + 1) false) ≡ true
+    e1 = both-true (getD marks i false && getD marks (i + 1) false) (getD marks (i + 2) false) e2 .0
+
+    go : (j : ℕ) → j < 8 → getD marks (i + j) false ≡ true
+    go zero h = ap (λ x. getD marks x false) (add-zero i) ∙ both-true (getD marks i false) (getD marks (i + 1) false) e1 .0
+    go (suc zero) h = both-true (getD marks i false) (getD marks (i + 1) false) e1 .1
+    go (suc (suc zero)) h = both-true (getD marks i false && getD marks (i + 1) false) (getD marks (i + 2) false) e2 .1
+    go (suc (suc (suc zero))) h = both-true ((getD marks i false && getD marks (i + 1) false) && getD marks (i + 2) false) (getD marks (i + 3) false) e3 .1
+    go (suc (suc (suc (suc zero)))) h = both-true (((getD marks i false && getD marks (i + 1) false) && getD marks (i + 2) false) && getD marks (i + 3) false) (getD marks (i + 4) false) e4 .1
+    go (suc (suc (suc (suc (suc zero))))) h = both-true ((((getD marks i false && getD marks (i + 1) false) && getD marks (i + 2) false) && getD marks (i + 3) false) && getD marks (i + 4) false) (getD marks (i + 5) false) e5 .1
+    go (suc (suc (suc (suc (suc (suc zero)))))) h = both-true (((((getD marks i false && getD marks (i + 1) false) && getD marks (i + 2) false) && getD marks (i + 3) false) && getD marks (i + 4) false) && getD marks (i + 5) false) (getD marks (i + 6) false) e6 .1
+    go (suc (suc (suc (suc (suc (suc (suc zero))))))) h = both-true ((((((getD marks i false && getD marks (i + 1) false) && getD marks (i + 2) false) && getD marks (i + 3) false) && getD marks (i + 4) false) && getD marks (i + 5) false) && getD marks (i + 6) false) (getD marks (i + 7) false) e .1
+    go (suc (suc (suc (suc (suc (suc (suc (suc j)))))))) h = absurd (omega arith)
+
+-- a record within a pool
+pub in-pool-numbered : (W : List ℕ) (r : Record) → AllIn W r → Numbered r
+unfolding poolLen
+in-pool-numbered W r w = record { below = λ i h. (let a = w i h in omega arith) }
 
 pub marks-are : (r : Record) (i : ℕ) (marks : List Bool) → i ≡ min (r .len) 512 → MarksTo (ids r) i marks → Marks r marks
 unfolding listed
@@ -256,6 +315,17 @@ marks-stored f i id marks e l m = subst (λ x. MarksTo f (i + 1) (set marks x tr
 pub pool-most : (W : List ℕ) → poolLen W ≤ 512
 unfolding poolLen
 pool-most W = omega arith
+
+-- marks that were passed over
+pub fill-over : (W : List ℕ) (from : Record) → Distinct W → AllIn W from → (marks : List Bool) → Marks from marks → (i j count : ℕ) (more : Record) → j ≤ poolLen W → i ≤ j → Marked marks i j → Filled W from i (made more count) → Filled W from j (made more count)
+unfolding Marked
+fill-over W from d w marks m i j count more l h p f = subst (λ k. Filled W from k (made more count)) (omega arith) (go (j - i) (omega arith))
+  where
+    go : (n : ℕ) → i + n ≤ j → Filled W from (i + n) (made more count)
+    go zero q = rw (add-zero i) f
+    go (suc n) q =
+        let k : i + n < j = omega arith in
+        subst (λ x. Filled W from x (made more count)) (omega arith) (fill-skip W from d w marks m (i + n) count more (omega arith) (omega (arith, pool-most W)) (go n (omega arith)) (p (i + n) (omega arith) k))
 
 filter-most : {A : Type 0} (p : A → Bool) (l : List A) → length (filter p l) ≤ length l
 unfolding filter

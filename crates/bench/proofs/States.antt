@@ -82,13 +82,9 @@ advance-refused {W} {g} {c} {k} {o} who q {s} b m e h = record {
   begun = λ t. absurd (subst T (sym t ∙ e .fresh) tt);
 }
 
--- ---- unreadable lines, and lies that are no statement
+-- ---- lies that are no statement
 
 module _ (W : List ℕ) (g : Setting) (c : Controller) (s : Stepped) (m : Sound W c) where
-  pub unreadable : RefusedAs c g 16 refusal.OutOfPlace s → Advanced W g c 0 none s W
-  unfolding step
-  unreadable e = advance-refused 16 refusal.OutOfPlace (omega arith) m e (λ X x. refl)
-
   pub no-statement-early : RefusedAs c g 16 refusal.OutOfPlace s → g .ready ≡ false → Advanced W g c 0 (some noStatement) s W
   unfolding step
   no-statement-early e q = advance-refused 16 refusal.OutOfPlace (omega arith) m e (λ X x. go (g .ready) q (benchOf (g .ready) (g .faulty) X W))

@@ -4,9 +4,9 @@ use mathlib.Core.Path.{_≡_}
 use mathlib.Core.Bool.{_||_}
 use mathlib.Core.List.{List, [], _∷_, _++_}
 use mathlib.Core.Option.{Option}
-use Prim.Native.Nat.{ℕ, suc, _≤_}
+use Prim.Native.Nat.{ℕ, suc, _<_, _≤_}
 use lib.Dec.{eqb, ltb}
-use lib.ListN.{length}
+use lib.ListN.{length, drop}
 use Rattle.protocol.specs.Lists.{if_then_else_}
 use Rattle.protocol.specs.Controller.{Answer, taken, signed, entered, delivered, left, quiet, refused, outOfPlace, Value, number, view, answerValue}
 use Rattle.text.specs.Text.{decText}
@@ -50,3 +50,12 @@ pub record Printed (schedule out : List ℕ) : Type 0 where
   pub reading : List (Option Line)
   pub reads : length schedule ≤ 65536 → ReadAll (lines schedule) reading
   pub prints : out ≡ headerText ++ (if eqb (length schedule) 0 || ltb 65536 (length schedule) then refusedRow else rowsFrom 1 newBench reading)
+
+-- What running a schedule over the memory `rows` answers and leaves in it. What is printed stands from the start, r is its length, and all after it is as it was;
+-- where it has no room, r is 0 and all is as it was. One text alone is printed for a schedule (`printed-one`), and no schedule prints more than 2621504 bytes.
+pub record Answered (schedule rows : List ℕ) (r : ℕ) (after : List ℕ) : Type 0 where
+  pub text : List ℕ
+  pub printed : Printed schedule text
+  pub most : length text ≤ 2621504
+  pub fits : length text ≤ length rows → (r ≡ length text) × (after ≡ text ++ drop (length text) rows)
+  pub short : length rows < length text → (r ≡ 0) × (after ≡ rows)

@@ -15,7 +15,7 @@ use Rattle.bench.specs.declared.state.Setting.{Setting}
 use Rattle.bench.specs.declared.state.Stepped.{Stepped}
 use Rattle.bench.specs.Line.{Line, lines, ReadAll}
 use Rattle.bench.specs.Bench.{Seat, Bench, newBench}
-use Rattle.bench.specs.Rows.{rowsFrom}
+use Rattle.bench.specs.Rows.{rowsFrom, Printed}
 use Rattle.bench.specs.Writing.{rowOf}
 use Rattle.bench.specs.Seats.{blank, seatIs, benchOf, Distinct, wordOf, valueOf}
 
@@ -65,3 +65,18 @@ pub record Ran (S : List ℕ) (R R′ : List ℕ) (out : ℕ) : Type 0 where
   pub end : out ≡ 22 + length printed
   pub small : length printed ≤ 2621440
   pub ran : Reading S printed []
+
+-- Of what is printed for S, as much as has room stands in R′ from the start; r is the length of all of it.
+pub record Wrote (S R : List ℕ) (r : ℕ) (R′ : List ℕ) : Type 0 where
+  pub text : List ℕ
+  pub printed : Printed S text
+  pub long : r ≡ length text
+  pub small : length text ≤ 2621504
+  pub rows : R′ ≡ sets R 0 text
+
+-- r is the length of what is printed for S.
+pub record Long (S : List ℕ) (r : ℕ) : Type 0 where
+  pub text : List ℕ
+  pub printed : Printed S text
+  pub long : r ≡ length text
+  pub small : length text ≤ 2621504

@@ -11,6 +11,8 @@ use Rattle.protocol.specs.Lists.{if_then_else_, any, filter}
 use Rattle.protocol.specs.View.{controllers}
 use Rattle.protocol.specs.Statement.{Stmt, sameStmt}
 use Rattle.protocol.specs.Call.{setupAllowed, started}
+use Rattle.protocol.specs.Pool.{hasRoom}
+use Rattle.protocol.specs.Turn.{turn as turnOf}
 use Rattle.views.specs.Table.{table}
 use Rattle.statements.specs.declared.Binding.the-variants.{Unbound}
 use Rattle.statements.specs.declared.Statement.{Statement}
@@ -23,6 +25,7 @@ use Rattle.engine.specs.declared.Answer.{Answer}
 use Rattle.engine.specs.declared.Answer.the-variants.{Taken, Signed, Entered, Delivered, Left, Quiet, Refused}
 use Rattle.engine.specs.declared.Refusal.{Refusal}
 use Rattle.engine.specs.Meaning.{controllerIs, recordIs, poolIs, AllIn, Whole, answerIs, refusalIs}
+use Rattle.engine.specs.Promise.{Turns}
 use Rattle.protocol.specs.Controller.{refusalNumber}
 use Rattle.bench.specs.declared.line.Line.the-variants as is
 use Rattle.bench.specs.declared.line.Parsed.{Parsed}
@@ -82,9 +85,24 @@ pub record Grows (W W′ : List ℕ) : Type 0 where
 unfoldable pub listed : Record → ℕ → Bool
 listed r n = any (eqb n) (table (min (r .len) 512) (λ i. getD (r .ids) i 0))
 
+-- Every number that the record has is below 512.
+pub record Numbered (r : Record) : Type 0 where
+  pub below : (i : ℕ) → i < min (r .len) 512 → getD (r .ids) i 0 < 512
+
 -- marks tell which numbers below 512 the record has.
 pub record Marks (r : Record) (marks : List Bool) : Type 0 where
   pub tells : (n : ℕ) → n < 512 → getD marks n false ≡ listed r n
+
+-- Every number from i on, below j, has a mark.
+unfoldable pub Marked : List Bool → ℕ → ℕ → Type 0
+Marked marks i j = (k : ℕ) → i ≤ k → k < j → getD marks k false ≡ true
+
+-- r is the first number from i on, below n, that has no mark; n where all have.
+pub record FirstFree (marks : List Bool) (i n r : ℕ) : Type 0 where
+  pub from : i ≤ r
+  pub most : r ≤ n
+  pub passed : Marked marks i r
+  pub free : r < n → getD marks r false ≡ false
 
 -- The statements of the pool below n that the list X lacks.
 unfoldable pub lacking : List ℕ → List Stmt → ℕ → List Stmt
@@ -103,6 +121,10 @@ pub record Seated (W : List ℕ) (ready : Bool) (c : Controller) (k : ℕ) (l : 
       ≡ record { reply = record { who = k; answer = answerIs W′ (r .answer); number = r .number }; bench = benchOf ready faulty (set X k (seatIs W′ (r .controller))) W′ }
   pub sound : Sound W′ (r .controller)
   pub grows : Grows W W′
+
+-- A turn of c over the pool W answered a and left d and W′.
+abbrev pub TurnedTo : List ℕ → Controller → Answer → Controller → List ℕ → Type 0
+TurnedTo W c a d W′ = Turns W c (turnOf (controllerIs c) (recordIs W c) (hasRoom (poolIs W))) (record { answer = a; controller = d }) W′
 
 -- The number beside an engine's answer: of a signed statement its own.
 abbrev pub numberIs : Answer → ℕ
@@ -143,6 +165,9 @@ seatsAfter r W′ k X =
 
 abbrev pub replyIs : List ℕ → Stepped → Reply
 replyIs W r = record { who = r .who; answer = answerIs W (r .answer); number = r .number }
+
+abbrev pub replied : Answer → ℕ → Controller → Replied
+replied a n c = record { answer = a; number = n; controller = c }
 
 -- What is told of a line on controller k that was answered by r, and of one that was refused.
 pub record SeatedAs (g : Setting) (k : ℕ) (r : Replied) (s : Stepped) : Type 0 where

@@ -1,4 +1,4 @@
-// The rows that the bench prints. Each is written over lent memory from a position with room for the longest row.
+// The rows that the bench prints, written over lent memory.
 ghost use mathlib.Core.Path.{_≡_};
 ghost use mathlib.Core.List.{_∷_};
 ghost use Prim.Native.Nat.{_+_, _<_, _≤_};
@@ -29,6 +29,22 @@ fn put_text(out: &mut [u8], at: usize, t: &[u8]) -> usize
 {
     let mut i = 0usize;
     while i < t.len() {
+        out[at + i] = t[i];
+        i += 1;
+    }
+    at + i
+}
+
+// Of a text that stands from `at` on, writes what has room; the answer is where it would end.
+fn put_within(out: &mut [u8], at: usize, t: &[u8]) -> usize
+    requires { ⌜ (at ≤ 2621504) × (length (now t) ≤ 40) ⌝ }
+    ensures { λ r. ⌜ (r ≡ at + length (now (t .entry))) × (now (out .exit) ≡ sets (now (out .entry)) at (now (t .entry))) ⌝ }
+{
+    let mut i = 0usize;
+    while i < t.len() {
+        if at + i >= out.len() {
+            return at + t.len();
+        }
         out[at + i] = t[i];
         i += 1;
     }
@@ -75,10 +91,29 @@ pub fn put_row(out: &mut [u8], at: usize, n: u64, who: u64, word: Word, value: V
     d + 1
 }
 
-// Writes the header from the start.
+// Of a row, writes what has room, and answers the next position all the same.
+pub fn put_row_within(
+    out: &mut [u8],
+    at: usize,
+    n: u64,
+    who: u64,
+    word: Word,
+    value: Value,
+) -> usize
+    requires { ⌜ (at ≤ 2621504) × (n < 100000) × (who < 100) ⌝ }
+    ensures { λ r. ⌜ (r ≡ at + length (rowOf n who word value)) × (now (out .exit) ≡ sets (now (out .entry)) at (rowOf n who word value)) × (length (rowOf n who word value) ≤ 40) ⌝ }
+{
+    if at + 40 <= out.len() {
+        return put_row(out, at, n, who, word, value);
+    }
+    let mut one = [0u8; 40];
+    let end = put_row(&mut one, 0, n, who, word, value);
+    put_within(out, at, &one[..end])
+}
+
+// Writes the header from the start, or what of it has room.
 pub fn put_header(out: &mut [u8]) -> usize
-    requires { ⌜ 22 ≤ length (now out) ⌝ }
     ensures { λ r. ⌜ (r ≡ 22) × (now (out .exit) ≡ sets (now (out .entry)) 0 headerText) ⌝ }
 {
-    put_text(out, 0, b"line,who,answer,value\n")
+    put_within(out, 0, b"line,who,answer,value\n")
 }

@@ -2,14 +2,15 @@
 ghost use mathlib.Core.Path.{_≡_};
 ghost use mathlib.Core.Bool.{true};
 ghost use Prim.Native.Nat.{_+_, _<_, _≤_};
-ghost use lib.ListN.{length, take};
+ghost use lib.ListN.{length};
 ghost use lib.Seq.{sets};
 ghost use Rattle.protocol.specs.Controller.{refusalNumber};
 ghost use Rattle.protocol.specs.Call.{setupAllowed};
 ghost use Rattle.engine.specs.Meaning.{refusalIs};
-ghost use Rattle.bench.specs.Rows.{Printed};
+ghost use Rattle.bench.specs.declared.line.Parsed.the-variants.{Readable};
+ghost use Rattle.bench.specs.Rows.{Answered};
 ghost use Rattle.bench.specs.Seats.{seatOf, wordOf, valueOf};
-ghost use Rattle.bench.specs.Running.{rowIs, Started, Ran};
+ghost use Rattle.bench.specs.Running.{rowIs, Started, Ran, Wrote, Long};
 use crate::line;
 use crate::line::Line;
 use crate::line::Parsed;
@@ -23,6 +24,9 @@ use engine::Answer;
 use engine::Controller;
 use engine::Refusal;
 use pool::POOL_WORDS;
+
+// Enough for the rows of any schedule.
+pub const ROWS_MAX: usize = 2621504;
 
 fn word_of(a: Answer) -> Word
     ensures { λ r. ⌜ r ≡ wordOf a ⌝ }
@@ -69,20 +73,17 @@ fn value_of(a: Answer, n: u64) -> Value
 
 // The row of line n.
 fn put_step(rows: &mut [u8], at: usize, n: u64, s: Stepped) -> usize
-    requires { ⌜ (at + 40 ≤ length (now rows)) × (n < 100000) × (s .who ≤ 16) ⌝ }
+    requires { ⌜ (at ≤ 2621504) × (n < 100000) × (s .who ≤ 16) ⌝ }
     ensures { λ r. ⌜ (r ≡ at + length (rowIs n s)) × (now (rows .exit) ≡ sets (now (rows .entry)) at (rowIs n s)) × (length (rowIs n s) ≤ 40) ⌝ }
 {
     let a = s.answer;
-    row::put_row(rows, at, n, s.who, word_of(a), value_of(a, s.number))
+    row::put_row_within(rows, at, n, s.who, word_of(a), value_of(a, s.number))
 }
 
 // The seat of the controller that a line names; the first where it names none.
-fn seat_of(parsed: Parsed) -> usize
-    ensures { λ r. ⌜ r ≡ seatOf parsed ⌝ }
+fn seat_of(line: Line) -> usize
+    ensures { λ r. ⌜ r ≡ seatOf (Readable line) ⌝ }
 {
-    let Parsed::Readable(line) = parsed else {
-        return 0;
-    };
     match line {
         Line::Setup(_, _, _) => 0,
         Line::Join(k) => k as usize,
@@ -115,7 +116,7 @@ fn start_all(members: u16, sender: u8) -> [Controller; 16]
 
 // The rows of a schedule's lines, after the header.
 fn run_lines(schedule: &[u8], rows: &mut [u8]) -> usize
-    requires { ⌜ (length (now schedule) ≤ 65536) × (2621504 ≤ length (now rows)) ⌝ }
+    requires { ⌜ length (now schedule) ≤ 65536 ⌝ }
     ensures { λ r. ⌜ Ran (now (schedule .entry)) (now (rows .entry)) (now (rows .exit)) r ⌝ }
 {
     let c = Controller::new();
@@ -133,10 +134,17 @@ fn run_lines(schedule: &[u8], rows: &mut [u8]) -> usize
     while at < schedule.len() {
         let read = line::read_line(&schedule[at..]);
         let parsed = read.parsed;
+        // Nothing changes, so no controller is copied.
+        let Parsed::Readable(line) = parsed else {
+            out = row::put_row_within(rows, out, n, 16, Word::Refused, Value::Number(8));
+            at += read.next;
+            n += 1;
+            continue;
+        };
         let st = read.statement;
-        let k = seat_of(parsed);
+        let k = seat_of(line);
         let named = seats[k];
-        let s = state::step(named, &mut words, setting, parsed, st);
+        let s = state::step(named, &mut words, setting, line, st);
         out = put_step(rows, out, n, s);
         let g = s.setting;
         setting = g;
@@ -153,17 +161,45 @@ fn run_lines(schedule: &[u8], rows: &mut [u8]) -> usize
     out
 }
 
-// Writes the rows of a schedule, and answers how many bytes they have. No schedule has more than 65,536 lines, and no row more than 40 bytes.
+// Of the rows of a schedule, writes what has room, and answers how many bytes they all have. No schedule has more than 65,536 lines, and
+// no row more than 40 bytes.
 pub fn run_rows(schedule: &[u8], rows: &mut [u8]) -> usize
-    requires { ⌜ 2621504 ≤ length (now rows) ⌝ }
-    ensures { λ r. ⌜ Printed (now (schedule .entry)) (take r (now (rows .exit))) ⌝ }
+    ensures { λ r. ⌜ Wrote (now (schedule .entry)) (now (rows .entry)) r (now (rows .exit)) ⌝ }
 {
     row::put_header(rows);
     if schedule.len() == 0 {
-        return row::put_row(rows, 22, 0, 16, Word::Refused, Value::Number(8));
+        return row::put_row_within(rows, 22, 0, 16, Word::Refused, Value::Number(8));
     }
     if schedule.len() > 65536 {
-        return row::put_row(rows, 22, 0, 16, Word::Refused, Value::Number(8));
+        return row::put_row_within(rows, 22, 0, 16, Word::Refused, Value::Number(8));
     }
     run_lines(schedule, rows)
+}
+
+// How many bytes the rows of a schedule have.
+fn rows_length(schedule: &[u8]) -> usize
+    ensures { λ r. ⌜ Long (now (schedule .entry)) r ⌝ }
+{
+    let mut none = [0u8; 1];
+    run_rows(schedule, &mut none)
+}
+
+// The rows over memory that may be too short for them, so that the schedule is run once more, for their length alone.
+fn run_short(schedule: &[u8], rows: &mut [u8]) -> usize
+    ensures { λ r. ⌜ Answered (now (schedule .entry)) (now (rows .entry)) r (now (rows .exit)) ⌝ }
+{
+    if rows_length(schedule) > rows.len() {
+        return 0;
+    }
+    run_rows(schedule, rows)
+}
+
+// Writes the rows of a schedule from the start of `rows`, and answers how many bytes they have; 0, and `rows` as it was, where they have no room.
+pub fn run(schedule: &[u8], rows: &mut [u8]) -> usize
+    ensures { λ r. ⌜ Answered (now (schedule .entry)) (now (rows .entry)) r (now (rows .exit)) ⌝ }
+{
+    if rows.len() < ROWS_MAX {
+        return run_short(schedule, rows);
+    }
+    run_rows(schedule, rows)
 }

@@ -1,12 +1,13 @@
 // What a line does to the controller that it names.
 ghost use mathlib.Core.Path.{_≡_};
+ghost use mathlib.Core.Bool.{true};
+ghost use Prim.Native.Nat.{_+_, _≤_};
 ghost use Rattle.engine.specs.Meaning.{AllIn};
 ghost use Rattle.pool.specs.Pool.{poolLen};
 ghost use Rattle.bench.specs.Line.{Line};
-ghost use Rattle.bench.specs.Seats.{Distinct, Sound, listed, Marks, Filled, Seated, numberIs};
+ghost use Rattle.bench.specs.Seats.{Distinct, Sound, listed, Numbered, Marks, Marked, FirstFree, Filled, Seated};
 use engine::Answer;
 use engine::Controller;
-use engine::Outcome;
 use engine::Refusal;
 use pool::POOL_WORDS;
 use pool::Record;
@@ -44,46 +45,6 @@ pub fn taken(c: Controller, n: u64) -> Replied
     }
 }
 
-// A request's row has no number of its own.
-pub fn noted(o: Outcome) -> Replied
-    ensures { λ r. ⌜ (r .answer ≡ o .answer) × (r .number ≡ 0) × (r .controller ≡ o .controller) ⌝ }
-{
-    let a = o.answer;
-    let c = o.controller;
-    Replied {
-        answer: a,
-        number: 0,
-        controller: c,
-    }
-}
-
-fn number_of(a: Answer) -> u64
-    ensures { λ r. ⌜ r ≡ numberIs a ⌝ }
-{
-    match a {
-        Answer::Taken => 0,
-        Answer::Signed(n) => n as u64,
-        Answer::Entered(_) => 0,
-        Answer::Delivered(_) => 0,
-        Answer::Left => 0,
-        Answer::Quiet => 0,
-        Answer::Refused(_) => 0,
-    }
-}
-
-// A turn that signs has the statement's number in its row.
-pub fn turned(o: Outcome) -> Replied
-    ensures { λ r. ⌜ (r .answer ≡ o .answer) × (r .number ≡ numberIs (o .answer)) × (r .controller ≡ o .controller) ⌝ }
-{
-    let a = o.answer;
-    let c = o.controller;
-    Replied {
-        answer: a,
-        number: number_of(a),
-        controller: c,
-    }
-}
-
 // Whether a record has the number n. The pool's statements differ, so that it has the statement just where it has the number.
 fn has_number(rec: Record, n: u16) -> bool
     ensures { λ r. ⌜ r ≡ listed rec n ⌝ }
@@ -108,6 +69,7 @@ fn index(id: u16) -> usize
 
 // Which numbers a record has.
 fn marks_of(rec: Record) -> [bool; 512]
+    requires { ⌜ Numbered rec ⌝ }
     ensures { λ r. ⌜ Marks rec r ⌝ }
 {
     let end = pool::limit(rec.len);
@@ -116,14 +78,49 @@ fn marks_of(rec: Record) -> [bool; 512]
     let mut i = 0usize;
     while i < end {
         let id = index(ids[i]);
-        if id >= 512 {
-            i += 1;
-            continue;
-        }
         marks[id] = true;
         i += 1;
     }
     marks
+}
+
+// Whether the eight numbers from i on have marks.
+fn has_eight(marks: &[bool; 512], i: usize) -> bool
+    requires { ⌜ i + 8 ≤ 512 ⌝ }
+    ensures { λ r. ⌜ (r ≡ true → Marked (now (marks .entry)) i (i + 8)) ⌝ }
+{
+    let a = marks[i] & marks[i + 1] & marks[i + 2] & marks[i + 3];
+    a & marks[i + 4] & marks[i + 5] & marks[i + 6] & marks[i + 7]
+}
+
+// Passes over marks, eight at a time: most statements are there already.
+fn skip_eights(marks: &[bool; 512], from: usize, n: usize) -> usize
+    requires { ⌜ (from ≤ n) × (n ≤ 512) ⌝ }
+    ensures { λ r. ⌜ (from ≤ r) × (r ≤ n) × Marked (now (marks .entry)) from r ⌝ }
+{
+    let mut i = from;
+    while i + 8 <= n {
+        if !has_eight(marks, i) {
+            return i;
+        }
+        i += 8;
+    }
+    i
+}
+
+// The first number from `from` on that has no mark, or n.
+fn unmarked(marks: &[bool; 512], from: usize, n: usize) -> usize
+    requires { ⌜ (from ≤ n) × (n ≤ 512) ⌝ }
+    ensures { λ r. ⌜ FirstFree (now (marks .entry)) from n r ⌝ }
+{
+    let mut i = skip_eights(marks, from, n);
+    while i < n {
+        if !marks[i] {
+            return i;
+        }
+        i += 1;
+    }
+    i
 }
 
 // The record with every statement below n that it lacks, in rising number.
@@ -133,16 +130,12 @@ fn fill(words: &[u64; POOL_WORDS], rec: Record, marks: [bool; 512], n: usize) ->
 {
     let mut more = rec;
     let mut count = 0usize;
-    let mut i = 0usize;
+    let mut i = unmarked(&marks, 0, n);
     while i < n {
-        if marks[i] {
-            i += 1;
-            continue;
-        }
         let next = pool::push(more, i as u16);
         more = next;
         count += 1;
-        i += 1;
+        i = unmarked(&marks, i + 1, n);
     }
     Missing {
         statements: more,

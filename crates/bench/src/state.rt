@@ -5,15 +5,17 @@ ghost use mathlib.Core.Option.{some};
 ghost use Prim.Native.Nat.{_<_, _≤_};
 ghost use lib.ListN.{length};
 ghost use Rattle.statements.specs.Meaning.{stmtOf};
+ghost use Rattle.bench.specs.declared.line.Parsed.the-variants.{Readable};
 ghost use Rattle.bench.specs.Line as lines;
 ghost use Rattle.bench.specs.Reading.{lineIs};
-ghost use Rattle.bench.specs.Seats.{Sound, Fit, seatOf, SeatedAs, RefusedAs, Advanced};
+ghost use Rattle.bench.specs.Seats.{Sound, Fit, seatOf, numberIs, replied, SeatedAs, RefusedAs, Advanced};
+use crate::lent;
 use crate::line::Line;
-use crate::line::Parsed;
 use crate::seat;
 use crate::seat::Replied;
 use engine::Answer;
 use engine::Controller;
+use engine::Outcome;
 use engine::Refusal;
 use pool::Found;
 use pool::POOL_WORDS;
@@ -39,7 +41,53 @@ pub struct Stepped {
     pub fresh: bool,
 }
 
-// What a line on controller k did.
+// What a request did. Its row has no number of its own.
+fn noted(g: Setting, k: u8, o: Outcome) -> Stepped
+    ensures { λ s. ⌜ SeatedAs g k (replied (o .answer) 0 (o .controller)) s ⌝ }
+{
+    let a = o.answer;
+    let c = o.controller;
+    Stepped {
+        who: k as u64,
+        answer: a,
+        number: 0,
+        controller: c,
+        setting: g,
+        fresh: false,
+    }
+}
+
+fn number_of(a: Answer) -> u64
+    ensures { λ r. ⌜ r ≡ numberIs a ⌝ }
+{
+    match a {
+        Answer::Taken => 0,
+        Answer::Signed(n) => n as u64,
+        Answer::Entered(_) => 0,
+        Answer::Delivered(_) => 0,
+        Answer::Left => 0,
+        Answer::Quiet => 0,
+        Answer::Refused(_) => 0,
+    }
+}
+
+// What a turn did. One that signs has the statement's number in its row.
+fn turned(g: Setting, k: u8, o: Outcome) -> Stepped
+    ensures { λ s. ⌜ SeatedAs g k (replied (o .answer) (numberIs (o .answer)) (o .controller)) s ⌝ }
+{
+    let a = o.answer;
+    let c = o.controller;
+    Stepped {
+        who: k as u64,
+        answer: a,
+        number: number_of(a),
+        controller: c,
+        setting: g,
+        fresh: false,
+    }
+}
+
+// What giving statements to controller k did.
 fn seated(g: Setting, k: u8, r: Replied) -> Stepped
     ensures { λ s. ⌜ SeatedAs g k r s ⌝ }
 {
@@ -166,23 +214,20 @@ pub fn step(
     c: Controller,
     words: &mut [u64; POOL_WORDS],
     g: Setting,
-    parsed: Parsed,
+    line: Line,
     st: Statement,
 ) -> Stepped
-    requires { ⌜ Sound (now words) c × Fit parsed st ⌝ }
-    ensures { λ r. ⌜ Advanced (now (words .entry)) g c (seatOf parsed) (lineIs parsed (stmtOf st)) r (now (words .exit)) ⌝ }
+    requires { ⌜ Sound (now words) c × Fit (Readable line) st ⌝ }
+    ensures { λ r. ⌜ Advanced (now (words .entry)) g c (seatOf (Readable line)) (lineIs (Readable line) (stmtOf st)) r (now (words .exit)) ⌝ }
 {
-    let Parsed::Readable(line) = parsed else {
-        return refused(c, g, 16, Refusal::OutOfPlace);
-    };
     match line {
         Line::Setup(members, sender, faulty) => set_up(c, words, g, members, sender, faulty),
-        Line::Join(k) => seated(g, k, seat::noted(c.join())),
-        Line::Leave(k) => seated(g, k, seat::noted(c.leave())),
-        Line::Send(k, m) => seated(g, k, seat::noted(c.send(m))),
+        Line::Join(k) => noted(g, k, c.join()),
+        Line::Leave(k) => noted(g, k, c.leave()),
+        Line::Send(k, m) => noted(g, k, c.send(m)),
         Line::Give(k, n) => seated(g, k, seat::give(c, words, g.ready, k, n)),
         Line::All(k) => seated(g, k, seat::all(c, words, g.ready, k)),
-        Line::Turn(k) => seated(g, k, seat::turned(c.turn(words))),
+        Line::Turn(k) => turned(g, k, lent::lend_turn(c, words)),
         Line::Lie => lie(c, words, g, st),
         Line::NoStatement => no_statement(c, words, g),
     }

@@ -167,10 +167,11 @@ pub fn of_record(
 ) -> Evidence
     ensures { λ e. ⌜ EvidenceOf (ring init) sender (recordOf (now (words .entry)) (now (ids .entry)) len) e ⌝ }
 {
-    let wish = votes::wished_view(words, ids, len, init);
     let mut first = [0u16; 512];
     let mut seen = [0u32; 512];
-    let n = votes::gather(words, ids, len, &mut first, &mut seen);
+    let sifted = votes::gather(words, ids, len, init, &mut first, &mut seen);
+    let wish = sifted.wished;
+    let n = sifted.groups;
     let mut chosen = [0u64; 512];
     let nc = votes::choices(words, ids, len, init, wish, &first, &seen, n, &mut chosen);
     let mut agreed = [0u64; 512];

@@ -3,6 +3,7 @@ mod answers;
 mod calls;
 mod held;
 mod pooled;
+mod rows;
 mod scan;
 mod screen;
 mod shown;

@@ -1,15 +1,21 @@
 //! How fast the proved code is beside the reference: one run, the same inputs, both built for release.
 //!
-//! `ring-benchmark [PART ..]`, with parts `statements`, `scan`, `evidence` and `turns`; all of them without an argument.
+//! `ring-benchmark [PART ..]`, with parts `statements`, `scan`, `evidence`, `turns` and `schedules`; all of them without an argument.
 
 mod evidence;
 mod measure;
 mod scan;
+mod schedules;
 mod statements;
 mod turns;
 
-const PARTS: [(&str, fn()); 4] =
-    [("statements", statements::print), ("scan", scan::print), ("evidence", evidence::print), ("turns", turns::print)];
+const PARTS: [(&str, fn()); 5] = [
+    ("statements", statements::print),
+    ("scan", scan::print),
+    ("evidence", evidence::print),
+    ("turns", turns::print),
+    ("schedules", schedules::print),
+];
 
 fn main() {
     let asked: Vec<String> = std::env::args().skip(1).collect();

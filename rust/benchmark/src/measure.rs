@@ -33,8 +33,13 @@ pub fn median(mut values: Vec<f64>) -> f64 {
 ///
 /// A round times the one and then the other, so that both meet the same noise, and is short, so that few are interrupted. There are
 /// many more pieces than a round takes, so that the processor learns none of them.
-pub fn measure<T>(all: &[T], share: usize, mut mine: impl FnMut(&[T]), mut theirs: impl FnMut(&[T])) -> Times {
-    let shares = all.chunks_exact(share).cycle().take(ROUNDS);
+pub fn measure<T>(all: &[T], share: usize, mine: impl FnMut(&[T]), theirs: impl FnMut(&[T])) -> Times {
+    measure_in(ROUNDS, all, share, mine, theirs)
+}
+
+/// The same in that many rounds, for work that takes long.
+pub fn measure_in<T>(rounds: usize, all: &[T], share: usize, mut mine: impl FnMut(&[T]), mut theirs: impl FnMut(&[T])) -> Times {
+    let shares = all.chunks_exact(share).cycle().take(rounds);
     let rounds: Vec<(f64, f64)> = shares.map(|pieces| (time(&mut mine, pieces), time(&mut theirs, pieces))).collect();
     Times {
         mine: median(rounds.iter().map(|round| round.0).collect()),

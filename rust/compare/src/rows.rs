@@ -6,8 +6,7 @@ use std::collections::BTreeMap;
 pub type Run = fn(&[u8]) -> Vec<u8>;
 
 /// The bench that is compared with the reference.
-// The proved bench comes here when it is exported; until then the reference is compared with itself.
-pub const PROVED: Run = reference::bench::run;
+pub const PROVED: Run = pekdrav::run;
 
 /// What the rows of the compared schedules answered.
 #[derive(Default)]

@@ -2,6 +2,7 @@
 
 use compare::rows::{compare_all, Tally, PROVED};
 use compare::schedules;
+use pekdrav::{run_into, ROWS_MAX};
 use reference::bench::run;
 
 fn agree(name: &str, schedules: impl Iterator<Item = Vec<u8>>) -> Tally {
@@ -40,4 +41,35 @@ fn random_styles() {
 fn mutated_schedules() {
     let tally = agree("mutated schedules", (0..2_000).map(|seed| schedules::mutated(seed, 60 + 30 * (seed as usize % 8))));
     each_is_met(&tally, &["taken", "signed", "entered", "delivered", "refused 3", "refused 5", "refused 8"], 200);
+}
+
+/// Memory of exactly the length of the rows, of one byte less, of some more, and none.
+fn in_memory_of_any_length(schedule: &[u8]) {
+    let rows = run(schedule);
+    for length in [0, 1, 21, 22, rows.len() - 1, rows.len(), rows.len() + 1, rows.len() + 39, rows.len() + 41] {
+        let mut memory = vec![0xa5; length];
+        let written = run_into(schedule, &mut memory);
+        if length < rows.len() {
+            assert_eq!(written, None);
+            assert!(memory.iter().all(|&byte| byte == 0xa5), "a byte was written though the rows have no room");
+        } else {
+            assert_eq!(written, Some(rows.len()));
+            assert_eq!(memory[..rows.len()], rows);
+            assert!(memory[rows.len()..].iter().all(|&byte| byte == 0xa5), "a byte after the rows was written");
+        }
+    }
+}
+
+#[test]
+fn memory_of_any_length() {
+    let made = (0..20).flat_map(|seed| schedules::random(seed, 60)).chain(schedules::limits(4));
+    made.chain([Vec::new(), b"\n".to_vec(), b"x".to_vec(), vec![b'\n'; 65_536]]).for_each(|schedule| in_memory_of_any_length(&schedule));
+}
+
+/// The most rows that a schedule can have.
+#[test]
+fn the_longest_rows() {
+    let rows = run(&[b'\n'; 65_536]);
+    assert!(rows.len() < ROWS_MAX);
+    assert_eq!(PROVED(&[b'\n'; 65_536]), rows);
 }

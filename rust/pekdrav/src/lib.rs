@@ -3,6 +3,10 @@
 //! The functions are those of `crates/pekdrav`; their contracts stand there. None asks anything of its caller but memory of
 //! the right size, which the types here give.
 
+mod rows;
+
+pub use rows::{run, run_into, ROWS_MAX};
+
 /// The words of a pool: 512 statements of 32 words, and the number of statements.
 pub const POOL_WORDS: usize = 16_385;
 

@@ -1,14 +1,7 @@
 use borrow.Author.Needs.{needs}
-use native.Mathlib.Omega.{arith}
-use mathlib.Core.Path.{_≡_, refl, sym, ap, ap₂, _∙_}
 use Rattle.bench.proofs.Rows.{row-put}
 use Rattle.bench.proofs.run.put_step.Statement.{statement}
 use Rattle.bench.proofs.run.put_step.Tie as tie
-use Rattle.bench.proofs.run.put_step.Reads as reads
-use Rattle.bench.proofs.run.put_step.Lts as lts
-use Rattle.bench.proofs.row.put_row.Reads as put-row-reads
-use Rattle.bench.proofs.run.value_of.Reads as value-of-reads
-use Rattle.bench.proofs.run.word_of.Reads as word-of-reads
 
 -- src/run.rt:76:38
 word-of-requires : tie.Need-word-of-requires
@@ -19,8 +12,8 @@ value-of-requires : tie.Need-value-of-requires
 value-of-requires c κs = search needs
 
 -- src/run.rt:76:5
-put-row-requires : tie.Need-put-row-requires
-put-row-requires c κs = search needs
+put-row-within-requires : tie.Need-put-row-within-requires
+put-row-within-requires c κs = search needs
 
 -- src/run.rt:71:1
 same-length : tie.Need-same-length
@@ -28,8 +21,8 @@ same-length c = search needs
 
 -- src/run.rt:71:1
 returns : tie.Need-returns
-returns c = row-put (c .before .before .before .before .before .before .before .args .s) (c .before .before .before .before .before .before .before .args .n) (c .before .before .before .before .before .before .before .args .at) (c .before .before .before .before .before .before .before .args .rows .now) (c .before .before .before .before .word-of .ensures) (c .before .before .before .value-of .ensures) (c .before .before .put-row .ensures)
+returns c = row-put (c .before .before .before .before .before .before .before .args .s) (c .before .before .before .before .before .before .before .args .n) (c .before .before .before .before .before .before .before .args .at) (c .before .before .before .before .before .before .before .args .rows .now) (c .before .before .before .before .word-of .ensures) (c .before .before .before .value-of .ensures) (c .before .before .put-row-within .ensures)
 
 pub put-step-spec : {M : Type 1} → statement M
 put-step-spec =
-    tie.close (tie.spec word-of-requires value-of-requires put-row-requires same-length returns)
+    tie.close (tie.spec word-of-requires value-of-requires put-row-within-requires same-length returns)

@@ -3,7 +3,7 @@ use native.Mathlib.Omega.{arith}
 use mathlib.Core.Path.{_≡_, refl, sym, _∙_}
 use borrow.Author.Tests.{not-true, not-false}
 use Rattle.engine.specs.Meaning.{Whole}
-use Rattle.bench.proofs.Seats.{all-unready, all-full, all-taken, fill-most}
+use Rattle.bench.proofs.Seats.{all-unready, all-full, all-taken, fill-most, in-pool-numbered}
 use Rattle.bench.proofs.seat.all.Statement.{statement}
 use Rattle.bench.proofs.seat.all.Tie as tie
 use Rattle.bench.proofs.seat.all.Reads as reads
@@ -29,7 +29,8 @@ limit-requires c κs = search needs
 
 -- src/seat.rt:191:9
 marks-of-requires : tie.Need-marks-of-requires
-marks-of-requires c κs = search needs
+unfolding Whole
+marks-of-requires c κs = in-pool-numbered _ _ (c .before .before .before .pre .whole)
 
 -- src/seat.rt:192:44
 pool-len-requires : tie.Need-pool-len-requires

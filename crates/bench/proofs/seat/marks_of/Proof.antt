@@ -1,15 +1,11 @@
 use borrow.Author.Needs.{needs}
 use native.Mathlib.Omega.{arith}
-use mathlib.Core.Path.{_≡_, refl, sym, _∙_}
+use mathlib.Core.Path.{refl}
 use Prim.Native.Nat.{_-_, _≤_}
 use lib.ListN.{getD}
-use Rattle.bench.proofs.Seats.{MarksTo, marks-first, marks-stored, marks-skip, marks-are}
+use Rattle.bench.proofs.Seats.{MarksTo, marks-first, marks-stored, marks-are}
 use Rattle.bench.proofs.seat.marks_of.Statement.{statement}
 use Rattle.bench.proofs.seat.marks_of.Tie as tie
-use Rattle.bench.proofs.seat.marks_of.Reads as reads
-use Rattle.bench.proofs.seat.marks_of.Lts as lts
-use Rattle.bench.proofs.seat.index.Reads as index-reads
-use Rattle.pool.proofs.limit.Reads as limit-reads
 
 abbrev Inv-loop : tie.InvT-loop
 Inv-loop end ids marks₀ i₀ marks i = (i ≤ end) × MarksTo (λ j. getD ids j 0) i marks
@@ -17,74 +13,19 @@ Inv-loop end ids marks₀ i₀ marks i = (i ≤ end) × MarksTo (λ j. getD ids 
 abbrev μ-loop : tie.MeasureT-loop
 μ-loop end ids marks₀ i₀ marks i = end - i
 
--- src/seat.rt:113:9
-limit-requires : tie.Need-limit-requires Inv-loop μ-loop
-limit-requires c κs = search needs
-
--- src/seat.rt:117:5
-loop-holds : tie.Need-loop-holds Inv-loop μ-loop
-loop-holds c = (omega arith, marks-first _ 512 refl)
-
--- src/seat.rt:118:24
-mul-index : tie.Need-mul-index Inv-loop μ-loop
-mul-index c = omega (arith, c .before .before .before .limit .ensures .1)
-
--- src/seat.rt:118:24
-array-read-index : tie.Need-array-read-index Inv-loop μ-loop
-array-read-index c = omega (arith, c .before .before .before .limit .ensures .1)
-
--- src/seat.rt:118:13
-index-requires : tie.Need-index-requires Inv-loop μ-loop
-index-requires c κs = search needs
-
--- src/seat.rt:120:13
-add-i : tie.Need-add-i Inv-loop μ-loop
-add-i c = omega (arith, c .before .before .before .before .before .limit .ensures .1)
-
--- src/seat.rt:117:5
-loop-less : tie.Need-loop-less Inv-loop μ-loop
-loop-less c = search needs
-
--- src/seat.rt:117:5
-loop-again : tie.Need-loop-again Inv-loop μ-loop
-loop-again c = (omega arith, marks-skip _ _ _ (λ h. omega (arith, c .before .index .ensures, c .if1 .taken)) (c .before .before .before .loop .inv .1))
-
--- src/seat.rt:123:9
-array-write-marks : tie.Need-array-write-marks Inv-loop μ-loop
-array-write-marks c = omega (arith, c .if1 .left)
-
--- src/seat.rt:124:9
-add-i-2 : tie.Need-add-i-2 Inv-loop μ-loop
-add-i-2 c = omega (arith, c .before .before .before .before .before .limit .ensures .1)
-
--- src/seat.rt:117:5
-loop-less-2 : tie.Need-loop-less-2 Inv-loop μ-loop
-loop-less-2 c = search needs
-
--- src/seat.rt:117:5
-loop-again-2 : tie.Need-loop-again-2 Inv-loop μ-loop
-loop-again-2 c = (omega arith, marks-stored _ _ _ _ (c .before .index .ensures) (omega (arith, c .if1 .left)) (c .before .before .before .loop .inv .1))
-
--- src/seat.rt:110:1
-returns : tie.Need-returns Inv-loop μ-loop
-returns c = marks-are (c .before .before .before .before .args .rec) _ _ (omega (arith, c .before .before .before .limit .ensures .0)) (c .before .loop .inv .1)
-
 pub marks-of-spec : {M : Type 1} → statement M
 marks-of-spec =
     tie.close
     (tie.spec
     Inv-loop
     μ-loop
-    limit-requires
-    loop-holds
-    mul-index
-    array-read-index
-    index-requires
-    add-i
-    loop-less
-    loop-again
-    array-write-marks
-    add-i-2
-    loop-less-2
-    loop-again-2
-    returns)
+    (λ c κs. search needs)
+    (λ c. (omega arith, marks-first _ 512 refl))
+    (λ c. omega (arith, c .before .before .before .limit .ensures .1))
+    (λ c. omega (arith, c .before .before .before .limit .ensures .1))
+    (λ c κs. search needs)
+    (λ c. omega (arith, c .index .ensures, c .before .before .before .before .before .pre .below (c .before .before .loop .i) (omega (arith, c .before .before .before .before .limit .ensures .0)), c .before .before .loop .inv .1 .long))
+    (λ c. omega (arith, c .before .before .before .before .limit .ensures .1))
+    (λ c. search needs)
+    (λ c. (omega arith, marks-stored _ _ _ _ (c .index .ensures) (omega (arith, c .index .ensures, c .before .before .before .before .before .pre .below (c .before .before .loop .i) (omega (arith, c .before .before .before .before .limit .ensures .0)))) (c .before .before .loop .inv .1)))
+    (λ c. marks-are (c .before .before .before .before .args .rec) _ _ (omega (arith, c .before .before .before .limit .ensures .0)) (c .before .loop .inv .1)))

@@ -1,227 +1,173 @@
-use borrow.Author.Needs.{needs}
-use native.Mathlib.Omega.{arith}
-use mathlib.Core.Path.{_≡_, refl, sym, ap, _∙_}
+use mathlib.Core.Path.{refl, ap}
 use Rattle.bench.specs.declared.line.Parsed.the-variants.{Readable}
+use Rattle.bench.specs.Seats.{replied, numberIs}
 use Rattle.bench.proofs.Seats.{seat-joins, seat-leaves, seat-sends, seat-turns}
-use Rattle.bench.proofs.States.{at-line, fit-at, advance-seated, unreadable}
+use Rattle.bench.proofs.States.{at-line, fit-at, advance-seated}
+use borrow.Author.Needs.{needs}
 use Rattle.bench.proofs.state.step.Statement.{statement}
 use Rattle.bench.proofs.state.step.Tie as tie
-use Rattle.bench.proofs.state.step.Reads as reads
-use Rattle.bench.proofs.state.step.Lts as lts
-use Rattle.bench.proofs.seat.all.Reads as all-reads
-use Rattle.bench.proofs.seat.give.Reads as give-reads
-use Rattle.bench.proofs.seat.noted.Reads as noted-reads
-use Rattle.bench.proofs.seat.turned.Reads as turned-reads
-use Rattle.bench.proofs.state.lie.Reads as lie-reads
-use Rattle.bench.proofs.state.no_statement.Reads as no-statement-reads
-use Rattle.bench.proofs.state.refused.Reads as refused-reads
-use Rattle.bench.proofs.state.seated.Reads as seated-reads
-use Rattle.bench.proofs.state.set_up.Reads as set-up-reads
-use Rattle.engine.proofs.Controller.join.Reads as join-reads
-use Rattle.engine.proofs.Controller.leave.Reads as leave-reads
-use Rattle.engine.proofs.Controller.send.Reads as send-reads
-use Rattle.engine.proofs.Controller.turn.Reads as turn-reads
 
--- src/state.rt:162:26
-enum-known-parsed : tie.Need-enum-known-parsed
-enum-known-parsed c = search needs
-
--- src/state.rt:163:34
-enum-told : tie.Need-enum-told
-enum-told c = search needs
-
--- src/state.rt:163:9
-refused-requires : tie.Need-refused-requires
-refused-requires c κs = search needs
-
--- src/state.rt:163:9
-returns : tie.Need-returns
-returns c = at-line (c .before .before .before .args .st) (c .before .enum-told .given .1) (unreadable _ _ _ _ (c .before .before .before .pre .0) (c .refused .ensures))
-
--- src/state.rt:166:21
+-- src/state.rt:224:21
 enum-known-line : tie.Need-enum-known-line
 enum-known-line c = search needs
 
--- src/state.rt:166:49
+-- src/state.rt:224:49
 set-up-requires : tie.Need-set-up-requires
-set-up-requires c κs = c .before .before .before .before .before .before .before .pre .0
+set-up-requires c κs = c .before .before .before .before .pre .0
 
--- src/state.rt:167:20
+-- src/state.rt:225:20
 enum-known-line-2 : tie.Need-enum-known-line-2
 enum-known-line-2 c = search needs
 
--- src/state.rt:167:51
+-- src/state.rt:225:38
 join-requires : tie.Need-join-requires
 join-requires c κs = search needs
 
--- src/state.rt:167:39
+-- src/state.rt:225:26
 noted-requires : tie.Need-noted-requires
 noted-requires c κs = search needs
 
--- src/state.rt:167:26
-seated-requires : tie.Need-seated-requires
-seated-requires c κs = search needs
-
--- src/state.rt:168:21
+-- src/state.rt:226:21
 enum-known-line-3 : tie.Need-enum-known-line-3
 enum-known-line-3 c = search needs
 
--- src/state.rt:168:52
+-- src/state.rt:226:39
 leave-requires : tie.Need-leave-requires
 leave-requires c κs = search needs
 
--- src/state.rt:168:40
+-- src/state.rt:226:27
 noted-requires-2 : tie.Need-noted-requires-2
 noted-requires-2 c κs = search needs
 
--- src/state.rt:168:27
-seated-requires-2 : tie.Need-seated-requires-2
-seated-requires-2 c κs = search needs
-
--- src/state.rt:169:20
+-- src/state.rt:227:20
 enum-known-line-4 : tie.Need-enum-known-line-4
 enum-known-line-4 c = search needs
 
--- src/state.rt:169:54
+-- src/state.rt:227:41
 send-requires : tie.Need-send-requires
 send-requires c κs = search needs
 
--- src/state.rt:169:42
+-- src/state.rt:227:29
 noted-requires-3 : tie.Need-noted-requires-3
 noted-requires-3 c κs = search needs
 
--- src/state.rt:169:29
-seated-requires-3 : tie.Need-seated-requires-3
-seated-requires-3 c κs = search needs
-
--- src/state.rt:170:20
+-- src/state.rt:228:20
 enum-known-line-5 : tie.Need-enum-known-line-5
 enum-known-line-5 c = search needs
 
--- src/state.rt:170:42
+-- src/state.rt:228:42
 give-requires : tie.Need-give-requires
-give-requires c κs = c .before .before .before .before .before .before .before .pre .0
+give-requires c κs = c .before .before .before .before .pre .0
 
--- src/state.rt:170:29
-seated-requires-4 : tie.Need-seated-requires-4
-seated-requires-4 c κs = search needs
+-- src/state.rt:228:29
+seated-requires : tie.Need-seated-requires
+seated-requires c κs = search needs
 
--- src/state.rt:171:19
+-- src/state.rt:229:19
 enum-known-line-6 : tie.Need-enum-known-line-6
 enum-known-line-6 c = search needs
 
--- src/state.rt:171:38
+-- src/state.rt:229:38
 all-requires : tie.Need-all-requires
-all-requires c κs = c .before .before .before .before .before .before .before .pre .0
+all-requires c κs = c .before .before .before .before .pre .0
 
--- src/state.rt:171:25
-seated-requires-5 : tie.Need-seated-requires-5
-seated-requires-5 c κs = search needs
+-- src/state.rt:229:25
+seated-requires-2 : tie.Need-seated-requires-2
+seated-requires-2 c κs = search needs
 
--- src/state.rt:172:20
+-- src/state.rt:230:20
 enum-known-line-7 : tie.Need-enum-known-line-7
 enum-known-line-7 c = search needs
 
--- src/state.rt:172:52
-turn-requires : tie.Need-turn-requires
-turn-requires c κs = search needs
+-- src/state.rt:230:39
+lend-turn-requires : tie.Need-lend-turn-requires
+lend-turn-requires c κs = search needs
 
--- src/state.rt:172:39
+-- src/state.rt:230:26
 turned-requires : tie.Need-turned-requires
 turned-requires c κs = search needs
 
--- src/state.rt:172:26
-seated-requires-6 : tie.Need-seated-requires-6
-seated-requires-6 c κs = search needs
+-- src/state.rt:231:29
+enum-told : tie.Need-enum-told
+enum-told c = search needs
 
--- src/state.rt:173:29
+-- src/state.rt:231:22
+lie-requires : tie.Need-lie-requires
+lie-requires c κs = (c .before .before .before .pre .0, c .before .before .before .pre .1 .short, c .before .before .before .pre .1 .origin (ap Readable (c .before .enum-told .given .1)))
+
+-- src/state.rt:232:46
 enum-told-2 : tie.Need-enum-told-2
 enum-told-2 c = search needs
 
--- src/state.rt:173:22
-lie-requires : tie.Need-lie-requires
-lie-requires c κs = (c .before .before .before .before .before .before .pre .0, c .before .before .before .before .before .before .pre .1 .short, c .before .before .before .before .before .before .pre .1 .origin (c .before .before .before .before .parsed .given .1 ∙ ap Readable (c .before .enum-told2 .given .1)))
-
--- src/state.rt:174:46
-enum-told-3 : tie.Need-enum-told-3
-enum-told-3 c = search needs
-
--- src/state.rt:174:30
+-- src/state.rt:232:30
 no-statement-requires : tie.Need-no-statement-requires
-no-statement-requires c κs = c .before .before .before .before .before .before .pre .0
+no-statement-requires c κs = c .before .before .before .pre .0
 
--- src/state.rt:158:1
+-- src/state.rt:213:1
+returns : tie.Need-returns
+returns c = at-line (c .before .before .before .before .before .args .st) (ap Readable (c .before .before .before .line .given .1)) (c .set-up .ensures)
+
+-- src/state.rt:213:1
 returns-2 : tie.Need-returns-2
-returns-2 c = at-line (c .before .before .before .before .before .before .before .before .args .st) (c .before .before .before .before .before .before .parsed .given .1 ∙ ap Readable (c .before .before .before .line .given .1)) (c .set-up .ensures)
+returns-2 c = at-line (c .before .before .before .before .before .args .st) (ap Readable (c .before .before .before .line2 .given .1)) (advance-seated (fit-at (c .before .before .before .before .before .pre .1) (ap Readable (c .before .before .before .line2 .given .1))) (seat-joins _ _ _ _ _ (replied (c .before .join .result .answer) 0 (c .before .join .result .controller)) (refl, refl, refl) (c .before .before .before .before .before .pre .0) (c .before .join .ensures)) (c .noted .ensures))
 
--- src/state.rt:158:1
+-- src/state.rt:213:1
 returns-3 : tie.Need-returns-3
-returns-3 c = at-line (c .before .before .before .before .before .before .before .before .before .args .st) (c .before .before .before .before .before .before .before .parsed .given .1 ∙ ap Readable (c .before .before .before .before .line2 .given .1)) (advance-seated (fit-at (c .before .before .before .before .before .before .before .before .before .pre .1) (c .before .before .before .before .before .before .before .parsed .given .1 ∙ ap Readable (c .before .before .before .before .line2 .given .1))) (seat-joins _ _ _ _ _ _ (c .before .noted .ensures) (c .before .before .before .before .before .before .before .before .before .pre .0) (c .before .before .join .ensures)) (c .seated .ensures))
+returns-3 c = at-line (c .before .before .before .before .before .args .st) (ap Readable (c .before .before .before .line3 .given .1)) (advance-seated (fit-at (c .before .before .before .before .before .pre .1) (ap Readable (c .before .before .before .line3 .given .1))) (seat-leaves _ _ _ _ _ (replied (c .before .leave .result .answer) 0 (c .before .leave .result .controller)) (refl, refl, refl) (c .before .before .before .before .before .pre .0) (c .before .leave .ensures)) (c .noted2 .ensures))
 
--- src/state.rt:158:1
+-- src/state.rt:213:1
 returns-4 : tie.Need-returns-4
-returns-4 c = at-line (c .before .before .before .before .before .before .before .before .before .args .st) (c .before .before .before .before .before .before .before .parsed .given .1 ∙ ap Readable (c .before .before .before .before .line3 .given .1)) (advance-seated (fit-at (c .before .before .before .before .before .before .before .before .before .pre .1) (c .before .before .before .before .before .before .before .parsed .given .1 ∙ ap Readable (c .before .before .before .before .line3 .given .1))) (seat-leaves _ _ _ _ _ _ (c .before .noted2 .ensures) (c .before .before .before .before .before .before .before .before .before .pre .0) (c .before .before .leave .ensures)) (c .seated2 .ensures))
+returns-4 c = at-line (c .before .before .before .before .before .args .st) (ap Readable (c .before .before .before .line4 .given .1)) (advance-seated (fit-at (c .before .before .before .before .before .pre .1) (ap Readable (c .before .before .before .line4 .given .1))) (seat-sends _ _ _ _ _ (replied (c .before .send .result .answer) 0 (c .before .send .result .controller)) (refl, refl, refl) (c .before .before .before .before .before .pre .0) _ (c .before .send .ensures)) (c .noted3 .ensures))
 
--- src/state.rt:158:1
+-- src/state.rt:213:1
 returns-5 : tie.Need-returns-5
-returns-5 c = at-line (c .before .before .before .before .before .before .before .before .before .args .st) (c .before .before .before .before .before .before .before .parsed .given .1 ∙ ap Readable (c .before .before .before .before .line4 .given .1)) (advance-seated (fit-at (c .before .before .before .before .before .before .before .before .before .pre .1) (c .before .before .before .before .before .before .before .parsed .given .1 ∙ ap Readable (c .before .before .before .before .line4 .given .1))) (seat-sends _ _ _ _ _ _ (c .before .noted3 .ensures) (c .before .before .before .before .before .before .before .before .before .pre .0) _ (c .before .before .send .ensures)) (c .seated3 .ensures))
+returns-5 c = at-line (c .before .before .before .before .before .before .args .st) (ap Readable (c .before .before .before .before .line5 .given .1)) (advance-seated (fit-at (c .before .before .before .before .before .before .pre .1) (ap Readable (c .before .before .before .before .line5 .given .1))) (c .before .give .ensures) (c .seated .ensures))
 
--- src/state.rt:158:1
+-- src/state.rt:213:1
 returns-6 : tie.Need-returns-6
-returns-6 c = at-line (c .before .before .before .before .before .before .before .before .before .args .st) (c .before .before .before .before .before .before .before .parsed .given .1 ∙ ap Readable (c .before .before .before .before .line5 .given .1)) (advance-seated (fit-at (c .before .before .before .before .before .before .before .before .before .pre .1) (c .before .before .before .before .before .before .before .parsed .given .1 ∙ ap Readable (c .before .before .before .before .line5 .given .1))) (c .before .give .ensures) (c .seated4 .ensures))
+returns-6 c = at-line (c .before .before .before .before .before .before .args .st) (ap Readable (c .before .before .before .before .line6 .given .1)) (advance-seated (fit-at (c .before .before .before .before .before .before .pre .1) (ap Readable (c .before .before .before .before .line6 .given .1))) (c .before .all .ensures) (c .seated2 .ensures))
 
--- src/state.rt:158:1
+-- src/state.rt:213:1
 returns-7 : tie.Need-returns-7
-returns-7 c = at-line (c .before .before .before .before .before .before .before .before .before .args .st) (c .before .before .before .before .before .before .before .parsed .given .1 ∙ ap Readable (c .before .before .before .before .line6 .given .1)) (advance-seated (fit-at (c .before .before .before .before .before .before .before .before .before .pre .1) (c .before .before .before .before .before .before .before .parsed .given .1 ∙ ap Readable (c .before .before .before .before .line6 .given .1))) (c .before .all .ensures) (c .seated5 .ensures))
+returns-7 c = at-line (c .before .before .before .before .before .before .args .st) (ap Readable (c .before .before .before .before .line7 .given .1)) (advance-seated (fit-at (c .before .before .before .before .before .before .pre .1) (ap Readable (c .before .before .before .before .line7 .given .1))) (seat-turns _ _ _ _ _ _ (replied (c .before .lend-turn .result .answer) (numberIs (c .before .lend-turn .result .answer)) (c .before .lend-turn .result .controller)) (refl, refl, refl) (c .before .before .before .before .before .before .pre .0) (c .before .lend-turn .ensures)) (c .turned .ensures))
 
--- src/state.rt:158:1
+-- src/state.rt:213:1
 returns-8 : tie.Need-returns-8
-returns-8 c = at-line (c .before .before .before .before .before .before .before .before .before .before .args .st) (c .before .before .before .before .before .before .before .before .parsed .given .1 ∙ ap Readable (c .before .before .before .before .before .line7 .given .1)) (advance-seated (fit-at (c .before .before .before .before .before .before .before .before .before .before .pre .1) (c .before .before .before .before .before .before .before .before .parsed .given .1 ∙ ap Readable (c .before .before .before .before .before .line7 .given .1))) (seat-turns _ _ _ _ _ _ _ (c .before .turned .ensures) (c .before .before .before .before .before .before .before .before .before .before .pre .0) (c .before .before .turn .ensures)) (c .seated6 .ensures))
+returns-8 c = at-line (c .before .before .before .before .args .st) (ap Readable (c .before .before .enum-told .given .1)) (c .lie .ensures)
 
--- src/state.rt:158:1
+-- src/state.rt:213:1
 returns-9 : tie.Need-returns-9
-returns-9 c = at-line (c .before .before .before .before .before .before .before .args .st) (c .before .before .before .before .before .parsed .given .1 ∙ ap Readable (c .before .before .enum-told2 .given .1)) (c .lie .ensures)
-
--- src/state.rt:158:1
-returns-10 : tie.Need-returns-10
-returns-10 c = at-line (c .before .before .before .before .before .before .before .args .st) (c .before .before .before .before .before .parsed .given .1 ∙ ap Readable (c .before .before .enum-told3 .given .1)) (c .no-statement .ensures)
+returns-9 c = at-line (c .before .before .before .before .args .st) (ap Readable (c .before .before .enum-told2 .given .1)) (c .no-statement .ensures)
 
 pub step-spec : {M : Type 1} → statement M
 step-spec =
     tie.close
     (tie.spec
-    enum-known-parsed
-    enum-told
-    refused-requires
-    returns
     enum-known-line
     set-up-requires
     enum-known-line-2
     join-requires
     noted-requires
-    seated-requires
     enum-known-line-3
     leave-requires
     noted-requires-2
-    seated-requires-2
     enum-known-line-4
     send-requires
     noted-requires-3
-    seated-requires-3
     enum-known-line-5
     give-requires
-    seated-requires-4
+    seated-requires
     enum-known-line-6
     all-requires
-    seated-requires-5
+    seated-requires-2
     enum-known-line-7
-    turn-requires
+    lend-turn-requires
     turned-requires
-    seated-requires-6
-    enum-told-2
+    enum-told
     lie-requires
-    enum-told-3
+    enum-told-2
     no-statement-requires
+    returns
     returns-2
     returns-3
     returns-4
@@ -229,5 +175,4 @@ step-spec =
     returns-6
     returns-7
     returns-8
-    returns-9
-    returns-10)
+    returns-9)

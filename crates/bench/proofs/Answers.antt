@@ -1,0 +1,47 @@
+-- What a run over any memory answers.
+-- Assumes nothing.
+use Prim.Native.Nat.{ℕ, _+_, _<_, _≤_}
+use native.Mathlib.Nat.{zero-add}
+use native.Mathlib.Omega.{arith}
+use mathlib.Core.Path.{_≡_, refl, sym, ap, ap₂, subst, _∙_}
+use mathlib.Core.List.{List, _++_}
+use lib.ListN.{length, take, drop}
+use lib.Seq.{sets-eq, take-append-seam}
+use Rattle.bench.specs.Rows.{Printed, Answered}
+use Rattle.bench.specs.Running.{Wrote, Long}
+use Rattle.bench.proofs.One.{printed-one}
+
+pub wrote-long : {S R : List ℕ} {r : ℕ} {R′ : List ℕ} → Wrote S R r R′ → Long S r
+wrote-long w = record { text = w .text; printed = w .printed; long = w .long; small = w .small }
+
+-- the rows have room
+pub has-room : (S R : List ℕ) (r : ℕ) (R′ : List ℕ) (w : Wrote S R r R′) → length (w .text) ≤ length R → Answered S R r R′
+has-room S R r R′ w l = record {
+  text = w .text;
+  printed = w .printed;
+  most = w .small;
+  fits = λ h. (w .long, w .rows ∙ sets-eq (w .text) R 0 (omega arith) ∙ ap (λ k. w .text ++ drop k R) (zero-add (length (w .text))));
+  short = λ h. absurd (omega arith);
+}
+
+pub known-room : (S R : List ℕ) (n r : ℕ) (R′ : List ℕ) → Long S n → n ≤ length R → Wrote S R r R′ → Answered S R r R′
+known-room S R n r R′ k l w = has-room S R r R′ w (omega (arith, k .long, ap length (printed-one S (w .text) (k .text) (w .printed) (k .printed))))
+
+pub large-room : (S R : List ℕ) (r : ℕ) (R′ : List ℕ) → 2621504 ≤ length R → Wrote S R r R′ → Answered S R r R′
+large-room S R r R′ l w = has-room S R r R′ w (omega (arith, w .small))
+
+-- the rows have no room
+pub no-room : (S R : List ℕ) (n : ℕ) → Long S n → length R < n → Answered S R 0 R
+no-room S R n k l = record {
+  text = k .text;
+  printed = k .printed;
+  most = k .small;
+  fits = λ h. absurd (omega (arith, k .long));
+  short = λ h. (refl, refl);
+}
+
+-- what stands in memory that has room is what is printed
+pub answer-printed : (S R : List ℕ) (r : ℕ) (R′ : List ℕ) → Answered S R r R′ → 2621504 ≤ length R → Printed S (take r R′)
+answer-printed S R r R′ a l =
+    let room : length (a .text) ≤ length R = omega (arith, a .most) in
+    subst (Printed S) (sym (ap₂ take (a .fits room .0) (a .fits room .1) ∙ take-append-seam (a .text) (drop (length (a .text)) R))) (a .printed)
