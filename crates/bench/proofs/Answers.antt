@@ -2,10 +2,11 @@
 -- Assumes nothing.
 use Prim.Native.Nat.{ℕ, _+_, _<_, _≤_}
 use native.Mathlib.Nat.{zero-add}
+use native.Mathlib.Decide.{decLt}
 use native.Mathlib.Omega.{arith}
 use mathlib.Core.Path.{_≡_, refl, sym, ap, ap₂, subst, _∙_}
 use mathlib.Core.List.{List, _++_}
-use lib.ListN.{length, take, drop}
+use lib.ListN.{length, take, drop, length-append}
 use lib.Seq.{sets-eq, take-append-seam}
 use Rattle.bench.specs.Rows.{Printed, Answered}
 use Rattle.bench.specs.Running.{Wrote, Long}
@@ -45,3 +46,10 @@ pub answer-printed : (S R : List ℕ) (r : ℕ) (R′ : List ℕ) → Answered S
 answer-printed S R r R′ a l =
     let room : length (a .text) ≤ length R = omega (arith, a .most) in
     subst (Printed S) (sym (ap₂ take (a .fits room .0) (a .fits room .1) ∙ take-append-seam (a .text) (drop (length (a .text)) R))) (a .printed)
+
+-- and no more than the memory has
+pub answer-within : (S R : List ℕ) (r : ℕ) (R′ : List ℕ) → Answered S R r R′ → r ≤ length R′
+answer-within S R r R′ a = elim (decLt (length R) (length (a .text))) [
+  | yes h ↦ omega (arith, a .short h .0)
+  | no h ↦ (let f = a .fits (omega arith) in omega (arith, f .0, ap length (f .1), length-append (a .text) (drop (length (a .text)) R)))
+]

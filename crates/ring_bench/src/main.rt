@@ -2,7 +2,8 @@
 // What it cannot open, read or write, and a second argument, it says in one line on standard error. A program has no exit status of its own.
 ghost use Prim.Native.Nat.{_-_, _≤_};
 ghost use lib.ListN.{length};
-ghost use Rattle.ring_bench.specs.Program.{Within, Shown};
+ghost use Rattle.bench.specs.Rows.{Answered};
+ghost use Rattle.ring_bench.specs.Program.{Within};
 use bench::run;
 use libc::STDERR_FILENO;
 use libc::STDIN_FILENO;
@@ -10,9 +11,6 @@ use libc::STDOUT_FILENO;
 
 // One byte more than the longest schedule has, so that a longer one is known.
 const TEXT_BYTES: usize = 65537;
-
-// Room for the rows of any schedule. With it the program takes about 3 MB of the stack's 8 MB.
-const ROW_BYTES: usize = 2621504;
 
 // How many bytes were read, or that a read failed.
 enum Input {
@@ -53,16 +51,9 @@ fn read_all(fd: i32, text: &mut [u8]) -> Input
 
 // Writes the rows of a schedule to standard output by way of lent memory, and answers how many bytes they have.
 fn print_rows(schedule: &[u8], rows: &mut [u8]) -> usize
-    ensures { λ r. ⌜ Shown (now (schedule .entry)) (now (rows .exit)) r ⌝ }
+    ensures { λ r. ⌜ Answered (now (schedule .entry)) (now (rows .entry)) r (now (rows .exit)) ⌝ }
 {
-    if rows.len() < ROW_BYTES {
-        return 0;
-    }
-    let n = run::run_rows(schedule, rows);
-    // What was written there ends there, but run_rows does not promise it.
-    if rows.len() < n {
-        return n;
-    }
+    let n = run::run(schedule, rows);
     if !io::write_all(STDOUT_FILENO, &rows[..n]) {
         os::fail(b"standard output");
     }
@@ -77,7 +68,8 @@ fn run_input(fd: i32, name: &[u8]) {
         os::fail(name);
         return;
     };
-    let mut rows = [0u8; ROW_BYTES];
+    // Room for the rows of any schedule; with it the program takes about 3 MB of the stack's 8 MB.
+    let mut rows = [0u8; run::ROWS_MAX];
     print_rows(&text[..n], &mut rows);
 }
 
