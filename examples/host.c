@@ -1,7 +1,7 @@
 /* Two controllers in one program: what one signs, the other is given. Both deliver the payload 7.
  *
  *     rt staticlib pekdrav
- *     cc -Iinclude examples/host.c target/staticlib/libpekdrav.a -o /tmp/host && /tmp/host
+ *     cc -Iinclude examples/host.c target/staticlib/libpekdrav.a -o target/host && target/host
  */
 #include <inttypes.h>
 #include <stdio.h>
