@@ -38,7 +38,8 @@ use Rattle.engine.specs.declared.rules.Sight.{Sight}
 use Rattle.engine.specs.declared.rules.Due.{Due}
 use Rattle.engine.specs.declared.rules.Due.the-variants.{Nothing, On}
 use Rattle.engine.specs.Meaning.{sendIs}
-use Rattle.engine.specs.Rules.{ownKind, ownAt, firstPrepare, reportDue, dueIs, SightOf, Rule, Steps, Does, Enters, Entering, Delivers, Acks}
+use Rattle.engine.proofs.Scans.{owns-same, owns-at, owns-kind}
+use Rattle.engine.specs.Rules.{ownKind, ownAt, firstPrepare, reportDue, dueIs, Owns, SightOf, Rule, Steps, Does, Owned, Enters, Entering, Delivers, Acks}
 
 -- ---- tests one after the other
 
@@ -127,14 +128,21 @@ module _ {a : Stmt} {st : Statement} (X : List Stmt) (b : Bool) (m : Made a st) 
 
 -- ---- the rules
 
--- rule is p, for every controller that s is of
+-- rule is p, for every controller that s is of, with the record X and its own statements Y
+abbrev pub IsIn : List Stmt → List Stmt → Sight → Rule → Option Action → Type 0
+IsIn X Y s rule p = Owns X Y (s .number) → (d : Controller) → SightOf d X s → rule d X ≡ p
+
+-- whatever the record is
 abbrev pub Is : List Stmt → Sight → Rule → Option Action → Type 0
-Is X s rule p = (d : Controller) → SightOf d X s → rule d X ≡ p
+Is Y s rule p = (X : List Stmt) → IsIn X Y s rule p
 
-pub does : {X : List Stmt} {s : Sight} {rule : Rule} {o p : Option Action} {r : Step} → Is X s rule p → o ≡ p → Steps o r → Does X s rule r
-does f e t = record { means = λ d k. t .means ∙ e ∙ sym (f d k); short = t .short }
+pub does-in : {X Y : List Stmt} {s : Sight} {rule : Rule} {o p : Option Action} {r : Step} → IsIn X Y s rule p → o ≡ p → Steps o r → Does X Y s rule r
+does-in f e t = record { means = λ y d k. t .means ∙ e ∙ sym (f y d k); short = t .short }
 
-module _ (X : List Stmt) (s : Sight) where
+pub does : {Y : List Stmt} {s : Sight} {rule : Rule} {o p : Option Action} {r : Step} → Is Y s rule p → o ≡ p → Steps o r → Owned Y s rule r
+does f e t = record { does = λ X. does-in (f X) e t }
+
+module _ (Y : List Stmt) (s : Sight) where
   abbrev n : ℕ
   n = s .number
 
@@ -147,99 +155,116 @@ module _ (X : List Stmt) (s : Sight) where
   abbrev H : List View
   H = viewsOf (s .candidates) (s .count)
 
-  due-cong : (d : Controller) → SightOf d X s → (u : View) → (below (d .ring .width) u (Turn.T d X) && member u (d .number) && not (own d X (reportsOn u))) ≡ reportDue X n t u
+  due-cong : (X : List Stmt) (d : Controller) → SightOf d X s → (u : View) → (below (d .ring .width) u (Turn.T d X) && member u (d .number) && not (own d X (reportsOn u))) ≡ reportDue X n t u
   unfolding own reportsOn reportDue ownAt
-  due-cong d k u = rw (k .top, k .width, k .number)
+  due-cong X d k u = rw (k .top, k .width, k .number)
 
-  first : (o : Option View) → o ≡ find (reportDue X n t) (viewsOf (s .greatest) (s .length))
-      → Is X s rule1 (given o (λ u. some (sign (report n u w (bindingIs (s .binding)) (when (s .certified) (s .payload)) H))))
+  due-own : (X : List Stmt) → Owns X Y n → (u : View) → reportDue X n t u ≡ reportDue Y n t u
+  unfolding reportDue
+  due-own X y u = rw (owns-at y 5 u)
+
+  first : (o : Option View) → o ≡ find (reportDue Y n t) (viewsOf (s .greatest) (s .length))
+      → Is Y s rule1 (given o (λ u. some (sign (report n u w (bindingIs (s .binding)) (when (s .certified) (s .payload)) H))))
   unfolding rule1
-  first o e d k = rw (find-cong _ _ _ (due-cong d k), k .greatest, ← e, k .certificate, k .wished, k .candidates, k .number, k .binding)
+  first o e X y d k = rw (find-cong _ _ _ (λ u. due-cong X d k u ∙ due-own X y u), k .greatest, ← e, k .certificate, k .wished, k .candidates, k .number, k .binding)
 
-  module _ (r : Due) (e : dueIs r ≡ find (reportDue X n t) (viewsOf (s .greatest) (s .length))) where
-    pub first-none : r ≡ Nothing → Is X s rule1 none
+  module _ (r : Due) (e : dueIs r ≡ find (reportDue Y n t) (viewsOf (s .greatest) (s .length))) where
+    pub first-none : r ≡ Nothing → Is Y s rule1 none
     first-none q = first none (ap dueIs (sym q) ∙ e)
 
-    pub first-on : (u : held.View) {K : List View} → r ≡ On u → K ≡ H → Is X s rule1 (some (sign (report n (viewIs u) w (bindingIs (s .binding)) (when (s .certified) (s .payload)) K)))
-    first-on u q h d k = rw h (first (some (viewIs u)) (ap dueIs (sym q) ∙ e) d k)
+    pub first-on : (u : held.View) {K : List View} → r ≡ On u → K ≡ H → Is Y s rule1 (some (sign (report n (viewIs u) w (bindingIs (s .binding)) (when (s .certified) (s .payload)) K)))
+    first-on u q h X y d k = rw h (first (some (viewIs u)) (ap dueIs (sym q) ∙ e) X y d k)
 
-  pub third : Is X s rule3 (each (s .stands ∷ hasMembers 16 w ∷ not (sameView w t) ∷ not (any (sameStmt (agreeView n t w)) X) ∷ []) (sign (agreeView n t w)))
+  pub third : Is Y s rule3 (each (s .stands ∷ hasMembers 16 w ∷ not (sameView w t) ∷ not (any (sameStmt (agreeView n t w)) Y) ∷ []) (sign (agreeView n t w)))
   unfolding rule3 hasSigned
-  third d k = rw (k .stands, k .wished, k .top, k .width, k .number) (all4 _ _ _ _ _)
+  third X y d k = rw (owns-same y (agreeView n t w) refl, k .stands, k .wished, k .top, k .width, k .number) (all4 _ _ _ _ _)
 
   newest : (u : View) → 0 < s .count → viewOf (getD (s .candidates) (s .count - 1) 0) ≡ last u H
   unfolding viewsOf
   newest u h = last-some _ (s .count) u (λ e. omega arith)
 
   pub fourth : {K : List View} → K ≡ H → 0 < s .count
-      → Is X s rule4 (each (s .stands ∷ not (sameView (viewOf (getD (s .candidates) (s .count - 1) 0)) t) ∷ not (any (sameStmt (agreeHistory n t K)) X) ∷ []) (sign (agreeHistory n t K)))
+      → Is Y s rule4 (each (s .stands ∷ not (sameView (viewOf (getD (s .candidates) (s .count - 1) 0)) t) ∷ not (any (sameStmt (agreeHistory n t K)) Y) ∷ []) (sign (agreeHistory n t K)))
   unfolding rule4 hasSigned
-  fourth q h d k = rw (q, k .stands, k .candidates, k .top, ← newest (d .ring .init) h, k .number) (all3 _ _ _ _)
+  fourth {K} q h X y d k = rw (owns-same y (agreeHistory n t K) refl, q, k .stands, k .candidates, k .top, ← newest (d .ring .init) h, k .number) (all3 _ _ _ _)
 
+  storing : (X : List Stmt) (d : Controller) → SightOf d X s
+      → when (Turn.stands d X && not (own d X (storesAt (Turn.T d X)))) (sign (store (d .number) (Turn.T d X) (s .payload))) ≡ each (s .stands ∷ not (any (ownAt n 8 t) X) ∷ []) (sign (store n t (s .payload)))
+  unfolding own ownAt
+  storing X d k = rw (k .stands, k .top, k .number) (all2 _ _ _)
+
+  pub sixth : Is Y s rule6 (each (s .certified ∷ s .stands ∷ not (any (ownAt n 8 t) Y) ∷ []) (sign (store n t (s .payload))))
+  unfolding rule6
+  sixth X y d k =
+      rw (owns-at y 8 t, k .certificate) (given-when (s .certified) (s .payload) (λ m. when (Turn.stands d X && not (own d X (storesAt (Turn.T d X)))) (sign (store (d .number) (Turn.T d X) m))) _ _ (λ c. storing X d k))
+
+  delivering : (X : List Stmt) (d : Controller) → SightOf d X s → s .certified ≡ true
+      → when (ltb 0 (length (d .entered)) && not (bit (Turn.T d X .left) (d .number)) && not (d .delivered) && isStored (d .ring) X (s .payload)) (deliver (s .payload))
+      ≡ each (s .active ∷ not (bit (s .top .left) n) ∷ not (s .delivered) ∷ s .stored ∷ []) (deliver (s .payload))
+  delivering X d k c = rw (k .top, k .stored c, k .active, k .number, k .delivered) (all4 _ _ _ _ _)
+
+  pub seventh : Is Y s rule7 (each (s .certified ∷ s .active ∷ not (bit (s .top .left) n) ∷ not (s .delivered) ∷ s .stored ∷ []) (deliver (s .payload)))
+  unfolding rule7
+  seventh X y d k =
+      rw (k .certificate)
+      (given-when (s .certified) (s .payload) (λ m. when (ltb 0 (length (d .entered)) && not (bit (Turn.T d X .left) (d .number)) && not (d .delivered) && isStored (d .ring) X m) (deliver m)) _ _
+      (delivering X d k))
+
+  pub eighth : Is Y s rule8 (each (s .joining ∷ not (any (sameStmt (join n)) Y) ∷ []) (sign (join n)))
+  unfolding rule8 hasSigned
+  eighth X y d k = rw (owns-same y (join n) refl, k .joining, k .number) (all2 _ _ _)
+
+  leaving : (X : List Stmt) (d : Controller) → SightOf d X s
+      → rule9 d X ≡ each (s .leaving ∷ not (any (sameStmt (leave n)) X) ∷ (s .delivered || not (s .certified || any (ownKind n 6) X)) ∷ []) (sign (leave n))
+  unfolding rule9 hasSigned own ownKind
+  leaving X d k = rw (k .certificate, some-when (s .certified) (s .payload), k .leaving, k .number, k .delivered) (all3 _ _ _ _)
+
+  pub ninth : Is Y s rule9 (each (s .leaving ∷ not (any (sameStmt (leave n)) Y) ∷ (s .delivered || not (s .certified || any (ownKind n 6) Y)) ∷ []) (sign (leave n)))
+  ninth X y d k = rw (owns-same y (leave n) refl, owns-kind y 6) (leaving X d k)
+
+  preparing : (X : List Stmt) → Owns X Y n → (d : Controller) → SightOf d X s → (m : ℕ)
+      → when (Turn.stands d X && not (hasSigned d X (leave (d .number))) && not (hasSigned d X (prepare (d .number) m))) (sign (prepare (d .number) m))
+      ≡ each (s .stands ∷ not (any (sameStmt (leave n)) Y) ∷ not (any (sameStmt (prepare n m)) Y) ∷ []) (sign (prepare n m))
+  unfolding hasSigned
+  preparing X y d k m = rw (owns-same y (leave n) refl, owns-same y (prepare n m) refl, k .stands, k .number) (all3 _ _ _ _)
+
+  pub tenth-none : s .sending ≡ send.Nothing → Is Y s rule10 none
+  unfolding rule10
+  tenth-none e X y d k = rw (k .sending ∙ ap sendIs e)
+
+  pub tenth : (m : ℕ) → s .sending ≡ Payload m
+      → Is Y s rule10 (each (s .stands ∷ not (any (sameStmt (leave n)) Y) ∷ not (any (sameStmt (prepare n m)) Y) ∷ []) (sign (prepare n m)))
+  unfolding rule10
+  tenth m e X y d k = ap (λ o. given o (λ m. when (Turn.stands d X && not (hasSigned d X (leave (d .number))) && not (hasSigned d X (prepare (d .number) m))) (sign (prepare (d .number) m)))) (k .sending ∙ ap sendIs e) ∙ preparing X y d k m
+
+-- ---- rule 5
+
+module _ (X Y : List Stmt) (s : Sight) where
   -- "bound to m, or unbound [..]: bind to m and sign"
   acking : (d : Controller) → SightOf d X s → (m : ℕ)
-      → when (Turn.stands d X && not (own d X (acksAt (Turn.T d X)))) (bindAndSign m (ack (d .number) (Turn.T d X) m)) ≡ each (s .stands ∷ not (any (ownAt n 7 t) X) ∷ []) (bindAndSign m (ack n t m))
+      → when (Turn.stands d X && not (own d X (acksAt (Turn.T d X)))) (bindAndSign m (ack (d .number) (Turn.T d X) m)) ≡ each (s .stands ∷ not (any (ownAt (s .number) 7 (viewIs (s .top))) X) ∷ []) (bindAndSign m (ack (s .number) (viewIs (s .top)) m))
   unfolding own ownAt
   acking d k m = rw (k .stands, k .top, k .number) (all2 _ _ _)
 
-  module _ (r : Send) (a : Acks X s r) where
-    pub fifth-none : r ≡ send.Nothing → Is X s rule5 none
-    unfolding rule5
-    fifth-none q d k = rw (a .means d k ∙ ap sendIs q)
+  acking-own : Owns X Y (s .number) → (d : Controller) → SightOf d X s → (m : ℕ)
+      → when (Turn.stands d X && not (own d X (acksAt (Turn.T d X)))) (bindAndSign m (ack (d .number) (Turn.T d X) m)) ≡ each (s .stands ∷ not (any (ownAt (s .number) 7 (viewIs (s .top))) Y) ∷ []) (bindAndSign m (ack (s .number) (viewIs (s .top)) m))
+  acking-own y d k m = acking d k m ∙ ap (λ b. each (s .stands ∷ not b ∷ []) (bindAndSign m (ack (s .number) (viewIs (s .top)) m))) (sym (owns-at y 7 (viewIs (s .top))))
 
-    pub fifth-on : (m : ℕ) → r ≡ Payload m → Is X s rule5 (each (s .stands ∷ not (any (ownAt n 7 t) X) ∷ []) (bindAndSign m (ack n t m)))
+  module _ (r : Send) (a : Acks X s r) where
+    pub fifth-none : r ≡ send.Nothing → IsIn X Y s rule5 none
     unfolding rule5
-    fifth-on m q d k = rw (a .means d k ∙ ap sendIs q) (acking d k m)
+    fifth-none q y d k = rw (a .means d k ∙ ap sendIs q)
+
+    pub fifth-on : (m : ℕ) → r ≡ Payload m → IsIn X Y s rule5 (each (s .stands ∷ not (any (ownAt (s .number) 7 (viewIs (s .top))) Y) ∷ []) (bindAndSign m (ack (s .number) (viewIs (s .top)) m)))
+    unfolding rule5
+    fifth-on m q y d k = rw (a .means d k ∙ ap sendIs q) (acking-own y d k m)
 
   -- whatever there is to ack
-  pub fifth-off : _≡_ {A = Option ℕ} none (each (s .stands ∷ not (any (ownAt n 7 t) X) ∷ []) 0) → Is X s rule5 none
+  pub fifth-off : _≡_ {A = Option ℕ} none (each (s .stands ∷ not (any (ownAt (s .number) 7 (viewIs (s .top))) Y) ∷ []) 0) → IsIn X Y s rule5 none
   unfolding rule5
-  fifth-off h d k = given-off (toAck d X (d .binding)) _ (λ m. acking d k m ∙ each-off (s .stands ∷ not (any (ownAt n 7 t) X) ∷ []) 0 (bindAndSign m (ack n t m)) h)
+  fifth-off h y d k = given-off (toAck d X (d .binding)) _ (λ m. acking-own y d k m ∙ each-off (s .stands ∷ not (any (ownAt (s .number) 7 (viewIs (s .top))) Y) ∷ []) 0 (bindAndSign m (ack (s .number) (viewIs (s .top)) m)) h)
 
-  storing : (d : Controller) → SightOf d X s
-      → when (Turn.stands d X && not (own d X (storesAt (Turn.T d X)))) (sign (store (d .number) (Turn.T d X) (s .payload))) ≡ each (s .stands ∷ not (any (ownAt n 8 t) X) ∷ []) (sign (store n t (s .payload)))
-  unfolding own ownAt
-  storing d k = rw (k .stands, k .top, k .number) (all2 _ _ _)
-
-  pub sixth : Is X s rule6 (each (s .certified ∷ s .stands ∷ not (any (ownAt n 8 t) X) ∷ []) (sign (store n t (s .payload))))
-  unfolding rule6
-  sixth d k = rw (k .certificate) (given-when (s .certified) (s .payload) (λ m. when (Turn.stands d X && not (own d X (storesAt (Turn.T d X)))) (sign (store (d .number) (Turn.T d X) m))) _ _ (λ c. storing d k))
-
-  delivering : (d : Controller) → SightOf d X s → s .certified ≡ true
-      → when (ltb 0 (length (d .entered)) && not (bit (Turn.T d X .left) (d .number)) && not (d .delivered) && isStored (d .ring) X (s .payload)) (deliver (s .payload))
-      ≡ each (s .active ∷ not (bit (s .top .left) n) ∷ not (s .delivered) ∷ s .stored ∷ []) (deliver (s .payload))
-  delivering d k c = rw (k .top, k .stored c, k .active, k .number, k .delivered) (all4 _ _ _ _ _)
-
-  pub seventh : Is X s rule7 (each (s .certified ∷ s .active ∷ not (bit (s .top .left) n) ∷ not (s .delivered) ∷ s .stored ∷ []) (deliver (s .payload)))
-  unfolding rule7
-  seventh d k =
-      rw (k .certificate)
-      (given-when (s .certified) (s .payload) (λ m. when (ltb 0 (length (d .entered)) && not (bit (Turn.T d X .left) (d .number)) && not (d .delivered) && isStored (d .ring) X m) (deliver m)) _ _
-      (delivering d k))
-
-  pub eighth : Is X s rule8 (each (s .joining ∷ not (any (sameStmt (join n)) X) ∷ []) (sign (join n)))
-  unfolding rule8 hasSigned
-  eighth d k = rw (k .joining, k .number) (all2 _ _ _)
-
-  pub ninth : Is X s rule9 (each (s .leaving ∷ not (any (sameStmt (leave n)) X) ∷ (s .delivered || not (s .certified || any (ownKind n 6) X)) ∷ []) (sign (leave n)))
-  unfolding rule9 hasSigned own ownKind
-  ninth d k = rw (k .certificate, some-when (s .certified) (s .payload), k .leaving, k .number, k .delivered) (all3 _ _ _ _)
-
-  preparing : (d : Controller) → SightOf d X s → (m : ℕ)
-      → when (Turn.stands d X && not (hasSigned d X (leave (d .number))) && not (hasSigned d X (prepare (d .number) m))) (sign (prepare (d .number) m))
-      ≡ each (s .stands ∷ not (any (sameStmt (leave n)) X) ∷ not (any (sameStmt (prepare n m)) X) ∷ []) (sign (prepare n m))
-  unfolding hasSigned
-  preparing d k m = rw (k .stands, k .number) (all3 _ _ _ _)
-
-  pub tenth-none : s .sending ≡ send.Nothing → Is X s rule10 none
-  unfolding rule10
-  tenth-none e d k = rw (k .sending ∙ ap sendIs e)
-
-  pub tenth : (m : ℕ) → s .sending ≡ Payload m
-      → Is X s rule10 (each (s .stands ∷ not (any (sameStmt (leave n)) X) ∷ not (any (sameStmt (prepare n m)) X) ∷ []) (sign (prepare n m)))
-  unfolding rule10
-  tenth m e d k = ap (λ o. given o (λ m. when (Turn.stands d X && not (hasSigned d X (leave (d .number))) && not (hasSigned d X (prepare (d .number) m))) (sign (prepare (d .number) m)))) (k .sending ∙ ap sendIs e) ∙ preparing d k m
-
+module _ (X : List Stmt) (s : Sight) where
   -- ---- what there is to ack
 
   acks-by : (b : bindings.Binding) (r : Send) → s .binding ≡ b → ((d : Controller) → SightOf d X s → toAck d X (bindingIs b) ≡ sendIs r) → Acks X s r
@@ -253,7 +278,7 @@ module _ (X : List Stmt) (s : Sight) where
   unfolding toAck
   ack-barred e = acks-by Barred send.Nothing e (λ d k. refl)
 
-  module _ (b : Bool) (e : s .binding ≡ Unbound) (is : b ≡ member t (s .sender)) where
+  module _ (b : Bool) (e : s .binding ≡ Unbound) (is : b ≡ member (viewIs (s .top)) (s .sender)) where
     the-payload : b ≡ true → (d : Controller) → SightOf d X s → (x : Stmt) → when (member (Turn.T d X) (d .sender)) (x .payload) ≡ some (x .payload)
     the-payload f d k x = rw (k .top, k .sender, sym is ∙ f)
 
@@ -272,7 +297,7 @@ module _ (X : List Stmt) (s : Sight) where
 
 -- what rule 7 asks is all in s
 pub delivers : {s : Sight} {o : Option Action} {r : Step} → o ≡ each (s .certified ∷ s .active ∷ not (bit (s .top .left) (s .number)) ∷ not (s .delivered) ∷ s .stored ∷ []) (deliver (s .payload)) → Steps o r → Delivers s r
-delivers {s} e t = record { does = λ X. does (seventh X s) e t }
+delivers {s} e t = record { does = λ X Y. does-in (seventh Y s X) e t }
 
 -- a statement of its own at the view of a word
 module _ (X : List Stmt) (b : Bool) (k kind u : ℕ) {v : View} (is : viewOf u ≡ v) (e : b ≡ any (ownAt k kind (viewOf u)) X) where

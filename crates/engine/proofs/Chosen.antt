@@ -16,7 +16,7 @@ use Rattle.engine.specs.declared.Deed.the-variants.{Rest, Sign, Bind, En
 use Rattle.engine.specs.declared.Step.{Step}
 use Rattle.engine.specs.declared.rules.Sight.{Sight}
 use Rattle.engine.specs.Meaning.{controllerIs, recordIs, stepIs, actionIs}
-use Rattle.engine.specs.Rules.{SightOf, Rule, Does, Firsts, Entering, Chosen, acts}
+use Rattle.engine.specs.Rules.{Owns, SightOf, Rule, Does, Owned, Firsts, OwnedFirsts, Entering, Chosen, acts}
 
 acted : (a : Deed) (s : Stmt) (l : List (Option Action)) → acts a ≡ true → stepIs a s ≡ firstOf (stepIs a s ∷ l)
 unfolding stepIs firstOf
@@ -46,43 +46,53 @@ skipped : (o : Option Action) (l : List (Option Action)) → o ≡ none → firs
 unfolding firstOf
 skipped o l e = rw e
 
-module _ {X : List Stmt} {s : Sight} {rule : Rule} where
-  pub firsts-one : {l : List Rule} {r : Step} → Does X s rule r → acts (r .deed) ≡ true → Firsts X s (rule ∷ l) r
+module _ {X Y : List Stmt} {s : Sight} {rule : Rule} where
+  pub firsts-one : {l : List Rule} {r : Step} → Does X Y s rule r → acts (r .deed) ≡ true → Firsts X Y s (rule ∷ l) r
   firsts-one {l} {r} m a = record {
-    means = λ d k. acted-as (r .deed) (stmtOf (r .statement)) (map (λ f. f d X) l) a (m .means d k);
+    means = λ o d k. acted-as (r .deed) (stmtOf (r .statement)) (map (λ f. f d X) l) a (m .means o d k);
     short = m .short;
   }
 
-  pub firsts-skip : {l : List Rule} {q r : Step} → Does X s rule q → acts (q .deed) ≡ false → Firsts X s l r → Firsts X s (rule ∷ l) r
+  pub firsts-skip : {l : List Rule} {q r : Step} → Does X Y s rule q → acts (q .deed) ≡ false → Firsts X Y s l r → Firsts X Y s (rule ∷ l) r
   firsts-skip {l} {q} {r} m a n = record {
-    means = λ d k. n .means d k ∙ skipped (rule d X) (map (λ f. f d X) l) (sym (m .means d k) ∙ idle (q .deed) _ a);
+    means = λ o d k. n .means o d k ∙ skipped (rule d X) (map (λ f. f d X) l) (sym (m .means o d k) ∙ idle (q .deed) _ a);
     short = n .short;
   }
 
-  pub firsts-last : {r : Step} → Does X s rule r → Firsts X s (rule ∷ []) r
-  firsts-last m = record { means = λ d k. m .means d k ∙ alone (rule d X); short = m .short }
+  pub firsts-last : {r : Step} → Does X Y s rule r → Firsts X Y s (rule ∷ []) r
+  firsts-last m = record { means = λ o d k. m .means o d k ∙ alone (rule d X); short = m .short }
+
+module _ {Y : List Stmt} {s : Sight} {rule : Rule} where
+  pub owned-one : {l : List Rule} {r : Step} → Owned Y s rule r → acts (r .deed) ≡ true → OwnedFirsts Y s (rule ∷ l) r
+  owned-one m a = record { firsts = λ X. firsts-one (m .does X) a }
+
+  pub owned-skip : {l : List Rule} {q r : Step} → Owned Y s rule q → acts (q .deed) ≡ false → OwnedFirsts Y s l r → OwnedFirsts Y s (rule ∷ l) r
+  owned-skip m a n = record { firsts = λ X. firsts-skip (m .does X) a (n .firsts X) }
+
+  pub owned-last : {r : Step} → Owned Y s rule r → OwnedFirsts Y s (rule ∷ []) r
+  owned-last m = record { firsts = λ X. firsts-last (m .does X) }
 
 -- ---- all ten
 
-module _ (W : List ℕ) (c : held.Controller) (s : Sight) (k : SightOf (controllerIs c) (recordIs W c) s) where
+module _ (W : List ℕ) (c : held.Controller) (s : Sight) (k : SightOf (controllerIs c) (recordIs W c) s) (Y : List Stmt) (o : Owns (recordIs W c) Y (s .number)) where
   abbrev d : Controller
   d = controllerIs c
 
   abbrev X : List Stmt
   X = recordIs W c
 
-  pub chosen-first : {r : Step} → Does X s rule1 r → acts (r .deed) ≡ true → Chosen W c r
+  pub chosen-first : {r : Step} → Owned Y s rule1 r → acts (r .deed) ≡ true → Chosen W c r
   unfolding firstRule
-  chosen-first {r} m a = record { means = acted-as (r .deed) _ _ a (m .means d k); short = m .short }
+  chosen-first {r} m a = record { means = acted-as (r .deed) _ _ a (m .does X .means o d k); short = m .does X .short }
 
-  module _ {q : Step} (m : Does X s rule1 q) (a : acts (q .deed) ≡ false) where
+  module _ {q : Step} (m : Owned Y s rule1 q) (a : acts (q .deed) ≡ false) where
     passed : (l : List (Option Action)) → firstOf l ≡ firstOf (rule1 d X ∷ l)
-    passed l = skipped (rule1 d X) l (sym (m .means d k) ∙ idle (q .deed) _ a)
+    passed l = skipped (rule1 d X) l (sym (m .does X .means o d k) ∙ idle (q .deed) _ a)
 
     pub chosen-second : {r : Step} → Entering X (d .ring) s r → acts (r .deed) ≡ true → Chosen W c r
     unfolding firstRule
     chosen-second {r} n b = record { means = acted-as (r .deed) _ _ b (n .means d k refl) ∙ passed _; short = n .short }
 
-    pub chosen-later : {p r : Step} → Entering X (d .ring) s p → acts (p .deed) ≡ false → Firsts X s (rule3 ∷ rule4 ∷ rule5 ∷ rule6 ∷ rule7 ∷ rule8 ∷ rule9 ∷ rule10 ∷ []) r → Chosen W c r
+    pub chosen-later : {p r : Step} → Entering X (d .ring) s p → acts (p .deed) ≡ false → Firsts X Y s (rule3 ∷ rule4 ∷ rule5 ∷ rule6 ∷ rule7 ∷ rule8 ∷ rule9 ∷ rule10 ∷ []) r → Chosen W c r
     unfolding firstRule
-    chosen-later {p} n b l = record { means = l .means d k ∙ skipped (rule2 d X) _ (sym (n .means d k refl) ∙ idle (p .deed) _ b) ∙ passed _; short = l .short }
+    chosen-later {p} n b l = record { means = l .means o d k ∙ skipped (rule2 d X) _ (sym (n .means d k refl) ∙ idle (p .deed) _ b) ∙ passed _; short = l .short }

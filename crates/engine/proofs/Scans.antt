@@ -8,27 +8,27 @@ use Prim.Native.Nat.{ℕ, zero, suc, _+_, _≤_, _<_, min}
 use native.Mathlib.Decide.{decLt}
 use native.Mathlib.Numerals.{add-one}
 use native.Mathlib.Omega.{arith}
-use lib.Dec.{eqb}
+use lib.Dec.{T, eqb}
 use lib.ListN.{length, getD, set, length-set}
-use borrow.Author.Tests.{eq-eqb, ne-eqb, lt-ltb}
+use lib.Seq.{getD-set-same, getD-set-other}
+use borrow.Author.Tests.{eq-eqb, ne-eqb, eqb-true}
 use Rattle.protocol.specs.Lists.{if_then_else_, any, find}
-use Rattle.protocol.specs.View.{View, sameView, below, member}
-use Rattle.protocol.specs.Statement.{Stmt, isKind}
+use Rattle.protocol.specs.View.{View, sameView}
+use Rattle.protocol.specs.Statement.{Stmt, sameStmt, isKind}
 use Rattle.protocol.specs.Evidence.{prepares}
 use Rattle.protocol.proofs.Found.{none≢some}
+use Rattle.protocol.proofs.Asked.{says-same-stmt}
 use Rattle.views.specs.declared.View as held
 use Rattle.views.specs.declared.History.{History}
 use Rattle.views.specs.Table.{table}
 use Rattle.views.specs.View.{viewOf}
 use Rattle.views.specs.Held.{viewIs, heldAt, viewsIs}
-use Rattle.views.proofs.Tables.{any-zero, any-more, any-append}
+use Rattle.views.proofs.Tables.{any-zero, any-more, table-cong}
 use Rattle.views.proofs.Held.{views-of, cut-is}
-use Rattle.pool.specs.Pool.{recordOf}
+use Rattle.pool.specs.Pool.{stmtAt, recordOf}
 use Rattle.pool.proofs.Records as records
 use Rattle.evidence.specs.Slots.{viewsOf}
-use Rattle.pool.specs.declared.Record.{Record}
-use Rattle.pool.specs.Changes.{Pushed}
-use Rattle.engine.specs.Rules.{ownKind, ownAt, OwnReports, firstPrepare, reportDue}
+use Rattle.engine.specs.Rules.{ownKind, ownAt, Owns, firstPrepare}
 
 -- ---- one statement
 
@@ -52,40 +52,85 @@ module _ (s : Stmt) (k kind : ℕ) where
     pub at-is : (r : Bool) → b ≡ true → r ≡ sameView (s .at) t → r ≡ ownAt k kind t s
     at-is r f e = e ∙ ap (λ x. x && sameView (s .at) t) (sym f) ∙ at-both
 
--- ---- the reports of one controller, in a record of their own
+and-left : (a b : Bool) → (a && b) ≡ true → a ≡ true
+and-left true b e = refl
+and-left false b e = e
+
+kind-own : (s : Stmt) (k kind : ℕ) → ownKind k kind s ≡ true → s .origin ≡ k
+unfolding ownKind
+kind-own s k kind e = eqb-true (s .origin) k (and-left (eqb (s .origin) k) (eqb (s .kind) kind) e)
+
+at-own : (s : Stmt) (k kind : ℕ) (t : View) → ownAt k kind t s ≡ true → s .origin ≡ k
+unfolding ownAt
+at-own s k kind t e = eqb-true (s .origin) k (and-left (eqb (s .origin) k) (eqb (s .kind) kind && sameView (s .at) t) e)
+
+-- ---- the statements of one controller
+
+to-true : {b : Bool} → b ≡ true → T b
+to-true e = rw e tt
+
+module _ {X Y : List Stmt} {k : ℕ} (y : Owns X Y k) where
+  pub owns-same : (a : Stmt) → a .origin ≡ k → any (sameStmt a) Y ≡ any (sameStmt a) X
+  owns-same a e = y .asked (sameStmt a) (λ s t. ap (λ x. x .origin) (sym (says-same-stmt .sound (to-true t))) ∙ e)
+
+  pub owns-kind : (kind : ℕ) → any (ownKind k kind) Y ≡ any (ownKind k kind) X
+  owns-kind kind = y .asked (ownKind k kind) (λ s t. kind-own s k kind t)
+
+  pub owns-at : (kind : ℕ) (t : View) → any (ownAt k kind t) Y ≡ any (ownAt k kind t) X
+  owns-at kind t = y .asked (ownAt k kind t) (λ s e. at-own s k kind t e)
 
 or-none : (b : Bool) → (b || false) ≡ b
 or-none true = refl
 or-none false = refl
 
-any-last : (p : Stmt → Bool) (X : List Stmt) (s : Stmt) → any p (X ++ (s ∷ [])) ≡ (any p X || p s)
-unfolding any
-any-last p X s = any-append p X (s ∷ []) ∙ ap (λ b. any p X || b) (or-none (p s))
+-- the first m numbers of J are the statements of k among the first i numbers of ids
+pub record Gathered (W ids J : List ℕ) (k i m : ℕ) : Type 0 where
+  pub size : length J ≡ 512
+  pub owns : Owns (recordOf W ids i) (recordOf W J m) k
 
-own-part : (s : Stmt) (k kind : ℕ) (t : View) → ownKind k kind s ≡ false → ownAt k kind t s ≡ false
-own-part s k kind t e = sym (at-not s k kind t (ownKind k kind s) refl e)
+pub gathered-none : {W ids J : List ℕ} {k : ℕ} → length J ≡ 512 → Gathered W ids J k 0 0
+gathered-none {W} {ids} {J} e = record { size = e; owns = record { asked = λ p h. records.none-first W J p ∙ sym (records.none-first W ids p) } }
 
-pub reports-none : (W ids J : List ℕ) (k : ℕ) (u : View) → any (ownAt k 5 u) (recordOf W J 0) ≡ any (ownAt k 5 u) (recordOf W ids 0)
-reports-none W ids J k u = records.none-first W J (ownAt k 5 u) ∙ sym (records.none-first W ids (ownAt k 5 u))
+-- a test that only statements of k pass
+not-own : (p : Stmt → Bool) (s : Stmt) (k : ℕ) → (p s ≡ true → s .origin ≡ k) → (s .origin ≡ k → ⊥) → p s ≡ false
+not-own p s k h d = go (p s) refl
+  where
+    go : (b : Bool) → p s ≡ b → p s ≡ false
+    go true e = absurd (d (h e))
+    go false e = e
 
-module _ (W ids : List ℕ) (k i : ℕ) (l : i < 512) where
-  pub reports-passed : (r : Record) (b : Bool) → OwnReports W ids i k r → b ≡ ownKind k 5 (records.entry W ids i) → b ≡ false → OwnReports W ids (i + 1) k r
-  reports-passed r b o e f = record {
-    asked = λ u. o .asked u ∙ sym (or-none _) ∙ ap (λ b. any (ownAt k 5 u) (recordOf W ids i) || b) (sym (own-part (records.entry W ids i) k 5 u (sym e ∙ f))) ∙ sym (records.any-next W ids (ownAt k 5 u) i l);
+module _ {W ids J : List ℕ} {k i m : ℕ} (l : i < 512) (g : Gathered W ids J k i m) where
+  passed : (o : ℕ) → o ≡ records.entry W ids i .origin → (o ≡ k → ⊥) → Owns (recordOf W ids (i + 1)) (recordOf W J m) k
+  passed o e d = record {
+    asked = λ p h.
+        g .owns .asked p h ∙ sym (or-none (any p (recordOf W ids i)))
+        ∙ ap (λ b. any p (recordOf W ids i) || b) (sym (not-own p (records.entry W ids i) k (h (records.entry W ids i)) (λ q. d (e ∙ q)))) ∙ sym (records.any-next W ids p i l);
   }
 
-  pub reports-more : (r to : Record) → OwnReports W ids i k r → r .len ≤ i → Pushed r (getD ids i 0) to → OwnReports W ids (i + 1) k to
-  reports-more r to o h q = record {
-    asked = λ u. ap (any (ownAt k 5 u)) (q .means W ∙ ap (λ b. if b then recordOf W (r .ids) (r .len) ++ (records.entry W ids i ∷ []) else recordOf W (r .ids) (r .len)) (lt-ltb (min (r .len) 512) 512 (omega arith)))
-        ∙ any-last (ownAt k 5 u) (recordOf W (r .ids) (r .len)) (records.entry W ids i) ∙ ap (λ b. b || ownAt k 5 u (records.entry W ids i)) (o .asked u) ∙ sym (records.any-next W ids (ownAt k 5 u) i l);
+  pub gathered-passed : (o : ℕ) → o ≡ records.entry W ids i .origin → (o ≡ k → ⊥) → Gathered W ids J k (i + 1) m
+  gathered-passed o e d = record { size = g .size; owns = passed o e d }
+
+  abbrev more : List ℕ
+  more = set J m (getD ids i 0)
+
+  before : m ≤ i → recordOf W more m ≡ recordOf W J m
+  before h =
+      records.so-far W more m (omega arith) ∙ table-cong m (records.entry W more) (records.entry W J) (λ j b. ap (stmtAt W) (getD-set-other J m j (getD ids i 0) 0 (λ q. omega arith)))
+      ∙ sym (records.so-far W J m (omega arith))
+
+  one-more : m ≤ i → Owns (recordOf W ids (i + 1)) (recordOf W more (m + 1)) k
+  one-more h = record {
+    asked = λ p q.
+        records.any-next W more p m (omega arith)
+        ∙ ap₂ _||_ (ap (any p) (before h) ∙ g .owns .asked p q) (ap (λ x. p (stmtAt W x)) (getD-set-same J m (getD ids i 0) 0 (omega (arith, g .size))))
+        ∙ sym (records.any-next W ids p i l);
   }
 
-pub reports-whole : (W ids : List ℕ) (k len i end : ℕ) (r : Record) → i ≡ end → end ≡ min len 512 → OwnReports W ids i k r → OwnReports W ids len k r
-reports-whole W ids k len i end r d e o = record { asked = λ u. o .asked u ∙ ap (any (ownAt k 5 u)) (records.whole W ids len i (d ∙ e)) }
+  pub gathered-more : m ≤ i → Gathered W ids (set J m (getD ids i 0)) k (i + 1) (m + 1)
+  gathered-more h = record { size = length-set J m (getD ids i 0) ∙ g .size; owns = one-more h }
 
-pub due-own : (W ids : List ℕ) (len k : ℕ) (r : Record) (t u : View) → OwnReports W ids len k r → reportDue (recordOf W ids len) k t u ≡ reportDue (recordOf W (r .ids) (r .len)) k t u
-unfolding reportDue
-due-own W ids len k r t u o = ap (λ b. below 16 u t && member u k && not b) (sym (o .asked u))
+pub gathered-whole : {W ids J : List ℕ} {k i m end : ℕ} (len : ℕ) → i ≡ end → end ≡ min len 512 → Gathered W ids J k i m → Owns (recordOf W ids len) (recordOf W J m) k
+gathered-whole {W} {ids} {i = i} len d e g = rw (records.whole W ids len i (d ∙ e)) at (g .owns)
 
 -- ---- the first that is found
 

@@ -16,8 +16,6 @@ use Rattle.protocol.specs.Turn.{Action, G, T, hasEntered, stands, certificate, 
 use Rattle.views.specs.Held.{viewIs}
 use Rattle.statements.specs.declared.Binding.{Binding}
 use Rattle.statements.specs.Meaning.{bindingIs}
-use Rattle.pool.specs.declared.Record.{Record}
-use Rattle.pool.specs.Pool.{recordOf}
 use Rattle.evidence.specs.declared.Evidence.{Evidence}
 use Rattle.evidence.specs.Evidence.{Settled}
 use Rattle.evidence.specs.Slots.{viewsOf}
@@ -53,9 +51,9 @@ firstPrepare sender X = given (find (prepares sender) X) (λ s. some (s .payload
 unfoldable pub reportDue : List Stmt → ℕ → View → View → Bool
 reportDue X k t u = below 16 u t && member u k && not (any (ownAt k 5 u) X)
 
--- r has the reports of controller k that the record of the first len numbers has.
-pub record OwnReports (W ids : List ℕ) (len k : ℕ) (r : Record) : Type 0 where
-  pub asked : (u : View) → any (ownAt k 5 u) (recordOf W (r .ids) (r .len)) ≡ any (ownAt k 5 u) (recordOf W ids len)
+-- Of the statements of controller k, Y has those that X has: a test that only such can pass finds one in both or in neither.
+pub record Owns (X Y : List Stmt) (k : ℕ) : Type 0 where
+  pub asked : (p : Stmt → Bool) → ((s : Stmt) → p s ≡ true → s .origin ≡ k) → any p Y ≡ any p X
 
 abbrev pub dueIs : Due → Option View
 dueIs Nothing = none
@@ -104,15 +102,23 @@ pub record Steps (o : Option Action) (r : Step) : Type 0 where
   pub means : actionIs r ≡ o
   pub short : r .statement .history .len ≤ 16
 
--- For every controller that s is of, with the record X, r is what the rule has it do.
-pub record Does (X : List Stmt) (s : Sight) (rule : Rule) (r : Step) : Type 0 where
-  pub means : (d : Controller) → SightOf d X s → actionIs r ≡ rule d X
+-- For every controller that s is of, with the record X and its own statements Y, r is what the rule has it do.
+pub record Does (X Y : List Stmt) (s : Sight) (rule : Rule) (r : Step) : Type 0 where
+  pub means : Owns X Y (s .number) → (d : Controller) → SightOf d X s → actionIs r ≡ rule d X
   pub short : r .statement .history .len ≤ 16
 
+-- Of a rule that asks its own statements alone: the record may be any.
+pub record Owned (Y : List Stmt) (s : Sight) (rule : Rule) (r : Step) : Type 0 where
+  pub does : (X : List Stmt) → Does X Y s rule r
+
 -- And r is what the first of the rules that applies has it do.
-pub record Firsts (X : List Stmt) (s : Sight) (rules : List Rule) (r : Step) : Type 0 where
-  pub means : (d : Controller) → SightOf d X s → actionIs r ≡ firstOf (map (λ rule. rule d X) rules)
+pub record Firsts (X Y : List Stmt) (s : Sight) (rules : List Rule) (r : Step) : Type 0 where
+  pub means : Owns X Y (s .number) → (d : Controller) → SightOf d X s → actionIs r ≡ firstOf (map (λ rule. rule d X) rules)
   pub short : r .statement .history .len ≤ 16
+
+-- Of rules that ask its own statements alone.
+pub record OwnedFirsts (Y : List Stmt) (s : Sight) (rules : List Rule) (r : Step) : Type 0 where
+  pub firsts : (X : List Stmt) → Firsts X Y s rules r
 
 -- Of rule 2: where `reported` and `merged` say whether the older views are reported on, and what is merged of the reports.
 pub record Enters (s : Sight) (reported : Bool) (merged : Binding) (r : Step) : Type 0 where
@@ -126,7 +132,7 @@ pub record Entering (X : List Stmt) (R : Ring) (s : Sight) (r : Step) : Type 0 w
 
 -- Of rule 7, which asks nothing more of the record.
 pub record Delivers (s : Sight) (r : Step) : Type 0 where
-  pub does : (X : List Stmt) → Does X s rule7 r
+  pub does : (X Y : List Stmt) → Does X Y s rule7 r
 
 -- Of rule 5: what there is to ack.
 pub record Acks (X : List Stmt) (s : Sight) (r : Send) : Type 0 where

@@ -15,7 +15,7 @@ ghost use Rattle.pool.specs.Pool.{stmtAt, recordOf};
 ghost use Rattle.evidence.specs.Evidence.{Settled};
 ghost use Rattle.evidence.specs.Slots.{viewsOf};
 ghost use Rattle.engine.specs.Meaning.{sendIs};
-ghost use Rattle.engine.specs.Rules.{ownKind, ownAt, firstPrepare, reportDue, OwnReports, dueIs, notAbove, acts, Looks, Steps, Does, Firsts, Enters, Entering, Acks, Delivers, Seen, Chosen};
+ghost use Rattle.engine.specs.Rules.{ownKind, ownAt, firstPrepare, reportDue, Owns, dueIs, notAbove, acts, Looks, Steps, Does, Owned, Firsts, OwnedFirsts, Enters, Entering, Acks, Delivers, Seen, Chosen};
 use crate::Controller;
 use crate::Deed;
 use crate::Send;
@@ -170,9 +170,9 @@ fn sign(st: Statement) -> Step
     }
 }
 
-// Rule 3: agree to the wished view.
+// Rule 3: agree to the wished view. (`ids` are the numbers of its own statements, as in every rule below that takes no others.)
 pub fn rule3(words: &[u64; POOL_WORDS], ids: &[u16; 512], len: usize, s: Sight) -> Step
-    ensures { λ r. ⌜ Does (recordOf (now (words .entry)) (now (ids .entry)) len) s turn.rule3 r ⌝ }
+    ensures { λ r. ⌜ Owned (recordOf (now (words .entry)) (now (ids .entry)) len) s turn.rule3 r ⌝ }
 {
     if !s.stands {
         return rest();
@@ -220,27 +220,28 @@ fn deliver(m: u64) -> Step
     }
 }
 
-// The reports of controller k in the record, so that one on a view is looked for among few.
-fn own_reports(words: &[u64; POOL_WORDS], ids: &[u16; 512], len: usize, k: u8) -> Record
-    ensures { λ r. ⌜ OwnReports (now (words .entry)) (now (ids .entry)) len k r ⌝ }
+// The statements of controller k in the record. They are few, and most rules ask for no others.
+fn own_of(words: &[u64; POOL_WORDS], ids: &[u16; 512], len: usize, k: u8) -> Record
+    ensures { λ r. ⌜ Owns (recordOf (now (words .entry)) (now (ids .entry)) len) (recordOf (now (words .entry)) (r .ids) (r .len)) k ⌝ }
 {
     let end = pool::limit(len);
-    let mut own = Record {
-        ids: [0u16; 512],
-        len: 0,
-    };
+    let mut own = [0u16; 512];
+    let mut count = 0usize;
     let mut i = 0usize;
     while i < end {
         let n = ids[i];
-        if !is_own(words, n, k, 5) {
+        if pool::origin(words, n) != k as u64 {
             i += 1;
             continue;
         }
-        let more = pool::push(own, n);
-        own = more;
+        own[count] = n;
+        count += 1;
         i += 1;
     }
-    own
+    Record {
+        ids: own,
+        len: count,
+    }
 }
 
 // Whether a report on the view of the word u is due.
@@ -273,13 +274,10 @@ fn next_due(words: &[u64; POOL_WORDS], ids: &[u16; 512], len: usize, s: Sight) -
     let k = s.number;
     let n = s.length;
     let greatest = s.greatest;
-    let own = own_reports(words, ids, len, k);
-    let reports = own.ids;
-    let count = own.len;
     let mut i = 0usize;
     while i < n {
         let u = greatest[i];
-        if is_due(words, &reports, count, k, t, u) {
+        if is_due(words, ids, len, k, t, u) {
             return Due::On(View::of_word(u));
         }
         i += 1;
@@ -290,7 +288,7 @@ fn next_due(words: &[u64; POOL_WORDS], ids: &[u16; 512], len: usize, s: Sight) -
 // Rule 1: report on the least older view on which a report is due.
 pub fn rule1(words: &[u64; POOL_WORDS], ids: &[u16; 512], len: usize, s: Sight) -> Step
     requires { ⌜ (s .length ≤ 16) × (s .count ≤ 16) ⌝ }
-    ensures { λ r. ⌜ Does (recordOf (now (words .entry)) (now (ids .entry)) len) s turn.rule1 r ⌝ }
+    ensures { λ r. ⌜ Owned (recordOf (now (words .entry)) (now (ids .entry)) len) s turn.rule1 r ⌝ }
 {
     let Due::On(u) = next_due(words, ids, len, s) else {
         return rest();
@@ -330,7 +328,7 @@ pub fn rule2(s: Sight, reported: bool, merged: Binding) -> Step
 // Rule 4: agree to the history of all candidates.
 pub fn rule4(words: &[u64; POOL_WORDS], ids: &[u16; 512], len: usize, s: Sight) -> Step
     requires { ⌜ (0 < s .count) × (s .count ≤ 16) ⌝ }
-    ensures { λ r. ⌜ Does (recordOf (now (words .entry)) (now (ids .entry)) len) s turn.rule4 r ⌝ }
+    ensures { λ r. ⌜ Owned (recordOf (now (words .entry)) (now (ids .entry)) len) s turn.rule4 r ⌝ }
 {
     if !s.stands {
         return rest();
@@ -369,14 +367,21 @@ fn to_ack(words: &[u64; POOL_WORDS], ids: &[u16; 512], len: usize, s: Sight) -> 
 }
 
 // Rule 5: bind to a payload and ack it, once at each top.
-pub fn rule5(words: &[u64; POOL_WORDS], ids: &[u16; 512], len: usize, s: Sight) -> Step
-    ensures { λ r. ⌜ Does (recordOf (now (words .entry)) (now (ids .entry)) len) s turn.rule5 r ⌝ }
+pub fn rule5(
+    words: &[u64; POOL_WORDS],
+    ids: &[u16; 512],
+    len: usize,
+    own: &[u16; 512],
+    count: usize,
+    s: Sight,
+) -> Step
+    ensures { λ r. ⌜ Does (recordOf (now (words .entry)) (now (ids .entry)) len) (recordOf (now (words .entry)) (now (own .entry)) count) s turn.rule5 r ⌝ }
 {
     if !s.stands {
         return rest();
     }
     let t = s.top;
-    if signed_at(words, ids, len, s.number, 7, t.word()) {
+    if signed_at(words, own, count, s.number, 7, t.word()) {
         return rest();
     }
     let Send::Payload(m) = to_ack(words, ids, len, s) else {
@@ -387,7 +392,7 @@ pub fn rule5(words: &[u64; POOL_WORDS], ids: &[u16; 512], len: usize, s: Sight) 
 
 // Rule 6: store what has a certificate, once at each top.
 pub fn rule6(words: &[u64; POOL_WORDS], ids: &[u16; 512], len: usize, s: Sight) -> Step
-    ensures { λ r. ⌜ Does (recordOf (now (words .entry)) (now (ids .entry)) len) s turn.rule6 r ⌝ }
+    ensures { λ r. ⌜ Owned (recordOf (now (words .entry)) (now (ids .entry)) len) s turn.rule6 r ⌝ }
 {
     if !s.certified {
         return rest();
@@ -437,7 +442,7 @@ pub fn rule7(s: Sight) -> Step
 
 // Rule 8: join.
 pub fn rule8(words: &[u64; POOL_WORDS], ids: &[u16; 512], len: usize, s: Sight) -> Step
-    ensures { λ r. ⌜ Does (recordOf (now (words .entry)) (now (ids .entry)) len) s turn.rule8 r ⌝ }
+    ensures { λ r. ⌜ Owned (recordOf (now (words .entry)) (now (ids .entry)) len) s turn.rule8 r ⌝ }
 {
     if !s.joining {
         return rest();
@@ -464,7 +469,7 @@ fn may_leave(words: &[u64; POOL_WORDS], ids: &[u16; 512], len: usize, s: Sight) 
 
 // Rule 9: leave, after delivery if there is something to deliver.
 pub fn rule9(words: &[u64; POOL_WORDS], ids: &[u16; 512], len: usize, s: Sight) -> Step
-    ensures { λ r. ⌜ Does (recordOf (now (words .entry)) (now (ids .entry)) len) s turn.rule9 r ⌝ }
+    ensures { λ r. ⌜ Owned (recordOf (now (words .entry)) (now (ids .entry)) len) s turn.rule9 r ⌝ }
 {
     if !s.leaving {
         return rest();
@@ -481,7 +486,7 @@ pub fn rule9(words: &[u64; POOL_WORDS], ids: &[u16; 512], len: usize, s: Sight) 
 
 // Rule 10: prepare the payload that is to be sent.
 pub fn rule10(words: &[u64; POOL_WORDS], ids: &[u16; 512], len: usize, s: Sight) -> Step
-    ensures { λ r. ⌜ Does (recordOf (now (words .entry)) (now (ids .entry)) len) s turn.rule10 r ⌝ }
+    ensures { λ r. ⌜ Owned (recordOf (now (words .entry)) (now (ids .entry)) len) s turn.rule10 r ⌝ }
 {
     let sending = s.sending;
     let Send::Payload(m) = sending else {
@@ -515,7 +520,7 @@ fn acts(d: Deed) -> bool
 
 // The first of the rules on what was requested that applies.
 fn requested(words: &[u64; POOL_WORDS], ids: &[u16; 512], len: usize, s: Sight) -> Step
-    ensures { λ r. ⌜ Firsts (recordOf (now (words .entry)) (now (ids .entry)) len) s (turn.rule8 ∷ turn.rule9 ∷ turn.rule10 ∷ []) r ⌝ }
+    ensures { λ r. ⌜ OwnedFirsts (recordOf (now (words .entry)) (now (ids .entry)) len) s (turn.rule8 ∷ turn.rule9 ∷ turn.rule10 ∷ []) r ⌝ }
 {
     let eighth = rule8(words, ids, len, s);
     let d = eighth.deed;
@@ -531,15 +536,22 @@ fn requested(words: &[u64; POOL_WORDS], ids: &[u16; 512], len: usize, s: Sight) 
 }
 
 // The first of the rules from the fifth on that applies.
-fn noticed(words: &[u64; POOL_WORDS], ids: &[u16; 512], len: usize, s: Sight) -> Step
-    ensures { λ r. ⌜ Firsts (recordOf (now (words .entry)) (now (ids .entry)) len) s (turn.rule5 ∷ turn.rule6 ∷ turn.rule7 ∷ turn.rule8 ∷ turn.rule9 ∷ turn.rule10 ∷ []) r ⌝ }
+fn noticed(
+    words: &[u64; POOL_WORDS],
+    ids: &[u16; 512],
+    len: usize,
+    own: &[u16; 512],
+    count: usize,
+    s: Sight,
+) -> Step
+    ensures { λ r. ⌜ Firsts (recordOf (now (words .entry)) (now (ids .entry)) len) (recordOf (now (words .entry)) (now (own .entry)) count) s (turn.rule5 ∷ turn.rule6 ∷ turn.rule7 ∷ turn.rule8 ∷ turn.rule9 ∷ turn.rule10 ∷ []) r ⌝ }
 {
-    let fifth = rule5(words, ids, len, s);
+    let fifth = rule5(words, ids, len, own, count, s);
     let d = fifth.deed;
     if acts(d) {
         return fifth;
     }
-    let sixth = rule6(words, ids, len, s);
+    let sixth = rule6(words, own, count, s);
     let d = sixth.deed;
     if acts(d) {
         return sixth;
@@ -549,25 +561,32 @@ fn noticed(words: &[u64; POOL_WORDS], ids: &[u16; 512], len: usize, s: Sight) ->
     if acts(d) {
         return seventh;
     }
-    requested(words, ids, len, s)
+    requested(words, own, count, s)
 }
 
 // The first of the rules from the third on that applies.
-fn agreed(words: &[u64; POOL_WORDS], ids: &[u16; 512], len: usize, s: Sight) -> Step
+fn agreed(
+    words: &[u64; POOL_WORDS],
+    ids: &[u16; 512],
+    len: usize,
+    own: &[u16; 512],
+    count: usize,
+    s: Sight,
+) -> Step
     requires { ⌜ (0 < s .count) × (s .count ≤ 16) ⌝ }
-    ensures { λ r. ⌜ Firsts (recordOf (now (words .entry)) (now (ids .entry)) len) s (turn.rule3 ∷ turn.rule4 ∷ turn.rule5 ∷ turn.rule6 ∷ turn.rule7 ∷ turn.rule8 ∷ turn.rule9 ∷ turn.rule10 ∷ []) r ⌝ }
+    ensures { λ r. ⌜ Firsts (recordOf (now (words .entry)) (now (ids .entry)) len) (recordOf (now (words .entry)) (now (own .entry)) count) s (turn.rule3 ∷ turn.rule4 ∷ turn.rule5 ∷ turn.rule6 ∷ turn.rule7 ∷ turn.rule8 ∷ turn.rule9 ∷ turn.rule10 ∷ []) r ⌝ }
 {
-    let third = rule3(words, ids, len, s);
+    let third = rule3(words, own, count, s);
     let d = third.deed;
     if acts(d) {
         return third;
     }
-    let fourth = rule4(words, ids, len, s);
+    let fourth = rule4(words, own, count, s);
     let d = fourth.deed;
     if acts(d) {
         return fourth;
     }
-    noticed(words, ids, len, s)
+    noticed(words, ids, len, own, count, s)
 }
 
 // Whether no view of h is greater than t.
@@ -656,7 +675,10 @@ pub fn first_rule(words: &[u64; POOL_WORDS], c: Controller, e: Evidence) -> Step
     let log = c.statements;
     let len = log.len;
     let ids = log.ids;
-    let first = rule1(words, &ids, len, s);
+    let signed = own_of(words, &ids, len, s.number);
+    let own = signed.ids;
+    let count = signed.len;
+    let first = rule1(words, &own, count, s);
     let d = first.deed;
     if acts(d) {
         return first;
@@ -667,5 +689,5 @@ pub fn first_rule(words: &[u64; POOL_WORDS], c: Controller, e: Evidence) -> Step
     if acts(d) {
         return second;
     }
-    agreed(words, &ids, len, s)
+    agreed(words, &ids, len, &own, count, s)
 }

@@ -21,7 +21,7 @@ acts-requires c κs = search needs
 
 -- src/rules.rt:551:9
 returns : tie.Need-returns
-returns c = firsts-one (c .before .before .rule3 .ensures) (sym (c .before .acts .ensures) ∙ c .if1 .taken)
+returns c = firsts-one (c .before .before .rule3 .ensures .does _) (sym (c .before .acts .ensures) ∙ c .if1 .taken)
 
 -- src/rules.rt:553:9
 rule4-requires : tie.Need-rule4-requires
@@ -33,7 +33,7 @@ acts-requires-2 c κs = search needs
 
 -- src/rules.rt:556:9
 returns-2 : tie.Need-returns-2
-returns-2 c = firsts-skip (c .before .before .before .before .before .rule3 .ensures) (sym (c .before .before .before .before .acts .ensures) ∙ c .before .before .before .if1 .left) (firsts-one (c .before .before .rule4 .ensures) (sym (c .before .acts2 .ensures) ∙ c .if2 .taken))
+returns-2 c = firsts-skip (c .before .before .before .before .before .rule3 .ensures .does _) (sym (c .before .before .before .before .acts .ensures) ∙ c .before .before .before .if1 .left) (firsts-one (c .before .before .rule4 .ensures .does _) (sym (c .before .acts2 .ensures) ∙ c .if2 .taken))
 
 -- src/rules.rt:558:5
 noticed-requires : tie.Need-noticed-requires
@@ -41,7 +41,7 @@ noticed-requires c κs = search needs
 
 -- src/rules.rt:544:1
 returns-3 : tie.Need-returns-3
-returns-3 c = firsts-skip (c .before .before .before .before .before .before .rule3 .ensures) (sym (c .before .before .before .before .before .acts .ensures) ∙ c .before .before .before .before .if1 .left) (firsts-skip (c .before .before .before .rule4 .ensures) (sym (c .before .before .acts2 .ensures) ∙ c .before .if2 .left) (c .noticed .ensures))
+returns-3 c = firsts-skip (c .before .before .before .before .before .before .rule3 .ensures .does _) (sym (c .before .before .before .before .before .acts .ensures) ∙ c .before .before .before .before .if1 .left) (firsts-skip (c .before .before .before .rule4 .ensures .does _) (sym (c .before .before .acts2 .ensures) ∙ c .before .if2 .left) (c .noticed .ensures))
 
 pub agreed-spec : {M : Type 1} → statement M
 agreed-spec =

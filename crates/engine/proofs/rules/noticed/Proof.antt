@@ -34,7 +34,7 @@ acts-requires-2 c κs = search needs
 
 -- src/rules.rt:533:9
 returns-2 : tie.Need-returns-2
-returns-2 c = firsts-skip (c .before .before .before .before .before .rule5 .ensures) (sym (c .before .before .before .before .acts .ensures) ∙ c .before .before .before .if1 .left) (firsts-one (c .before .before .rule6 .ensures) (sym (c .before .acts2 .ensures) ∙ c .if2 .taken))
+returns-2 c = firsts-skip (c .before .before .before .before .before .rule5 .ensures) (sym (c .before .before .before .before .acts .ensures) ∙ c .before .before .before .if1 .left) (firsts-one (c .before .before .rule6 .ensures .does _) (sym (c .before .acts2 .ensures) ∙ c .if2 .taken))
 
 -- src/rules.rt:535:9
 rule7-requires : tie.Need-rule7-requires
@@ -46,7 +46,7 @@ acts-requires-3 c κs = search needs
 
 -- src/rules.rt:538:9
 returns-3 : tie.Need-returns-3
-returns-3 c = firsts-skip (c .before .before .before .before .before .before .before .before .rule5 .ensures) (sym (c .before .before .before .before .before .before .before .acts .ensures) ∙ c .before .before .before .before .before .before .if1 .left) (firsts-skip (c .before .before .before .before .before .rule6 .ensures) (sym (c .before .before .before .before .acts2 .ensures) ∙ c .before .before .before .if2 .left) (firsts-one (c .before .before .rule7 .ensures .does _) (sym (c .before .acts3 .ensures) ∙ c .if3 .taken)))
+returns-3 c = firsts-skip (c .before .before .before .before .before .before .before .before .rule5 .ensures) (sym (c .before .before .before .before .before .before .before .acts .ensures) ∙ c .before .before .before .before .before .before .if1 .left) (firsts-skip (c .before .before .before .before .before .rule6 .ensures .does _) (sym (c .before .before .before .before .acts2 .ensures) ∙ c .before .before .before .if2 .left) (firsts-one (c .before .before .rule7 .ensures .does _ _) (sym (c .before .acts3 .ensures) ∙ c .if3 .taken)))
 
 -- src/rules.rt:540:5
 requested-requires : tie.Need-requested-requires
@@ -54,7 +54,7 @@ requested-requires c κs = search needs
 
 -- src/rules.rt:522:1
 returns-4 : tie.Need-returns-4
-returns-4 c = firsts-skip (c .before .before .before .before .before .before .before .before .before .rule5 .ensures) (sym (c .before .before .before .before .before .before .before .before .acts .ensures) ∙ c .before .before .before .before .before .before .before .if1 .left) (firsts-skip (c .before .before .before .before .before .before .rule6 .ensures) (sym (c .before .before .before .before .before .acts2 .ensures) ∙ c .before .before .before .before .if2 .left) (firsts-skip (c .before .before .before .rule7 .ensures .does _) (sym (c .before .before .acts3 .ensures) ∙ c .before .if3 .left) (c .requested .ensures)))
+returns-4 c = firsts-skip (c .before .before .before .before .before .before .before .before .before .rule5 .ensures) (sym (c .before .before .before .before .before .before .before .before .acts .ensures) ∙ c .before .before .before .before .before .before .before .if1 .left) (firsts-skip (c .before .before .before .before .before .before .rule6 .ensures .does _) (sym (c .before .before .before .before .before .acts2 .ensures) ∙ c .before .before .before .before .if2 .left) (firsts-skip (c .before .before .before .rule7 .ensures .does _ _) (sym (c .before .before .acts3 .ensures) ∙ c .before .if3 .left) (c .requested .ensures .firsts _)))
 
 pub noticed-spec : {M : Type 1} → statement M
 noticed-spec =

@@ -1,5 +1,5 @@
 use native.Mathlib.Omega.{arith}
-use Rattle.engine.proofs.Chosen.{firsts-one, firsts-skip, firsts-last}
+use Rattle.engine.proofs.Chosen.{owned-one, owned-skip, owned-last}
 use mathlib.Core.Path.{sym, _∙_}
 use borrow.Author.Needs.{needs}
 use Rattle.engine.proofs.rules.requested.Statement.{statement}
@@ -21,7 +21,7 @@ acts-requires c κs = search needs
 
 -- src/rules.rt:511:9
 returns : tie.Need-returns
-returns c = firsts-one (c .before .before .rule8 .ensures) (sym (c .before .acts .ensures) ∙ c .if1 .taken)
+returns c = owned-one (c .before .before .rule8 .ensures) (sym (c .before .acts .ensures) ∙ c .if1 .taken)
 
 -- src/rules.rt:513:9
 rule9-requires : tie.Need-rule9-requires
@@ -33,7 +33,7 @@ acts-requires-2 c κs = search needs
 
 -- src/rules.rt:516:9
 returns-2 : tie.Need-returns-2
-returns-2 c = firsts-skip (c .before .before .before .before .before .rule8 .ensures) (sym (c .before .before .before .before .acts .ensures) ∙ c .before .before .before .if1 .left) (firsts-one (c .before .before .rule9 .ensures) (sym (c .before .acts2 .ensures) ∙ c .if2 .taken))
+returns-2 c = owned-skip (c .before .before .before .before .before .rule8 .ensures) (sym (c .before .before .before .before .acts .ensures) ∙ c .before .before .before .if1 .left) (owned-one (c .before .before .rule9 .ensures) (sym (c .before .acts2 .ensures) ∙ c .if2 .taken))
 
 -- src/rules.rt:518:5
 rule10-requires : tie.Need-rule10-requires
@@ -41,7 +41,7 @@ rule10-requires c κs = search needs
 
 -- src/rules.rt:505:1
 returns-3 : tie.Need-returns-3
-returns-3 c = firsts-skip (c .before .before .before .before .before .before .rule8 .ensures) (sym (c .before .before .before .before .before .acts .ensures) ∙ c .before .before .before .before .if1 .left) (firsts-skip (c .before .before .before .rule9 .ensures) (sym (c .before .before .acts2 .ensures) ∙ c .before .if2 .left) (firsts-last (c .rule10 .ensures)))
+returns-3 c = owned-skip (c .before .before .before .before .before .before .rule8 .ensures) (sym (c .before .before .before .before .before .acts .ensures) ∙ c .before .before .before .before .if1 .left) (owned-skip (c .before .before .before .rule9 .ensures) (sym (c .before .before .acts2 .ensures) ∙ c .before .if2 .left) (owned-last (c .rule10 .ensures)))
 
 pub requested-spec : {M : Type 1} → statement M
 requested-spec =

@@ -1,7 +1,7 @@
 use native.Mathlib.Omega.{arith}
 use mathlib.Core.Path.{refl}
 use borrow.Author.Tests.{not-true, not-false}
-use Rattle.engine.proofs.Applied.{stop, go, done, does, fifth-off, fifth-none, fifth-on, own-yes, own-no, binds-made}
+use Rattle.engine.proofs.Applied.{stop, go, done, does-in, fifth-off, fifth-none, fifth-on, own-yes, own-no, binds-made}
 use borrow.Author.Needs.{needs}
 use Rattle.engine.proofs.rules.rule5.Statement.{statement}
 use Rattle.engine.proofs.rules.rule5.Tie as tie
@@ -20,7 +20,7 @@ rest-requires c κs = search needs
 
 -- src/rules.rt:366:9
 returns : tie.Need-returns
-returns c = does (fifth-off _ _ (stop _ _ _ (not-true _ (c .before .if1 .taken)))) refl (c .rest .ensures)
+returns c = does-in (fifth-off _ _ _ (stop _ _ _ (not-true _ (c .before .if1 .taken)))) refl (c .rest .ensures)
 
 -- src/rules.rt:369:48
 word-requires : tie.Need-word-requires
@@ -36,7 +36,7 @@ rest-requires-2 c κs = search needs
 
 -- src/rules.rt:370:9
 returns-2 : tie.Need-returns-2
-returns-2 c = does (fifth-off _ _ (go _ _ _ _ (not-false _ (c .before .before .before .before .before .if1 .left)) (stop _ _ _ (own-yes _ _ _ _ _ (c .before .before .before .word .ensures) (c .before .before .signed-at .ensures) (c .before .if2 .taken))))) refl (c .rest2 .ensures)
+returns-2 c = does-in (fifth-off _ _ _ (go _ _ _ _ (not-false _ (c .before .before .before .before .before .if1 .left)) (stop _ _ _ (own-yes _ _ _ _ _ (c .before .before .before .word .ensures) (c .before .before .signed-at .ensures) (c .before .if2 .taken))))) refl (c .rest2 .ensures)
 
 -- src/rules.rt:372:28
 to-ack-requires : tie.Need-to-ack-requires
@@ -56,7 +56,7 @@ rest-requires-3 c κs = search needs
 
 -- src/rules.rt:373:9
 returns-3 : tie.Need-returns-3
-returns-3 c = does (fifth-none _ _ _ (c .before .before .before .to-ack .ensures) (c .before .enum-told .given .1)) refl (c .rest3 .ensures)
+returns-3 c = does-in (fifth-none _ _ _ _ (c .before .before .before .to-ack .ensures) (c .before .enum-told .given .1)) refl (c .rest3 .ensures)
 
 -- src/rules.rt:375:13
 ack-requires : tie.Need-ack-requires
@@ -68,7 +68,7 @@ bind-requires c κs = c .ack .ensures .short
 
 -- src/rules.rt:362:1
 returns-4 : tie.Need-returns-4
-returns-4 c = does (fifth-on _ _ _ (c .before .before .before .before .before .to-ack .ensures) _ (c .before .before .before .m .given .1)) (go _ _ _ _ (not-false _ (c .before .before .before .before .before .before .before .before .before .before .if1 .left)) (go _ _ _ _ (own-no _ _ _ _ _ (c .before .before .before .before .before .before .before .before .word .ensures) (c .before .before .before .before .before .before .before .signed-at .ensures) (c .before .before .before .before .before .before .if2 .left)) (done _))) (binds-made (c .before .ack .ensures) (c .bind .ensures))
+returns-4 c = does-in (fifth-on _ _ _ _ (c .before .before .before .before .before .to-ack .ensures) _ (c .before .before .before .m .given .1)) (go _ _ _ _ (not-false _ (c .before .before .before .before .before .before .before .before .before .before .if1 .left)) (go _ _ _ _ (own-no _ _ _ _ _ (c .before .before .before .before .before .before .before .before .word .ensures) (c .before .before .before .before .before .before .before .signed-at .ensures) (c .before .before .before .before .before .before .if2 .left)) (done _))) (binds-made (c .before .ack .ensures) (c .bind .ensures))
 
 pub rule5-spec : {M : Type 1} → statement M
 rule5-spec =
