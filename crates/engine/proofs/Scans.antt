@@ -1,17 +1,18 @@
 -- What a scan of the record finds, and the views of words as a history.
 -- Assumes nothing.
 use mathlib.Core.Path.{_≡_, refl, sym, ap, ap₂, _∙_}
-use mathlib.Core.Bool.{Bool, true, false, _&&_, not, _||_, and-comm, and-assoc, true≢false}
+use mathlib.Core.Bool.{Bool, true, false, _&&_, _||_, and-comm, and-assoc, true≢false}
 use mathlib.Core.List.{List, [], _∷_, _++_, append-nil}
 use mathlib.Core.Option.{Option, some, none}
-use Prim.Native.Nat.{ℕ, zero, suc, _+_, _≤_, _<_, min}
+use Prim.Native.Nat.{ℕ, zero, suc, _+_, _^_, _≤_, _<_, min}
 use native.Mathlib.Decide.{decLt}
 use native.Mathlib.Numerals.{add-one}
 use native.Mathlib.Omega.{arith}
+use mir.Val.{boolByte}
 use lib.Dec.{T, eqb}
 use lib.ListN.{length, getD, set, length-set}
 use lib.Seq.{getD-set-same, getD-set-other}
-use borrow.Author.Tests.{eq-eqb, ne-eqb, eqb-true}
+use borrow.Author.Tests.{eq-eqb, ne-eqb, eqb-true, eqb-false}
 use Rattle.protocol.specs.Lists.{if_then_else_, any, find}
 use Rattle.protocol.specs.View.{View, sameView}
 use Rattle.protocol.specs.Statement.{Stmt, sameStmt, isKind}
@@ -99,35 +100,47 @@ not-own p s k h d = go (p s) refl
     go true e = absurd (d (h e))
     go false e = e
 
-module _ {W ids J : List ℕ} {k i m : ℕ} (l : i < 512) (g : Gathered W ids J k i m) where
-  passed : (o : ℕ) → o ≡ records.entry W ids i .origin → (o ≡ k → ⊥) → Owns (recordOf W ids (i + 1)) (recordOf W J m) k
-  passed o e d = record {
-    asked = λ p h.
-        g .owns .asked p h ∙ sym (or-none (any p (recordOf W ids i)))
-        ∙ ap (λ b. any p (recordOf W ids i) || b) (sym (not-own p (records.entry W ids i) k (h (records.entry W ids i)) (λ q. d (e ∙ q)))) ∙ sym (records.any-next W ids p i l);
-  }
+-- one more, where the test passes
 
-  pub gathered-passed : (o : ℕ) → o ≡ records.entry W ids i .origin → (o ≡ k → ⊥) → Gathered W ids J k (i + 1) m
-  gathered-passed o e d = record { size = g .size; owns = passed o e d }
+pub byte-one : (b : Bool) → boolByte b ≤ 1
+byte-one true = omega arith
+byte-one false = omega arith
 
+pub more-fits : (m : ℕ) (b : Bool) → m ≤ 512 → m + boolByte b < 2 ^ 64
+more-fits m b h = omega (arith, byte-one b)
+
+module _ {W ids J : List ℕ} {k i m : ℕ} (l : i < 512) (h : m ≤ i) (g : Gathered W ids J k i m) where
   abbrev more : List ℕ
   more = set J m (getD ids i 0)
 
-  before : m ≤ i → recordOf W more m ≡ recordOf W J m
-  before h =
+  before : recordOf W more m ≡ recordOf W J m
+  before =
       records.so-far W more m (omega arith) ∙ table-cong m (records.entry W more) (records.entry W J) (λ j b. ap (stmtAt W) (getD-set-other J m j (getD ids i 0) 0 (λ q. omega arith)))
       ∙ sym (records.so-far W J m (omega arith))
 
-  one-more : m ≤ i → Owns (recordOf W ids (i + 1)) (recordOf W more (m + 1)) k
-  one-more h = record {
+  same-first : (p : Stmt → Bool) → ((s : Stmt) → p s ≡ true → s .origin ≡ k) → any p (recordOf W more m) ≡ any p (recordOf W ids i)
+  same-first p q = ap (any p) before ∙ g .owns .asked p q
+
+  passed : (records.entry W ids i .origin ≡ k → ⊥) → Owns (recordOf W ids (i + 1)) (recordOf W more (m + 0)) k
+  passed d = record {
+    asked = λ p q. let e : m + 0 ≡ m = omega arith in
+        ap (λ x. any p (recordOf W more x)) e ∙ same-first p q ∙ sym (or-none (any p (recordOf W ids i)))
+        ∙ ap (λ b. any p (recordOf W ids i) || b) (sym (not-own p (records.entry W ids i) k (q (records.entry W ids i)) d)) ∙ sym (records.any-next W ids p i l);
+  }
+
+  taken : Owns (recordOf W ids (i + 1)) (recordOf W more (m + 1)) k
+  taken = record {
     asked = λ p q.
-        records.any-next W more p m (omega arith)
-        ∙ ap₂ _||_ (ap (any p) (before h) ∙ g .owns .asked p q) (ap (λ x. p (stmtAt W x)) (getD-set-same J m (getD ids i 0) 0 (omega (arith, g .size))))
+        records.any-next W more p m (omega arith) ∙ ap₂ _||_ (same-first p q) (ap (λ x. p (stmtAt W x)) (getD-set-same J m (getD ids i 0) 0 (omega (arith, g .size))))
         ∙ sym (records.any-next W ids p i l);
   }
 
-  pub gathered-more : m ≤ i → Gathered W ids (set J m (getD ids i 0)) k (i + 1) (m + 1)
-  gathered-more h = record { size = length-set J m (getD ids i 0) ∙ g .size; owns = one-more h }
+  either : (b : Bool) → eqb (records.entry W ids i .origin) k ≡ b → Owns (recordOf W ids (i + 1)) (recordOf W more (m + boolByte b)) k
+  either true e = taken
+  either false e = passed (eqb-false (records.entry W ids i .origin) k e)
+
+  pub gathered-next : (o : ℕ) → o ≡ records.entry W ids i .origin → Gathered W ids (set J m (getD ids i 0)) k (i + 1) (m + boolByte (eqb o k))
+  gathered-next o e = record { size = length-set J m (getD ids i 0) ∙ g .size; owns = either (eqb o k) (ap (λ x. eqb x k) (sym e)) }
 
 pub gathered-whole : {W ids J : List ℕ} {k i m end : ℕ} (len : ℕ) → i ≡ end → end ≡ min len 512 → Gathered W ids J k i m → Owns (recordOf W ids len) (recordOf W J m) k
 gathered-whole {W} {ids} {i = i} len d e g = rw (records.whole W ids len i (d ∙ e)) at (g .owns)

@@ -170,7 +170,9 @@ fn sign(st: Statement) -> Step
     }
 }
 
-// Rule 3: agree to the wished view. (`ids` are the numbers of its own statements, as in every rule below that takes no others.)
+// A rule that is given one list of numbers is given those of the controller's own statements, since it asks for no others.
+
+// Rule 3: agree to the wished view.
 pub fn rule3(words: &[u64; POOL_WORDS], ids: &[u16; 512], len: usize, s: Sight) -> Step
     ensures { λ r. ⌜ Owned (recordOf (now (words .entry)) (now (ids .entry)) len) s turn.rule3 r ⌝ }
 {
@@ -220,7 +222,7 @@ fn deliver(m: u64) -> Step
     }
 }
 
-// The statements of controller k in the record. They are few, and most rules ask for no others.
+// The statements of controller k in the record, for the rules that ask for no others: they are few. Every number is written, and stays only if it counts, since a branch would often be guessed wrong.
 fn own_of(words: &[u64; POOL_WORDS], ids: &[u16; 512], len: usize, k: u8) -> Record
     ensures { λ r. ⌜ Owns (recordOf (now (words .entry)) (now (ids .entry)) len) (recordOf (now (words .entry)) (r .ids) (r .len)) k ⌝ }
 {
@@ -230,12 +232,9 @@ fn own_of(words: &[u64; POOL_WORDS], ids: &[u16; 512], len: usize, k: u8) -> Rec
     let mut i = 0usize;
     while i < end {
         let n = ids[i];
-        if pool::origin(words, n) != k as u64 {
-            i += 1;
-            continue;
-        }
+        let mine = pool::origin(words, n) == k as u64;
         own[count] = n;
-        count += 1;
+        count += mine as usize;
         i += 1;
     }
     Record {
