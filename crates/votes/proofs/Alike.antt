@@ -4,7 +4,7 @@ use mathlib.Core.Path.{_≡_, refl, sym, ap, ap₂, _∙_}
 use mathlib.Core.Logic.{_⊎_, inl, inr}
 use mathlib.Core.Bool.{Bool, true, false}
 use mathlib.Core.List.{List, [], _∷_, _++_}
-use Prim.Native.Nat.{ℕ, _+_, _-_, _*_, _%_, _<_}
+use Prim.Native.Nat.{ℕ, _+_, _-_, _*_, _%_, _≤_, _<_}
 use native.Mathlib.Omega.{arith}
 use native.Mathlib.Numerals.{add-one}
 use lib.Dec.{T, eqb}
@@ -12,15 +12,15 @@ use borrow.Author.Tests.{eq-eqb, ne-eqb}
 use Rattle.protocol.specs.View.{View}
 use Rattle.protocol.specs.History.{sameViews}
 use Rattle.protocol.specs.Statement.{Stmt, isKind, agreesView, agreesHistory, acks, stores}
-use Rattle.protocol.proofs.Says.{Says, says-map, says-unique, says-and, says-or, says-eqb}
+use Rattle.protocol.proofs.Says.{Says, says-map, says-and, says-or, says-imp, says-eqb}
 use Rattle.protocol.proofs.Bits.{Fits}
 use Rattle.protocol.proofs.Decided.{says-same, says-sames, says-kind}
 use Rattle.views.specs.Table.{table}
 use Rattle.views.specs.View.{viewOf}
-use Rattle.views.proofs.Views.{fails, fits, view-inj}
+use Rattle.views.proofs.Views.{passes, fails, fits}
 use Rattle.pool.specs.Pool.{stmtAt}
 use Rattle.votes.specs.Votes.{isVote, alike}
-use Rattle.votes.specs.Keys.{wordOf, mixFrom, headOf, tailOf, mixed, slotOf}
+use Rattle.votes.specs.Keys.{wordOf, mixFrom, headOf, tailOf, sameNames, slotOf}
 
 -- ---- votes
 
@@ -154,58 +154,55 @@ pub narrow : (W : List ℕ) (n : ℕ) → Narrow (stmtAt W n)
 unfolding stmtAt
 narrow W n = record { at = fits _; view = fits _ }
 
--- ---- what a comparison finds out of the vote a and the statement s
+words-alike : (a s : Stmt) → Narrow a → Narrow s → Vote a → headOf a ≡ headOf s → tailOf a ≡ tailOf s → (s .kind ≡ 4 → a .views ≡ s .views) → Alike a s
+unfolding headOf
+words-alike a s p q v e f h = record {
+  vote = v;
+  kind = kind;
+  at = word-inj (q .at) (p .at) (omega (arith, e, word-small (p .at), word-small (q .at)));
+  view = λ k. word-inj (q .view) (p .view) (sym (tail-view s (kind ∙ k)) ∙ sym f ∙ tail-view a k);
+  views = λ k. sym (h (kind ∙ k));
+  acked = λ k. same (λ z. omega arith) (λ z. omega arith);
+  stored = λ k. same (λ z. omega arith) (λ z. omega arith);
+}
+  where
+    kind : s .kind ≡ a .kind
+    kind = omega (arith, e, word-small (p .at), word-small (q .at))
 
-pub other-head : (a s : Stmt) (x y : ℕ) → x ≡ headOf a → y ≡ headOf s → (x ≡ y → ⊥) → false ≡ alike a s
-other-head a s x y e f d = sym (fails (says-alike a s) (λ al. d (e ∙ head-same al ∙ sym f)))
+    same : (a .kind ≡ 3 → ⊥) → (a .kind ≡ 4 → ⊥) → s .payload ≡ a .payload
+    same d c = sym (tail-payload s (λ z. d (sym kind ∙ z)) (λ z. c (sym kind ∙ z))) ∙ sym f ∙ tail-payload a d c
 
-pub other-slot : (a s : Stmt) → (slotOf a ≡ slotOf s → ⊥) → alike a s ≡ false
-unfolding slotOf
-other-slot a s d = fails (says-alike a s) (λ al. d (ap₂ mixed (head-same al) (tail-same a s al (al .vote))))
+says-names : (a s : Stmt) → Says (sameNames a s) (s .kind ≡ 4 → a .views ≡ s .views)
+unfolding sameNames
+says-names a s = says-imp says-eqb (says-sames (a .views) (s .views))
 
--- votes with the same head are of one kind and at one view
-module _ (a s : Stmt) (x y : ℕ) (p : Narrow a) (q : Narrow s) (v : T (isVote a)) (e : x ≡ headOf a) (f : y ≡ headOf s) (g : x ≡ y) where
-  heads : headOf a ≡ headOf s
-  heads = sym e ∙ g ∙ f
+pub names-none : (a s : Stmt) (k : ℕ) → k ≡ s .kind → (k ≡ 4 → ⊥) → true ≡ sameNames a s
+names-none a s k e d = sym (passes (says-names a s) (λ q. absurd (d (e ∙ q))))
 
-  kinds : s .kind ≡ a .kind
-  unfolding headOf
-  kinds = omega (arith, heads, word-small (p .at), word-small (q .at))
+pub names-both : (a s : Stmt) (k : ℕ) (b : Bool) → k ≡ s .kind → k ≡ 4 → b ≡ sameViews (a .views) (s .views) → b ≡ sameNames a s
+unfolding sameNames
+names-both a s k b e f g = rw (eq-eqb (s .kind) 4 (sym e ∙ f)) g
 
-  ats : s .at ≡ a .at
-  unfolding headOf
-  ats = word-inj (q .at) (p .at) (omega (arith, heads, word-small (p .at), word-small (q .at)))
+-- what a search finds out of the vote a and the statement s: other words, other histories, alike
 
-  pub same-view : (k u w : ℕ) → k ≡ s .kind → k ≡ 3 → u < 4294967296 → w < 4294967296 → viewOf u ≡ a .view → viewOf w ≡ s .view → eqb u w ≡ alike a s
-  same-view k u w c d l m h j =
-      says-unique
-      (says-map
-      (λ z. record { vote = says-vote a .sound v; kind = kinds; at = ats; view = λ r. sym j ∙ ap viewOf (sym z) ∙ h; views = λ r. absurd (omega (arith, kinds)); acked = λ r. absurd (omega (arith, kinds)); stored = λ r. absurd (omega (arith, kinds)) })
-      (λ al. view-inj u w l m (h ∙ sym (al .view (sym kinds ∙ sym c ∙ d)) ∙ sym j)) (says-eqb {m = u} {n = w}))
-      (says-alike a s)
+pub other-tail : (a s : Stmt) (x y : ℕ) → x ≡ tailOf a → y ≡ tailOf s → (x ≡ y → ⊥) → alike a s ≡ false
+other-tail a s x y e f d = fails (says-alike a s) (λ al. d (e ∙ tail-same a s al (al .vote) ∙ sym f))
 
-  pub same-history : (k : ℕ) (b : Bool) → k ≡ s .kind → k ≡ 4 → b ≡ sameViews (a .views) (s .views) → b ≡ alike a s
-  same-history k b c d h =
-      h
-      ∙ says-unique
-      (says-map
-      (λ z. record { vote = says-vote a .sound v; kind = kinds; at = ats; view = λ r. absurd (omega (arith, kinds)); views = λ r. sym z; acked = λ r. absurd (omega (arith, kinds)); stored = λ r. absurd (omega (arith, kinds)) })
-      (λ al. sym (al .views (sym kinds ∙ sym c ∙ d))) (says-sames (a .views) (s .views)))
-      (says-alike a s)
+pub other-head : (a s : Stmt) (x y : ℕ) → x ≡ headOf a → y ≡ headOf s → (x ≡ y → ⊥) → alike a s ≡ false
+other-head a s x y e f d = fails (says-alike a s) (λ al. d (e ∙ head-same al ∙ sym f))
 
-  pub same-payload : (k m n : ℕ) → k ≡ s .kind → (k ≡ 3 → ⊥) → (k ≡ 4 → ⊥) → m ≡ a .payload → n ≡ s .payload → eqb m n ≡ alike a s
-  same-payload k m n c d d′ h j =
-      says-unique
-      (says-map
-      (λ z. record { vote = says-vote a .sound v; kind = kinds; at = ats; view = λ r. absurd (d (c ∙ kinds ∙ r)); views = λ r. absurd (d′ (c ∙ kinds ∙ r)); acked = λ r. sym j ∙ sym z ∙ h; stored = λ r. sym j ∙ sym z ∙ h })
-      (λ al. h ∙ sym (paid al (al .vote)) ∙ sym j) (says-eqb {m = m} {n = n}))
-      (says-alike a s)
-    where
-      paid : Alike a s → Vote a → s .payload ≡ a .payload
-      paid al (inl (inl (inl r))) = absurd (d (c ∙ kinds ∙ r))
-      paid al (inl (inl (inr r))) = absurd (d′ (c ∙ kinds ∙ r))
-      paid al (inl (inr r)) = al .acked r
-      paid al (inr r) = al .stored r
+pub other-slot : (a s : Stmt) (x y x′ y′ : ℕ) → x ≡ headOf a → y ≡ headOf s → x′ ≡ tailOf a → y′ ≡ tailOf s → (slotOf x x′ ≡ slotOf y y′ → ⊥) → alike a s ≡ false
+other-slot a s x y x′ y′ e f e′ f′ d = fails (says-alike a s) (λ al. d (ap₂ slotOf (e ∙ head-same al ∙ sym f) (e′ ∙ tail-same a s al (al .vote) ∙ sym f′)))
+
+pub other-names : (a s : Stmt) (b : Bool) → b ≡ sameNames a s → b ≡ false → alike a s ≡ false
+other-names a s b e f = fails (says-alike a s) (λ al. away (sym e ∙ f) (says-names a s .complete (λ k. sym (al .views (sym (al .kind) ∙ k)))))
+  where
+    away : {c : Bool} → c ≡ false → T c → ⊥
+    away z t = rw z at t
+
+pub same-words : (a s : Stmt) (x y x′ y′ : ℕ) (b : Bool) → Narrow a → Narrow s → T (isVote a) → x ≡ headOf a → y ≡ headOf s → x ≡ y → x′ ≡ tailOf a → y′ ≡ tailOf s → x′ ≡ y′ → b ≡ sameNames a s → b ≡ true → alike a s ≡ true
+same-words a s x y x′ y′ b p q v e f g e′ f′ g′ h t =
+    passes (says-alike a s) (words-alike a s p q (says-vote a .sound v) (sym e ∙ g ∙ f) (sym e′ ∙ g′ ∙ f′) (says-names a s .sound (rw (sym h ∙ t) tt)))
 
 -- ---- the loop of the mix
 

@@ -18,7 +18,7 @@ use Rattle.views.proofs.Views.{passes, fails}
 use Rattle.pool.specs.Pool.{recordOf}
 use Rattle.pool.proofs.Records.{whole, set-first, set-next}
 use Rattle.votes.specs.Votes.{isVote, alike, entry, Groups}
-use Rattle.votes.specs.Keys.{slotOf, Place, Room, Sofar}
+use Rattle.votes.specs.Keys.{headOf, tailOf, slotOf, Place, Room, Sofar}
 use Rattle.votes.proofs.Chains.{chained-first, chained-new}
 use Rattle.votes.proofs.Alike.{Alike, says-vote, says-alike, alike-vote, alike-self, alike-both, alike-turned}
 
@@ -46,23 +46,23 @@ module _ (W ids : List ℕ) where
   same : {a s : Stmt} → T (alike a s) → Alike a s
   same {a} {s} t = says-alike a s .sound t
 
-  pub sofar-first : {F S Q N : List ℕ} → Room F S Q N → ((s : ℕ) → s < 1024 → getD Q s 0 ≡ 0) → Sofar W ids 0 F S Q N 0
+  pub sofar-first : {K L F S Q N : List ℕ} → Room K L F S Q N → ((s : ℕ) → s < 1024 → getD Q s 0 ≡ 0) → Sofar W ids 0 K L F S Q N 0
   sofar-first r z = record {
     fewer = omega arith;
     room = r;
-    firsts = record { place = λ g l. absurd (omega arith); vote = λ g l. absurd (omega arith) };
+    keyed = record { place = λ g l. absurd (omega arith); vote = λ g l. absurd (omega arith); heads = λ g l. absurd (omega arith); tails = λ g l. absurd (omega arith) };
     chained = chained-first z;
     groups = record { most = omega arith; place = λ g l. absurd (omega arith); vote = λ g l. absurd (omega arith); signers = λ g l. absurd (omega arith); covers = λ i l. absurd (omega arith) };
     distinct = λ g h l. absurd (omega arith);
   }
 
-  module _ {i n : ℕ} {F S Q N : List ℕ} (small : i < 512) (so : Sofar W ids i F S Q N n) where
+  module _ {i n : ℕ} {K L F S Q N : List ℕ} (small : i < 512) (so : Sofar W ids i K L F S Q N n) where
     -- no vote: all stays
-    pub sofar-skip : (b : Bool) → b ≡ isVote (entry W ids i) → b ≡ false → Sofar W ids (i + 1) F S Q N n
+    pub sofar-skip : (b : Bool) → b ≡ isVote (entry W ids i) → b ≡ false → Sofar W ids (i + 1) K L F S Q N n
     sofar-skip b e f = record {
       fewer = omega (arith, so .fewer);
       room = so .room;
-      firsts = so .firsts;
+      keyed = so .keyed;
       chained = so .chained;
       groups = record {
         most = so .groups .most;
@@ -83,11 +83,11 @@ module _ (W ids : List ℕ) where
 
     -- a vote of group g
     module _ (g o r : ℕ) (at : Place W ids F n (getD ids i 0) g) (by : o ≡ entry W ids i .origin) where
-      pub sofar-old : g < n → Noted (getD S g 0) true o r → Sofar W ids (i + 1) F (set S g r) Q N n
+      pub sofar-old : g < n → Noted (getD S g 0) true o r → Sofar W ids (i + 1) K L F (set S g r) Q N n
       sofar-old l w = record {
         fewer = omega (arith, so .fewer);
-        room = record { first = so .room .first; seen = length-set S g r ∙ so .room .seen; slots = so .room .slots; links = so .room .links };
-        firsts = so .firsts;
+        room = record { heads = so .room .heads; tails = so .room .tails; first = so .room .first; seen = length-set S g r ∙ so .room .seen; slots = so .room .slots; links = so .room .links };
+        keyed = so .keyed;
         chained = so .chained;
         groups = record {
           most = so .groups .most;
@@ -115,18 +115,25 @@ module _ (W ids : List ℕ) where
           covered j v (no m) k = let q : i ≡ j = omega arith in (g, l, subst (λ x. T (alike (group F g) (entry W ids x))) q here)
 
       -- a vote of a new group
-      pub sofar-new : (z : ℕ) (b : Bool) → (g < n → ⊥) → b ≡ isVote (entry W ids i) → b ≡ true → Noted 0 true o r → z ≡ slotOf (entry W ids i) → z < 1024
-          → Sofar W ids (i + 1) (set F n i) (set S n r) (set Q z (n + 1)) (set N n (getD Q z 0)) (n + 1)
-      sofar-new z b d e f w v y = record {
+      pub sofar-new : (head tail z : ℕ) (b : Bool) → (g < n → ⊥) → b ≡ isVote (entry W ids i) → b ≡ true → head ≡ headOf (entry W ids i) → tail ≡ tailOf (entry W ids i) → Noted 0 true o r
+          → z ≡ slotOf head tail → z < 1024 → Sofar W ids (i + 1) (set K n head) (set L n tail) (set F n i) (set S n r) (set Q z (n + 1)) (set N n (getD Q z 0)) (n + 1)
+      sofar-new head tail z b d e f p q w v y = record {
         fewer = omega (arith, so .fewer);
         room = record {
+          heads = length-set K n head ∙ so .room .heads;
+          tails = length-set L n tail ∙ so .room .tails;
           first = length-set F n i ∙ so .room .first;
           seen = length-set S n r ∙ so .room .seen;
           slots = length-set Q z (n + 1) ∙ so .room .slots;
           links = length-set N n (getD Q z 0) ∙ so .room .links;
         };
-        firsts = record { place = λ h m. placed 512 h m (ℕ-discrete h n) small (λ l. so .firsts .place h l); vote = λ h m. voted h m (ℕ-discrete h n) };
-        chained = chained-new (so .chained) i z v y (omega (arith, so .room .first, so .fewer)) (omega (arith, so .room .slots)) (omega (arith, so .room .links, so .fewer));
+        keyed = record {
+          place = λ h m. placed 512 h m (ℕ-discrete h n) small (λ l. so .keyed .place h l);
+          vote = λ h m. voted h m (ℕ-discrete h n);
+          heads = λ h m. headed h m (ℕ-discrete h n);
+          tails = λ h m. tailed h m (ℕ-discrete h n);
+        };
+        chained = chained-new (so .chained) head tail z v y (omega (arith, so .room .heads, so .fewer)) (omega (arith, so .room .tails, so .fewer)) (omega (arith, so .room .slots)) (omega (arith, so .room .links, so .fewer));
         groups = record {
           most = omega (arith, so .fewer);
           place = λ h m. placed (min (i + 1) 512) h m (ℕ-discrete h n) (omega arith) (λ l. omega (arith, so .groups .place h l));
@@ -161,7 +168,15 @@ module _ (W ids : List ℕ) where
 
           voted : (h : ℕ) → h < n + 1 → Dec (h ≡ n) → T (isVote (group (set F n i) h))
           voted h m (yes u) = rw (u, newF) vote
-          voted h m (no u) = rw (oldF h u) (so .firsts .vote h (omega arith))
+          voted h m (no u) = rw (oldF h u) (so .keyed .vote h (omega arith))
+
+          headed : (h : ℕ) → h < n + 1 → Dec (h ≡ n) → getD (set K n head) h 0 ≡ headOf (group (set F n i) h)
+          headed h m (yes u) = rw (u, newF, getD-set-same K n head 0 (omega (arith, so .room .heads, so .fewer))) p
+          headed h m (no u) = rw (oldF h u, getD-set-other K n h head 0 u) (so .keyed .heads h (omega arith))
+
+          tailed : (h : ℕ) → h < n + 1 → Dec (h ≡ n) → getD (set L n tail) h 0 ≡ tailOf (group (set F n i) h)
+          tailed h m (yes u) = rw (u, newF, getD-set-same L n tail 0 (omega (arith, so .room .tails, so .fewer))) q
+          tailed h m (no u) = rw (oldF h u, getD-set-other L n h tail 0 u) (so .keyed .tails h (omega arith))
 
           unlike : (j : ℕ) → j < i → alike (entry W ids i) (entry W ids j) ≡ false
           unlike j m = fails (says-alike (entry W ids i) (entry W ids j)) (λ al. clash al (so .groups .covers j (omega arith) (says-vote (entry W ids j) .complete (alike-vote al))))
@@ -185,7 +200,7 @@ module _ (W ids : List ℕ) where
           apart h j l m t (no u) (yes v) = absurd (strange h (omega arith) (same (rw (v, newF, oldF h u) at t)))
           apart h j l m t (no u) (no v) = so .distinct h j (omega arith) (omega arith) (rw (oldF h u, oldF j v) at t)
 
-  pub sofar-whole : (len : ℕ) {i n : ℕ} {F S Q N : List ℕ} → i ≡ min len 512 → Sofar W ids i F S Q N n → Groups W ids len F S n
+  pub sofar-whole : (len : ℕ) {i n : ℕ} {K L F S Q N : List ℕ} → i ≡ min len 512 → Sofar W ids i K L F S Q N n → Groups W ids len F S n
   sofar-whole len {i} {n} {F = F} {S = S} e so = record {
     most = so .groups .most;
     place = λ g l. omega (arith, so .groups .place g l);

@@ -2,9 +2,8 @@
 ghost use mathlib.Core.Path.{_≡_};
 ghost use Prim.Native.Nat.{_<_};
 ghost use Rattle.pool.specs.Pool.{stmtAt};
-ghost use lib.Dec.{T};
-ghost use Rattle.votes.specs.Votes.{isVote, alike};
-ghost use Rattle.votes.specs.Keys.{mixFrom, headOf, tailOf, slotOf};
+ghost use Rattle.votes.specs.Votes.{isVote};
+ghost use Rattle.votes.specs.Keys.{mixFrom, headOf, tailOf, sameNames, slotOf};
 use pool::POOL_WORDS;
 
 // Whether statement n is a vote.
@@ -59,30 +58,20 @@ pub fn tail_of(words: &[u64; POOL_WORDS], n: u16) -> u64
     pool::payload(words, n)
 }
 
-// Whether statement j says the same as the vote i.
-pub fn is_alike(words: &[u64; POOL_WORDS], i: u16, j: u16) -> bool
-    requires { ⌜ T (isVote (stmtAt (now words) i)) ⌝ }
-    ensures { λ r. ⌜ r ≡ alike (stmtAt (now (words .entry)) i) (stmtAt (now (words .entry)) j) ⌝ }
+// Whether i and j, votes with the same words, name the same history where they name one.
+pub fn same_names(words: &[u64; POOL_WORDS], i: u16, j: u16) -> bool
+    ensures { λ r. ⌜ r ≡ sameNames (stmtAt (now (words .entry)) i) (stmtAt (now (words .entry)) j) ⌝ }
 {
-    if head_of(words, i) != head_of(words, j) {
-        return false;
+    if pool::kind(words, j) != 4 {
+        return true;
     }
-    let k = pool::kind(words, j);
-    if k == 3 {
-        return pool::view(words, i) == pool::view(words, j);
-    }
-    if k == 4 {
-        return pool::same_views(words, i, j);
-    }
-    pool::payload(words, i) == pool::payload(words, j)
+    pool::same_views(words, i, j)
 }
 
-// The slot of the vote n. What multiplication mixes best are the high bits.
-pub fn slot_of(words: &[u64; POOL_WORDS], n: u16) -> usize
-    ensures { λ r. ⌜ (r ≡ slotOf (stmtAt (now (words .entry)) n)) × (r < 1024) ⌝ }
+// The slot of the words of a vote. What multiplication mixes best are the high bits.
+pub fn slot_of(head: u64, tail: u64) -> usize
+    ensures { λ r. ⌜ (r ≡ slotOf head tail) × (r < 1024) ⌝ }
 {
-    let head = head_of(words, n);
-    let tail = tail_of(words, n);
     let x = (head % 4294967296 + head / 4294967296) % 4294967296;
     let y = (tail % 4294967296 + tail / 4294967296) % 4294967296;
     ((x * 1640531527 + y * 668265263) / 4194304 % 1024) as usize
