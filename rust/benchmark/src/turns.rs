@@ -58,7 +58,7 @@ impl Ring {
     fn turn(&mut self, k: usize) -> Answer {
         let Seat { mine, pool, theirs, .. } = &mut self.seats[k];
         self.turns += 1;
-        let (answer, first, second) = if self.turns % 2 == 0 {
+        let (answer, first, second) = if self.turns & 1 == 0 {
             let (_, first) = timed(|| mine.turn(pool));
             let (answer, second) = timed(|| theirs.turn());
             (answer, first, second)
