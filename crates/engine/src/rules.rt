@@ -222,7 +222,7 @@ fn deliver(m: u64) -> Step
     }
 }
 
-// The statements of controller k in the record, for the rules that ask for no others: they are few. Every number is written, and stays only if it counts, since a branch would often be guessed wrong.
+// The statements of controller k in the record, for the rules that ask for no others: they are few. Every number is written, and stays only if it counts, so that the loop has no branch.
 fn own_of(words: &[u64; POOL_WORDS], ids: &[u16; 512], len: usize, k: u8) -> Record
     ensures { λ r. ⌜ Owns (recordOf (now (words .entry)) (now (ids .entry)) len) (recordOf (now (words .entry)) (r .ids) (r .len)) k ⌝ }
 {
