@@ -15,8 +15,8 @@
 extern "C" {
 #endif
 
-/* The words of a pool: 512 statements of 32 words, and their number. */
-#define PEKDRAV_POOL_WORDS 16385
+/* The words of a pool: 512 statements of 20 words, and their number. */
+#define PEKDRAV_POOL_WORDS 10241
 /* A controller: its fields, and the pool numbers of its record. */
 #define PEKDRAV_FIELDS 32
 #define PEKDRAV_RECORD 512

@@ -243,10 +243,10 @@ going-end {S} {at} {n} {b} {R} {R′} {out} g e l = record {
   ran = g .rest [] (subst (λ t. ReadAll (lines t) []) (sym (drop-of-length-le S e)) tt);
 }
 
-module _ (c : Controller) (fresh : (controllerIs c ≡ controller.notSetUp) × (c .statements .len ≡ 0)) (m w : ℕ) (e : m ≡ 16) (f : w ≡ 16385) where
+module _ (c : Controller) (fresh : (controllerIs c ≡ controller.notSetUp) × (c .statements .len ≡ 0)) (m w : ℕ) (e : m ≡ 16) (f : w ≡ 10241) where
   empty-pool : poolLen (replicate w 0) ≡ 0
   unfolding poolLen
-  empty-pool = let z : _≡_ {A = ℕ} (getD (replicate w 0) 16384 0) 0 = getD-replicate w 16384 0 0 (omega arith) in omega arith
+  empty-pool = let z : _≡_ {A = ℕ} (getD (replicate w 0) 10240 0) 0 = getD-replicate w 10240 0 0 (omega arith) in omega arith
 
   each-is : (k : ℕ) → k < 16 → getD (replicate m c) k blank ≡ c
   each-is k l = getD-replicate m k c blank (omega arith)

@@ -154,16 +154,16 @@ module _ (members sender faulty : ℕ) where
     pub setup-empty : RefusedAs c g sender refusal.BadSetup s → sender < 16 → members ≡ 0 → Advanced W g c 0 (some (setup members sender faulty)) s W
     setup-empty e l q = refuses sender true refl (omega arith) e (lt-ltb sender 16 l) (ap (λ t. g .ready || not t) (nobody-in q) ∙ or-both (g .ready))
 
-  emptied : (W : List ℕ) → length W ≡ 16385 → poolLen (set W 16384 0) ≡ 0
+  emptied : (W : List ℕ) → length W ≡ 10241 → poolLen (set W 10240 0) ≡ 0
   unfolding poolLen
-  emptied W l = let e : getD (set W 16384 0) 16384 0 ≡ 0 = getD-set-same W 16384 0 0 (omega arith) in omega arith
+  emptied W l = let e : getD (set W 10240 0) 10240 0 ≡ 0 = getD-set-same W 10240 0 0 (omega arith) in omega arith
 
-  pub setup-taken : (W : List ℕ) (g : Setting) (c : Controller) → length W ≡ 16385 → sender < 16 → g .ready ≡ false → (members ≡ 0 → ⊥) → members < 65536
+  pub setup-taken : (W : List ℕ) (g : Setting) (c : Controller) → length W ≡ 10241 → sender < 16 → g .ready ≡ false → (members ≡ 0 → ⊥) → members < 65536
       → Advanced W g c 0 (some (setup members sender faulty))
-      (record { who = sender; answer = Taken; number = 0; controller = c; setting = record { ready = true; faulty = faulty; members = members; sender = sender }; fresh = true }) (set W 16384 0)
+      (record { who = sender; answer = Taken; number = 0; controller = c; setting = record { ready = true; faulty = faulty; members = members; sender = sender }; fresh = true }) (set W 10240 0)
   unfolding answerIs
   setup-taken W g c n l q a b = record {
-    steps = λ X x. setup-is (benchOf (g .ready) (g .faulty) X W) q (allowed-is a b l) refl ∙ stepped refl refl refl refl refl refl (no-pool (set W 16384 0) (emptied W n));
+    steps = λ X x. setup-is (benchOf (g .ready) (g .faulty) X W) q (allowed-is a b l) refl ∙ stepped refl refl refl refl refl refl (no-pool (set W 10240 0) (emptied W n));
     who = omega arith;
     sound = λ t. absurd (subst T t tt);
     grows = λ t. absurd (subst T t tt);

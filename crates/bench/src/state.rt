@@ -119,7 +119,7 @@ fn refused(c: Controller, g: Setting, who: u64, r: Refusal) -> Stepped
 
 // How many words the memory has: a proof that a word was written asks for it.
 fn size(words: &[u64; POOL_WORDS]) -> usize
-    ensures { λ r. ⌜ length (now (words .entry)) ≡ 16385 ⌝ }
+    ensures { λ r. ⌜ length (now (words .entry)) ≡ 10241 ⌝ }
 {
     let s = &words[..];
     s.len()
@@ -148,7 +148,7 @@ fn set_up(
     if members == 0 {
         return refused(c, g, who, Refusal::BadSetup);
     }
-    words[16384] = 0;
+    words[10240] = 0;
     Stepped {
         who: who,
         answer: Answer::Taken,

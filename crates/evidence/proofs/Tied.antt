@@ -56,7 +56,7 @@ module _ (W ids : List ℕ) (len init : ℕ) (C : List ℕ) (nc : ℕ) (A E : Li
   word-of (chosen g b n i q) =
       let (_, (s, m, _, a)) = someone q in
       let (j, l, e) = placed W ids len init m in
-      let w = word W (getD ids j 0) 3 in
+      let w = word W (getD ids j 0) 512 in
       inr (w % 4294967296, omega arith, view-low w ∙ ap (λ s. s .view) e ∙ a .view)
 
   says-gives : (w c : ℕ) → Says (gives W ids len init C w c) ((high (getD C c 0) ≡ w) × T (isTop (ring init) X (viewOf (low (getD C c 0)))))

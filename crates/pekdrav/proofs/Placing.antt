@@ -38,9 +38,9 @@ went-in S r p ok k W W′ placed a n e =
       refused = λ f. absurd (f s);
     }
 
-pub emptied : (W : List ℕ) → length W ≡ 16385 → Cleared W (set W 16384 0)
+pub emptied : (W : List ℕ) → length W ≡ 10241 → Cleared W (set W 10240 0)
 unfolding poolOf poolLen table
-emptied W e = record { is = refl; empty = ap (λ n. table (min n 512) (stmtAt (set W 16384 0))) (getD-set-same W 16384 0 0 (omega arith)) }
+emptied W e = record { is = refl; empty = ap (λ n. table (min n 512) (stmtAt (set W 10240 0))) (getD-set-same W 10240 0 0 (omega arith)) }
 
 -- ---- a statement of the pool, written
 

@@ -38,7 +38,7 @@ pub record Put (S W : List ℕ) (r : ℕ) (W′ : List ℕ) : Type 0 where
 
 -- The pool is empty now: the number of its statements was set to 0.
 pub record Cleared (W W′ : List ℕ) : Type 0 where
-  pub is : W′ ≡ set W 16384 0
+  pub is : W′ ≡ set W 10240 0
   pub empty : poolOf W′ ≡ []
 
 -- The pool has a statement n, and `out` has room for its text.

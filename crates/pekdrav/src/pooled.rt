@@ -34,7 +34,7 @@ pub extern "C" fn pekdrav_append(words: &mut [u64; POOL_WORDS], line: &[u8]) -> 
 
 // How many words the memory has: a proof that a word was written asks for it.
 fn size(words: &[u64; POOL_WORDS]) -> usize
-    ensures { λ r. ⌜ length (now (words .entry)) ≡ 16385 ⌝ }
+    ensures { λ r. ⌜ length (now (words .entry)) ≡ 10241 ⌝ }
 {
     let s = &words[..];
     s.len()
@@ -46,7 +46,7 @@ pub extern "C" fn pekdrav_clear(words: &mut [u64; POOL_WORDS])
     ensures { λ _. ⌜ Cleared (now (words .entry)) (now (words .exit)) ⌝ }
 {
     size(words);
-    words[16384] = 0;
+    words[10240] = 0;
 }
 
 // Writes the text of statement n from the start of `out`, and answers its length; 0, and `out` as it was, where the pool has no such statement

@@ -1,4 +1,5 @@
 pub mod Laws
+pub mod Parts
 pub mod Records
 pub mod Searches
 pub mod Writes

@@ -28,10 +28,11 @@ use Rattle.statements.specs.Meaning.{stmtOf}
 use Rattle.pool.specs.declared.Found.the-variants as found
 use Rattle.pool.specs.declared.Placed.the-variants as placed
 use Rattle.pool.specs.declared.Record.{Record}
-use Rattle.pool.specs.Pool.{word, countOf, viewAt, stmtAt, poolLen, poolOf, recordOf}
-use Rattle.pool.specs.Changes.{headOf, Put, numberOf, foundOf, placedAt, Grown, Appended, Pushed}
+use Rattle.pool.specs.Pool.{headAt, word, viewWord, countOf, viewAt, stmtAt, poolLen, poolOf, recordOf}
+use Rattle.pool.specs.Changes.{headOf, owner, Put, numberOf, foundOf, placedAt, Grown, Appended, Pushed}
+use Rattle.pool.proofs.Parts.{low-parts}
 use Rattle.pool.proofs.Records.{entry, whole}
-use Rattle.pool.proofs.Writes.{stmts}
+use Rattle.pool.proofs.Writes.{stmts, owner-low, owner-high}
 
 -- ---- two statements
 
@@ -46,6 +47,11 @@ head-is s k o t e f l g =
     let j : t % 65536 ≡ s .at .joined = ap (λ v. v .joined) g in
     let h : t / 65536 % 65536 ≡ s .at .left = ap (λ v. v .left) g in
     omega arith
+
+-- the head of statement n is the low part of its word
+pub head-at : (W : List ℕ) (n w : ℕ) → w ≡ headAt W n → w % 281474976710656 ≡ headOf (stmtAt W n)
+unfolding headOf viewOf stmtAt
+head-at W n w e = ap (λ x. x % 281474976710656) e ∙ low-parts (headAt W n)
 
 -- they differ if their heads do
 pub heads-differ : (a b : Stmt) (x y : ℕ) → x ≡ headOf b → y ≡ headOf a → (x ≡ y → ⊥) → sameStmt a b ≡ false
@@ -125,34 +131,34 @@ found-none (some j) e = absurd (let n : _≡_ {A = ℕ} 0 1 = cc in omega arith)
 
 -- ---- what stays as it was
 
-pub stmt-kept : (W W′ : List ℕ) (m : ℕ) → ((f : ℕ) → f < 32 → word W′ m f ≡ word W m f) → stmtAt W′ m ≡ stmtAt W m
-unfolding stmtAt countOf
+-- a statement whose words are as they were
+stmt-kept : (W W′ : List ℕ) (m : ℕ) → ((i : ℕ) → owner i ≡ min m 511 → getD W′ i 0 ≡ getD W i 0) → stmtAt W′ m ≡ stmtAt W m
+unfolding stmtAt countOf headAt word viewWord
 stmt-kept W W′ m k =
-    stmts (ap (λ x. x % 256) (k 0 (omega arith))) (ap (λ x. x % 256) (k 1 (omega arith))) (ap viewOf (k 2 (omega arith))) (ap viewOf (k 3 (omega arith)))
-    (ap (λ x. min x 2) (k 4 (omega arith))) (k 5 (omega arith)) (ap (λ x. min x 1) (k 6 (omega arith))) (k 7 (omega arith))
-    (ap (λ n. table (min n 16) (viewAt W′ m)) (k 8 (omega arith)) ∙ table-cong (min (word W m 8) 16) (viewAt W′ m) (viewAt W m) (λ p l. ap viewOf (k (9 + p) (omega arith))))
+    stmts (ap (λ x. x % 256) head) (ap (λ x. x / 256 % 256) head) (ap (λ x. viewOf (x / 65536)) head) (ap viewOf (column 512 (omega arith))) (ap (λ x. min (x / 72057594037927936 % 16) 2) head)
+    (column 1024 (omega arith)) (ap (λ x. min (x / 1152921504606846976) 1) head) (column 1536 (omega arith))
+    (ap (λ x. table (min (x / 281474976710656 % 256) 16) (viewAt W′ m)) head ∙ table-cong (countOf W m) (viewAt W′ m) (viewAt W m) (λ p l. view p (omega arith)))
+  where
+    head : getD W′ (min m 511) 0 ≡ getD W (min m 511) 0
+    head = k (min m 511) (omega (arith, owner-low (min m 511) (omega arith)))
+
+    column : (f : ℕ) → (f ≤ 1536) × (f % 512 ≡ 0) → getD W′ (min m 511 + f) 0 ≡ getD W (min m 511 + f) 0
+    column f l = k (min m 511 + f) (omega (arith, owner-low (min m 511 + f) (omega arith)))
+
+    view : (p : ℕ) → p < 16 → viewAt W′ m p ≡ viewAt W m p
+    view p l = ap viewOf (k (2048 + min m 511 * 16 + p) (omega (arith, owner-high (2048 + min m 511 * 16 + p) (omega arith))))
 
 -- another statement than the one that was written
 put-kept : (W W′ : List ℕ) (n m : ℕ) (st : Statement) → Put W W′ n st → (min m 511 ≡ min n 511 → ⊥) → stmtAt W′ m ≡ stmtAt W m
-unfolding word
-put-kept W W′ n m st p d = stmt-kept W W′ m (λ f l. p .others (min m 511 * 32 + f) (apart f l (decLt (min m 511) (min n 511))))
-  where
-    apart : (f : ℕ) → f < 32 → Dec (min m 511 < min n 511) → (min m 511 * 32 + f < min n 511 * 32) ⊎ (min n 511 * 32 + 32 ≤ min m 511 * 32 + f)
-    apart f l (yes h) = inl (omega arith)
-    apart f l (no h) = inr (omega (arith, other (decLt (min n 511) (min m 511))))
-      where
-        other : Dec (min n 511 < min m 511) → min n 511 < min m 511
-        other (yes g) = g
-        other (no g) = absurd (d (omega arith))
+put-kept W W′ n m st p d = stmt-kept W W′ m (λ i e. p .others i (λ q. d (sym e ∙ q)))
 
 -- the number of statements lies behind them all
-count-kept : (W : List ℕ) (v m : ℕ) → stmtAt (set W 16384 v) m ≡ stmtAt W m
-unfolding word
-count-kept W v m = stmt-kept W (set W 16384 v) m (λ f l. getD-set-other W 16384 (min m 511 * 32 + f) v 0 (λ e. omega arith))
+count-kept : (W : List ℕ) (v m : ℕ) → stmtAt (set W 10240 v) m ≡ stmtAt W m
+count-kept W v m = stmt-kept W (set W 10240 v) m (λ i e. getD-set-other W 10240 i v 0 (λ q. omega (arith, owner-high i (omega arith))))
 
-counted : (U : List ℕ) (v : ℕ) → 16384 < length U → v ≤ 512 → poolLen (set U 16384 v) ≡ v
+counted : (U : List ℕ) (v : ℕ) → 10240 < length U → v ≤ 512 → poolLen (set U 10240 v) ≡ v
 unfolding poolLen
-counted U v l h = let g : getD (set U 16384 v) 16384 0 ≡ v = getD-set-same U 16384 v 0 l in omega arith
+counted U v l h = let g : getD (set U 10240 v) 10240 0 ≡ v = getD-set-same U 10240 v 0 l in omega arith
 
 -- ---- one statement more
 
@@ -172,14 +178,14 @@ module _ (W : List ℕ) (st : Statement) where
         new = λ f h. absurd (omega arith);
       }
 
-  pub append-new : (n : ℕ) (U : List ℕ) → length W ≡ 16385 → found.Nothing ≡ foundOf (numberOf W (stmtOf st)) → n ≡ poolLen W → n < 512 → Put W U n st → Appended W (set U 16384 (n + 1)) st (placed.At n)
+  pub append-new : (n : ℕ) (U : List ℕ) → length W ≡ 10241 → found.Nothing ≡ foundOf (numberOf W (stmtOf st)) → n ≡ poolLen W → n < 512 → Put W U n st → Appended W (set U 10240 (n + 1)) st (placed.At n)
   append-new n U long e q l p =
       let o : numberOf W (stmtOf st) ≡ none = found-none (numberOf W (stmtOf st)) e in
       record {
         answer = sym (ap (λ x. placedAt x (poolLen W)) o ∙ ap (λ b. if b then placed.At (poolLen W) else placed.Full) (lt-ltb (poolLen W) 512 (omega arith)) ∙ ap placed.At (sym q));
         old = λ i f. absurd (let z : _≡_ {A = ℕ} 0 1 = cc in omega arith);
         full = λ h. absurd (omega arith);
-        new = λ f h. record { len = counted U (n + 1) (omega (arith, p .long)) (omega arith) ∙ ap (λ x. x + 1) q; there = λ k. ap (stmtAt (set U 16384 (n + 1))) (sym q) ∙ count-kept U (n + 1) n ∙ p .there k; others = λ m d. count-kept U (n + 1) m ∙ put-kept W U n m st p (λ z. d (omega arith)) };
+        new = λ f h. record { len = counted U (n + 1) (omega (arith, p .long)) (omega arith) ∙ ap (λ x. x + 1) q; there = λ k. ap (stmtAt (set U 10240 (n + 1))) (sym q) ∙ count-kept U (n + 1) n ∙ p .there k; others = λ m d. count-kept U (n + 1) m ∙ put-kept W U n m st p (λ z. d (omega arith)) };
       }
 
 -- ---- for callers: the pool and the records after an addition

@@ -1,16 +1,18 @@
--- Laws of writing: one word more, nine words in a row, a whole statement.
+-- Laws of writing: one word more, the views, the head and the columns, a whole statement.
 -- Assumes nothing.
 use mathlib.Core.Path.{_≡_, refl, sym, ap, subst, _∙_}
 use mathlib.Core.Logic.{_⊎_, inl, inr}
 use mathlib.Core.Bool.{cond}
 use mathlib.Core.List.{List, [], _∷_, _++_}
-use Prim.Native.Nat.{ℕ, zero, suc, _+_, _*_, _%_, _≤_, _<_, min}
+use Prim.Native.Nat.{ℕ, zero, suc, _+_, _-_, _*_, _/_, _%_, _≤_, _<_, min}
 use native.Mathlib.Decide.{decLt}
 use native.Mathlib.Numerals.{add-one}
 use native.Mathlib.Omega.{arith}
-use lib.Dec.{eqb}
+use lib.Dec.{eqb, ltb}
 use lib.ListN.{length, getD, set, length-set}
 use lib.Seq.{getD-set-same, getD-set-other}
+use borrow.Author.Tests.{lt-ltb, le-ltb}
+use Rattle.protocol.specs.Lists.{if_then_else_}
 use Rattle.protocol.specs.View.{View}
 use Rattle.protocol.specs.Statement.{Stmt}
 use Rattle.views.specs.declared.View as held
@@ -22,8 +24,8 @@ use Rattle.views.proofs.Tables.{table-cong}
 use Rattle.statements.specs.declared.Statement.{Statement}
 use Rattle.statements.specs.Meaning.{firstViews, stmtOf}
 use Rattle.statements.proofs.FieldLaws.{views-table}
-use Rattle.pool.specs.Pool.{word, countOf, viewAt, stmtAt, poolLen}
-use Rattle.pool.specs.Changes.{WroteViews, Put}
+use Rattle.pool.specs.Pool.{headAt, word, viewWord, countOf, viewAt, stmtAt}
+use Rattle.pool.specs.Changes.{WroteViews, owner, Put, IsHead}
 
 -- statements are the same if their fields are
 pub stmts : {a b : Stmt} → a .kind ≡ b .kind → a .origin ≡ b .origin → a .at ≡ b .at → a .view ≡ b .view → a .binding ≡ b .binding → a .payload ≡ b .payload → a .stored ≡ b .stored → a .kept ≡ b .kept → a .views ≡ b .views → a ≡ b
@@ -68,81 +70,110 @@ wrote-views W W′ s p h e w = record { long = w .long; views = λ q l. w .insid
     far i (inl a) = inl a
     far i (inr a) = inr (omega arith)
 
--- ---- the nine words before them
+-- ---- the head and the three columns
 
-abbrev pub IsWord : List ℕ → ℕ → ℕ → Type 0
-IsWord ws f x = x ≡ getD ws f 0
+-- at place s the head is a, and the columns hold b, c and d; no other word changed
+pub record WroteRow (W X : List ℕ) (s a b c d : ℕ) : Type 0 where
+  pub long : length X ≡ length W
+  pub head : getD X s 0 ≡ a
+  pub view : getD X (s + 512) 0 ≡ b
+  pub payload : getD X (s + 1024) 0 ≡ c
+  pub kept : getD X (s + 1536) 0 ≡ d
+  pub others : (i : ℕ) → (i ≡ s → ⊥) → (i ≡ s + 512 → ⊥) → (i ≡ s + 1024 → ⊥) → (i ≡ s + 1536 → ⊥) → getD X i 0 ≡ getD W i 0
 
-module _ (W : List ℕ) (s a b c d e f g h k : ℕ) where
-  abbrev pub nine : List ℕ
-  nine = set (set (set (set (set (set (set (set (set W s a) (s + 1) b) (s + 2) c) (s + 3) d) (s + 4) e) (s + 5) f) (s + 6) g) (s + 7) h) (s + 8) k
+module _ (W : List ℕ) (s a b c d : ℕ) (l : length W ≡ 10241) (m : s ≤ 511) where
+  abbrev one : List ℕ
+  one = set W s a
 
-  abbrev pub values : List ℕ
-  values = a ∷ b ∷ c ∷ d ∷ e ∷ f ∷ g ∷ h ∷ k ∷ []
+  abbrev two : List ℕ
+  two = set one (s + 512) b
 
-  pub nine-wrote : length W ≡ 16385 → s ≤ 16352 → Wrote W nine s 9 (IsWord values)
-  nine-wrote l m =
-      wrote-more W _ s 8 k P (omega arith) refl (wrote-more W _ s 7 h P (omega arith) refl (wrote-more W _ s 6 g P (omega arith) refl
-      (wrote-more W _ s 5 f P (omega arith) refl (wrote-more W _ s 4 e P (omega arith) refl (wrote-more W _ s 3 d P (omega arith) refl
-      (wrote-more W _ s 2 c P (omega arith) refl (wrote-more W _ s 1 b P (omega arith) refl one)))))))
-    where
-      P : ℕ → ℕ → Type 0
-      P = IsWord values
+  abbrev three : List ℕ
+  three = set two (s + 1024) c
 
-      one : Wrote W (set W s a) s 1 P
-      one = let z : s + 0 ≡ s = omega arith in subst (λ n. Wrote W (set W n a) s 1 P) z (wrote-more W W s 0 a P (omega arith) refl (wrote-none W s P))
+  abbrev four : List ℕ
+  four = set three (s + 1536) d
 
-  pub nine-long : length W ≡ 16385 → s ≤ 16352 → length nine ≡ 16385
-  nine-long l m = nine-wrote l m .long ∙ l
+  one-long : length one ≡ 10241
+  one-long = length-set W s a ∙ l
+
+  two-long : length two ≡ 10241
+  two-long = length-set one (s + 512) b ∙ one-long
+
+  three-long : length three ≡ 10241
+  three-long = length-set two (s + 1024) c ∙ two-long
+
+  pub four-long : length four ≡ 10241
+  four-long = length-set three (s + 1536) d ∙ three-long
+
+  pub row-wrote : WroteRow W four s a b c d
+  row-wrote = record {
+    long = four-long ∙ sym l;
+    head = getD-set-other three (s + 1536) s d 0 (λ e. omega arith) ∙ getD-set-other two (s + 1024) s c 0 (λ e. omega arith) ∙ getD-set-other one (s + 512) s b 0 (λ e. omega arith) ∙ getD-set-same W s a 0 (omega arith);
+    view = getD-set-other three (s + 1536) (s + 512) d 0 (λ e. omega arith) ∙ getD-set-other two (s + 1024) (s + 512) c 0 (λ e. omega arith) ∙ getD-set-same one (s + 512) b 0 (omega (arith, one-long));
+    payload = getD-set-other three (s + 1536) (s + 1024) d 0 (λ e. omega arith) ∙ getD-set-same two (s + 1024) c 0 (omega (arith, two-long));
+    kept = getD-set-same three (s + 1536) d 0 (omega (arith, three-long));
+    others = λ i e f g h. getD-set-other three (s + 1536) i d 0 h ∙ getD-set-other two (s + 1024) i c 0 g ∙ getD-set-other one (s + 512) i b 0 f ∙ getD-set-other W s i a 0 e;
+  }
+
+-- ---- whose word it is
+
+pub owner-low : (i : ℕ) → i < 2048 → owner i ≡ i % 512
+unfolding owner
+owner-low i l = ap (λ b. if b then i % 512 else (i - 2048) / 16) (lt-ltb i 2048 l)
+
+pub owner-high : (i : ℕ) → 2048 ≤ i → owner i ≡ (i - 2048) / 16
+unfolding owner
+owner-high i l = ap (λ b. if b then i % 512 else (i - 2048) / 16) (le-ltb i 2048 l)
 
 -- ---- a whole statement
 
--- what the nine words are worth
-pub record Heads (st : Statement) (ws : List ℕ) : Type 0 where
-  pub kind : (getD ws 0 0 ≡ st .kind) × (st .kind < 256)
-  pub origin : (getD ws 1 0 ≡ st .origin) × (st .origin < 256)
-  pub at : viewOf (getD ws 2 0) ≡ viewIs (st .at)
-  pub view : viewOf (getD ws 3 0) ≡ viewIs (st .view)
-  pub binding : (getD ws 4 0 ≡ stmtOf st .binding) × (getD ws 4 0 ≤ 2)
-  pub payload : getD ws 5 0 ≡ stmtOf st .payload
-  pub stored : (getD ws 6 0 ≡ cond (st .stored) 1 0) × (getD ws 6 0 ≤ 1)
-  pub kept : getD ws 7 0 ≡ st .kept
-  pub count : getD ws 8 0 ≡ st .history .len
+module _ (W X U : List ℕ) (n s : ℕ) (st : Statement) (a b c d : ℕ) (e : s ≡ min n 511) (w : WroteRow W X s a b c d) (v : WroteViews X U (2048 + s * 16) (st .history)) where
+  -- a word of the columns is as the row has it
+  column-is : (i x : ℕ) → i < 2048 → getD X i 0 ≡ x → getD U i 0 ≡ x
+  column-is i x l q = v .others i (inl (omega arith)) ∙ q
 
-module _ (W X U : List ℕ) (n s : ℕ) (st : Statement) (ws : List ℕ) (e : s ≡ min n 511 * 32) (w : Wrote W X s 9 (IsWord ws)) (v : WroteViews X U (s + 9) (st .history)) (m : Heads st ws) where
-  head-is : (f : ℕ) → f < 9 → word U n f ≡ getD ws f 0
+  head-is : headAt U n ≡ a
+  unfolding headAt
+  head-is = ap (λ x. getD U x 0) (sym e) ∙ column-is s a (omega arith) (w .head)
+
+  word-is : (f x : ℕ) → f ≤ 1536 → getD X (s + f) 0 ≡ x → word U n f ≡ x
   unfolding word
-  head-is f l = ap (λ x. getD U (x + f) 0) (sym e) ∙ v .others (s + f) (inl (omega arith)) ∙ w .inside f l
+  word-is f x l q = ap (λ x. getD U (x + f) 0) (sym e) ∙ column-is (s + f) x (omega arith) q
 
   view-is : (p : ℕ) → p < min (st .history .len) 16 → viewAt U n p ≡ heldAt (st .history .views) p
-  unfolding word
-  view-is p l = ap (λ x. viewOf (getD U x 0)) (let q : min n 511 * 32 + (9 + p) ≡ s + 9 + p = omega arith in q) ∙ v .views p l
+  unfolding viewWord
+  view-is p l = ap (λ x. viewOf (getD U (2048 + x * 16 + p) 0)) (sym e) ∙ v .views p l
 
-  there : st .history .len ≤ 16 → stmtAt U n ≡ stmtOf st
+  there : IsHead a (stmtOf st) (min (st .history .len) 16) → viewOf b ≡ viewIs (st .view) → c ≡ stmtOf st .payload → d ≡ st .kept → st .history .len ≤ 16 → stmtAt U n ≡ stmtOf st
   unfolding stmtAt stmtOf countOf
-  there l =
+  there h vb pc kd l =
       stmts
-      (omega (arith, head-is 0 (omega arith), m .kind .0, m .kind .1))
-      (omega (arith, head-is 1 (omega arith), m .origin .0, m .origin .1))
-      (ap viewOf (head-is 2 (omega arith)) ∙ m .at)
-      (ap viewOf (head-is 3 (omega arith)) ∙ m .view)
-      (omega (arith, head-is 4 (omega arith), m .binding .0, m .binding .1))
-      (head-is 5 (omega arith) ∙ m .payload)
-      (omega (arith, head-is 6 (omega arith), m .stored .0, m .stored .1))
-      (head-is 7 (omega arith) ∙ m .kept)
-      (ap (λ k. table k (viewAt U n)) (let q : min (word U n 8) 16 ≡ st .history .len = omega (arith, head-is 8 (omega arith), m .count) in q)
-      ∙ table-cong (st .history .len) (viewAt U n) (heldAt (st .history .views)) (λ p h. view-is p (omega arith)) ∙ sym (views-table (st .history .len) (st .history .views)))
+      (ap (λ x. x % 256) head-is ∙ h .kind)
+      (ap (λ x. x / 256 % 256) head-is ∙ h .origin)
+      (ap (λ x. viewOf (x / 65536)) head-is ∙ h .at)
+      (ap viewOf (word-is 512 b (omega arith) (w .view)) ∙ vb)
+      (ap (λ x. min (x / 72057594037927936 % 16) 2) head-is ∙ h .binding)
+      (word-is 1024 c (omega arith) (w .payload) ∙ pc)
+      (ap (λ x. min (x / 1152921504606846976) 1) head-is ∙ h .stored)
+      (word-is 1536 d (omega arith) (w .kept) ∙ kd)
+      (ap (λ x. table (min (x / 281474976710656 % 256) 16) (viewAt U n)) head-is
+      ∙ ap (λ k. table k (viewAt U n)) (h .count ∙ (let q : min (st .history .len) 16 ≡ st .history .len = omega arith in q))
+      ∙ table-cong (st .history .len) (viewAt U n) (heldAt (st .history .views)) (λ p m. view-is p (omega arith)) ∙ sym (views-table (st .history .len) (st .history .views)))
 
-  pub put-is : Put W U n st
-  put-is = record { long = v .long ∙ w .long; there = there; others = λ i o. v .others i (late i o) ∙ w .outside i (early i o) }
+  -- a word of another statement is none of the written ones
+  others : (i : ℕ) → (owner i ≡ min n 511 → ⊥) → getD U i 0 ≡ getD W i 0
+  others i o = elim (decLt i 2048) [
+    | yes l ↦ v .others i (inl (omega arith)) ∙ w .others i (λ q. o (omega (arith, owner-low i l))) (λ q. o (omega (arith, owner-low i l))) (λ q. o (omega (arith, owner-low i l))) (λ q. o (omega (arith, owner-low i l)))
+    | no l ↦ v .others i (apart (omega arith) (decLt i (2048 + s * 16))) ∙ w .others i (λ q. omega arith) (λ q. omega arith) (λ q. omega arith) (λ q. omega arith)
+  ]
     where
-      late : (i : ℕ) → (i < min n 511 * 32) ⊎ (min n 511 * 32 + 32 ≤ i) → (i < s + 9) ⊎ (s + 9 + 16 ≤ i)
-      late i (inl a) = inl (omega arith)
-      late i (inr a) = inr (omega arith)
+      apart : 2048 ≤ i → Dec (i < 2048 + s * 16) → (i < 2048 + s * 16) ⊎ (2048 + s * 16 + 16 ≤ i)
+      apart h (yes l) = inl l
+      apart h (no l) = elim (decLt i (2048 + s * 16 + 16)) [ yes m ↦ absurd (o (omega (arith, owner-high i h))) | no m ↦ inr (omega arith) ]
 
-      early : (i : ℕ) → (i < min n 511 * 32) ⊎ (min n 511 * 32 + 32 ≤ i) → (i < s) ⊎ (s + 9 ≤ i)
-      early i (inl a) = inl (omega arith)
-      early i (inr a) = inr (omega arith)
+  pub put-is : IsHead a (stmtOf st) (min (st .history .len) 16) → viewOf b ≡ viewIs (st .view) → c ≡ stmtOf st .payload → d ≡ st .kept → Put W U n st
+  put-is h vb pc kd = record { long = v .long ∙ w .long; there = there h vb pc kd; others = others }
 
 -- a flag that is read back
 pub flag-is : (x : ℕ) → x ≤ 1 → cond (eqb x 1) 1 0 ≡ x

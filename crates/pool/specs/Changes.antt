@@ -1,11 +1,11 @@
 -- What writing to the pool does, and where a statement is found in it.
--- Words that no statement uses, and the places after a statement's last view, may hold anything.
+-- The places after a statement's last view may hold anything.
 -- Assumes nothing.
 use mathlib.Core.Path.{_≡_}
 use mathlib.Core.Logic.{_⊎_}
 use mathlib.Core.List.{List, _∷_, [], _++_}
 use mathlib.Core.Option.{Option, some, none}
-use Prim.Native.Nat.{ℕ, _+_, _*_, _≤_, _<_, min}
+use Prim.Native.Nat.{ℕ, _+_, _-_, _*_, _/_, _%_, _≤_, _<_, min}
 use lib.Dec.{ltb}
 use lib.ListN.{length, getD}
 use Rattle.protocol.specs.Lists.{if_then_else_, find}
@@ -29,15 +29,28 @@ pub record WroteViews (W W′ : List ℕ) (s : ℕ) (h : History) : Type 0 where
   pub views : (p : ℕ) → p < min (h .len) 16 → viewOf (getD W′ (s + p) 0) ≡ heldAt (h .views) p
   pub others : (i : ℕ) → (i < s) ⊎ (s + 16 ≤ i) → getD W′ i 0 ≡ getD W i 0
 
--- Statement n is st now, and no other word changed. A number above 511 counts as 511.
+-- The statement that word i is of. It is 512 for the number of statements, which is of none.
+unfoldable pub owner : ℕ → ℕ
+owner i = if ltb i 2048 then i % 512 else (i - 2048) / 16
+
+-- Statement n is st now, and no word of another changed. A number above 511 counts as 511.
 pub record Put (W W′ : List ℕ) (n : ℕ) (st : Statement) : Type 0 where
   pub long : length W′ ≡ length W
   pub there : st .history .len ≤ 16 → stmtAt W′ n ≡ stmtOf st
-  pub others : (i : ℕ) → (i < min n 511 * 32) ⊎ (min n 511 * 32 + 32 ≤ i) → getD W′ i 0 ≡ getD W i 0
+  pub others : (i : ℕ) → (owner i ≡ min n 511 → ⊥) → getD W′ i 0 ≡ getD W i 0
 
 -- Kind, origin and at of a statement in one number.
 unfoldable pub headOf : Stmt → ℕ
 headOf s = s .kind + s .origin * 256 + (s .at .joined + s .at .left * 65536) * 65536
+
+-- The word w is the head of the statement s with c views.
+pub record IsHead (w : ℕ) (s : Stmt) (c : ℕ) : Type 0 where
+  pub kind : w % 256 ≡ s .kind
+  pub origin : w / 256 % 256 ≡ s .origin
+  pub at : viewOf (w / 65536) ≡ s .at
+  pub count : min (w / 281474976710656 % 256) 16 ≡ c
+  pub binding : min (w / 72057594037927936 % 16) 2 ≡ s .binding
+  pub stored : min (w / 1152921504606846976) 1 ≡ s .stored
 
 -- The first number of the pool whose statement is s.
 unfoldable pub numberOf : List ℕ → Stmt → Option ℕ

@@ -25,15 +25,14 @@ pub use read::payload;
 pub use read::pool_len;
 pub use read::stored;
 pub use read::view;
-pub use read::word_at;
 pub use seek::append;
 pub use seek::find;
 pub use seek::same_at;
 pub use write::get;
 pub use write::put;
 
-// 512 statements of 32 words, and how many there are.
-pub const POOL_WORDS: usize = 16385;
+// 512 statements of 4 words and 16 views each, and how many there are.
+pub const POOL_WORDS: usize = 10241;
 
 // Where a statement is.
 pub enum Found {

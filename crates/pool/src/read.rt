@@ -1,64 +1,70 @@
 // The fields of statement n, and the number of statements.
 ghost use mathlib.Core.Path.{_≡_};
 ghost use mathlib.Core.Bool.{cond};
-ghost use Prim.Native.Nat.{_+_, _*_, _<_, _≤_, min};
+ghost use Prim.Native.Nat.{_<_, _≤_, min};
 ghost use lib.ListN.{length};
 ghost use Rattle.protocol.specs.Statement.{Stmt};
 ghost use Rattle.views.specs.View.{viewOf};
-ghost use Rattle.pool.specs.Pool.{word, viewAt, stmtAt, countOf, poolLen};
+ghost use Rattle.pool.specs.Pool.{headAt, word, viewAt, stmtAt, countOf, poolLen};
 ghost use Rattle.pool.specs.Changes.{headOf};
 use crate::POOL_WORDS;
 
 // How many words the memory has. A proof that a word was written asks for it.
 pub fn size(words: &[u64; POOL_WORDS]) -> usize
-    ensures { λ r. ⌜ (r ≡ 16385) × (length (now (words .entry)) ≡ 16385) ⌝ }
+    ensures { λ r. ⌜ (r ≡ 10241) × (length (now (words .entry)) ≡ 10241) ⌝ }
 {
     let s = &words[..];
     s.len()
 }
 
-// Where statement n starts. It is bounded after the product, since the compiler then reads each field in one step.
-pub fn start(n: u16) -> usize
-    ensures { λ r. ⌜ (r ≡ min n 511 * 32) × (r ≤ 16352) ⌝ }
+// Where statement n is in its column. The number is bounded first, since the compiler then reads each column in one step.
+pub fn slot(n: u16) -> usize
+    ensures { λ r. ⌜ (r ≡ min n 511) × (r ≤ 511) ⌝ }
 {
-    let s = n as usize * 32;
-    if s < 16352 {
+    let s = n as usize;
+    if s < 511 {
         return s;
     }
-    16352
+    511
 }
 
-// Word f of statement n.
-pub fn word_at(words: &[u64; POOL_WORDS], n: u16, f: usize) -> u64
-    requires { ⌜ f < 32 ⌝ }
+// The head of statement n.
+fn head_word(words: &[u64; POOL_WORDS], n: u16) -> u64
+    ensures { λ r. ⌜ r ≡ headAt (now (words .entry)) n ⌝ }
+{
+    words[slot(n)]
+}
+
+// The word of statement n in the column that starts at word f.
+fn field(words: &[u64; POOL_WORDS], n: u16, f: usize) -> u64
+    requires { ⌜ f < 2048 ⌝ }
     ensures { λ r. ⌜ r ≡ word (now (words .entry)) n f ⌝ }
 {
-    let s = start(n);
-    words[s + f]
+    words[slot(n) + f]
 }
 
 pub fn kind(words: &[u64; POOL_WORDS], n: u16) -> u64
     ensures { λ r. ⌜ (r ≡ stmtAt (now (words .entry)) n .kind) × (r < 256) ⌝ }
 {
-    word_at(words, n, 0) % 256
+    head_word(words, n) % 256
 }
 
 pub fn origin(words: &[u64; POOL_WORDS], n: u16) -> u64
     ensures { λ r. ⌜ (r ≡ stmtAt (now (words .entry)) n .origin) × (r < 256) ⌝ }
 {
-    word_at(words, n, 1) % 256
+    head_word(words, n) / 256 % 256
 }
 
 pub fn payload(words: &[u64; POOL_WORDS], n: u16) -> u64
     ensures { λ r. ⌜ r ≡ stmtAt (now (words .entry)) n .payload ⌝ }
 {
-    word_at(words, n, 5)
+    field(words, n, 1024)
 }
 
 pub fn kept(words: &[u64; POOL_WORDS], n: u16) -> u64
     ensures { λ r. ⌜ r ≡ stmtAt (now (words .entry)) n .kept ⌝ }
 {
-    word_at(words, n, 7)
+    field(words, n, 1536)
 }
 
 // What x stands for where it is at most `most`.
@@ -84,53 +90,48 @@ pub fn flag(yes: bool) -> u64
 pub fn binding(words: &[u64; POOL_WORDS], n: u16) -> u64
     ensures { λ r. ⌜ (r ≡ stmtAt (now (words .entry)) n .binding) × (r ≤ 2) ⌝ }
 {
-    let w = word_at(words, n, 4);
+    let w = head_word(words, n) / 72057594037927936 % 16;
     capped(w, 2)
 }
 
 pub fn stored(words: &[u64; POOL_WORDS], n: u16) -> u64
     ensures { λ r. ⌜ (r ≡ stmtAt (now (words .entry)) n .stored) × (r ≤ 1) ⌝ }
 {
-    let w = word_at(words, n, 6);
+    let w = head_word(words, n) / 1152921504606846976;
     capped(w, 1)
 }
 
-// Word f of statement n, where that is a view.
-fn view_word(words: &[u64; POOL_WORDS], n: u16, f: usize) -> u32
-    requires { ⌜ f < 32 ⌝ }
-    ensures { λ r. ⌜ viewOf r ≡ viewOf (word (now (words .entry)) n f) ⌝ }
+// The view in the low 32 bits of w.
+fn low_view(w: u64) -> u32
+    ensures { λ r. ⌜ viewOf r ≡ viewOf w ⌝ }
 {
-    let w = word_at(words, n, f);
     (w % 4294967296) as u32
 }
 
 pub fn at(words: &[u64; POOL_WORDS], n: u16) -> u32
     ensures { λ r. ⌜ viewOf r ≡ stmtAt (now (words .entry)) n .at ⌝ }
 {
-    view_word(words, n, 2)
+    low_view(head_word(words, n) / 65536)
 }
 
 // Kind, origin and at of statement n in one number, for a search that passes over most: of three comparisons, the first would often be guessed wrong.
 pub fn head(words: &[u64; POOL_WORDS], n: u16) -> u64
     ensures { λ r. ⌜ r ≡ headOf (stmtAt (now (words .entry)) n) ⌝ }
 {
-    let k = kind(words, n);
-    let o = origin(words, n);
-    let t = at(words, n);
-    k + o * 256 + t as u64 * 65536
+    head_word(words, n) % 281474976710656
 }
 
 pub fn view(words: &[u64; POOL_WORDS], n: u16) -> u32
     ensures { λ r. ⌜ viewOf r ≡ stmtAt (now (words .entry)) n .view ⌝ }
 {
-    view_word(words, n, 3)
+    low_view(field(words, n, 512))
 }
 
 // How many views statement n has.
 pub fn count(words: &[u64; POOL_WORDS], n: u16) -> usize
     ensures { λ r. ⌜ (r ≡ countOf (now (words .entry)) n) × (r ≤ 16) ⌝ }
 {
-    let w = word_at(words, n, 8);
+    let w = head_word(words, n) / 281474976710656 % 256;
     capped(w, 16) as usize
 }
 
@@ -139,7 +140,7 @@ pub fn nth(words: &[u64; POOL_WORDS], n: u16, p: usize) -> u32
     requires { ⌜ p < 16 ⌝ }
     ensures { λ r. ⌜ viewOf r ≡ viewAt (now (words .entry)) n p ⌝ }
 {
-    view_word(words, n, 9 + p)
+    low_view(words[2048 + slot(n) * 16 + p])
 }
 
 // How many statements a record of length len has.
@@ -156,6 +157,6 @@ pub fn limit(len: usize) -> usize
 pub fn pool_len(words: &[u64; POOL_WORDS]) -> usize
     ensures { λ r. ⌜ (r ≡ poolLen (now (words .entry))) × (r ≤ 512) ⌝ }
 {
-    let w = words[16384];
+    let w = words[10240];
     capped(w, 512) as usize
 }

@@ -1,5 +1,6 @@
 // Where a statement is in the pool, and one more at its end.
 ghost use mathlib.Core.Path.{_≡_};
+ghost use Prim.Native.Nat.{_<_};
 ghost use Rattle.protocol.specs.History.{sameViews};
 ghost use Rattle.protocol.specs.Statement.{sameStmt};
 ghost use Rattle.statements.specs.Meaning.{firstViews, stmtOf};
@@ -35,7 +36,7 @@ fn same_history(words: &[u64; POOL_WORDS], n: u16, h: History) -> bool
 
 // Kind, origin and at of st in one number.
 pub fn head_of(st: Statement) -> u64
-    ensures { λ r. ⌜ r ≡ headOf (stmtOf st) ⌝ }
+    ensures { λ r. ⌜ (r ≡ headOf (stmtOf st)) × (r < 281474976710656) ⌝ }
 {
     let t = st.at;
     st.kind as u64 + st.origin as u64 * 256 + t.word() as u64 * 65536
@@ -109,6 +110,6 @@ pub fn append(words: &mut [u64; POOL_WORDS], st: Statement) -> Placed
         return Placed::Full;
     }
     write::put(words, n as u16, st);
-    words[16384] = n as u64 + 1;
+    words[10240] = n as u64 + 1;
     Placed::At(n as u16)
 }

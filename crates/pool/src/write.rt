@@ -4,9 +4,10 @@ ghost use Prim.Native.Nat.{_+_, _≤_, min};
 ghost use lib.ListN.{length};
 ghost use Rattle.statements.specs.Meaning.{firstViews, bindingNumber, payloadOf, stmtOf};
 ghost use Rattle.pool.specs.Pool.{stmtAt};
-ghost use Rattle.pool.specs.Changes.{Put, WroteViews};
+ghost use Rattle.pool.specs.Changes.{IsHead, Put, WroteViews};
 use crate::POOL_WORDS;
 use crate::read;
+use crate::seek;
 use statements::Binding;
 use statements::Statement;
 use views::History;
@@ -14,7 +15,7 @@ use views::View;
 
 // The views of h from word s on.
 fn put_views(words: &mut [u64; POOL_WORDS], s: usize, h: History)
-    requires { ⌜ (length (now words) ≡ 16385) × (s + 16 ≤ 16384) ⌝ }
+    requires { ⌜ (length (now words) ≡ 10241) × (s + 16 ≤ 10240) ⌝ }
     ensures { λ r. ⌜ WroteViews (now (words .entry)) (now (words .exit)) s h ⌝ }
 {
     let n = h.count();
@@ -27,25 +28,31 @@ fn put_views(words: &mut [u64; POOL_WORDS], s: usize, h: History)
     }
 }
 
+// The head of st. Of more than 16 views it counts 16.
+fn head_word(st: Statement) -> u64
+    ensures { λ r. ⌜ IsHead r (stmtOf st) (min (st .history .len) 16) ⌝ }
+{
+    let h = st.history;
+    let key = seek::head_of(st);
+    let c = h.count() as u64;
+    let b = statements::binding_number(st);
+    let f = read::flag(st.stored);
+    key + c * 281474976710656 + b * 72057594037927936 + f * 1152921504606846976
+}
+
 // Statement n is st from now on. Where st has more than 16 views, only 16 are kept.
 pub fn put(words: &mut [u64; POOL_WORDS], n: u16, st: Statement)
     ensures { λ r. ⌜ Put (now (words .entry)) (now (words .exit)) n st ⌝ }
 {
     read::size(words);
-    let s = read::start(n);
-    let t = st.at;
+    let s = read::slot(n);
     let v = st.view;
     let h = st.history;
-    words[s] = st.kind as u64;
-    words[s + 1] = st.origin as u64;
-    words[s + 2] = t.word() as u64;
-    words[s + 3] = v.word() as u64;
-    words[s + 4] = statements::binding_number(st);
-    words[s + 5] = statements::payload_of(st);
-    words[s + 6] = read::flag(st.stored);
-    words[s + 7] = st.kept;
-    words[s + 8] = h.len as u64;
-    put_views(words, s + 9, h);
+    words[s] = head_word(st);
+    words[s + 512] = v.word() as u64;
+    words[s + 1024] = statements::payload_of(st);
+    words[s + 1536] = st.kept;
+    put_views(words, 2048 + s * 16, h);
 }
 
 // The binding that a number and a payload stand for.

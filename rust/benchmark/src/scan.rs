@@ -3,7 +3,7 @@
 use std::hint::black_box;
 
 use generate::Rng;
-use pekdrav::{signers, POOL_WORDS, RECORD, STRIDE};
+use pekdrav::{append, signers, POOL_WORDS, RECORD};
 use reference::{Body, Statement, View};
 
 use crate::measure::{head, measure, row};
@@ -28,14 +28,9 @@ fn record() -> Vec<Statement> {
 
 fn pool(record: &[Statement]) -> Box<[u64; POOL_WORDS]> {
     let mut words = Box::new([0; POOL_WORDS]);
-    for (statement, place) in record.iter().zip(words.chunks_mut(STRIDE)) {
-        let fields = statement.fields();
-        place[0] = u64::from(fields.kind);
-        place[1] = u64::from(fields.origin);
-        place[2] = u64::from(word(fields.at));
-        place[5] = fields.payload;
+    for (place, statement) in record.iter().enumerate() {
+        assert_eq!(append(&mut words, &statement.write()), Ok(place as u16), "a statement is in the pool twice");
     }
-    words[POOL_WORDS - 1] = record.len() as u64;
     words
 }
 

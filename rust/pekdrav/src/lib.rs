@@ -7,11 +7,8 @@ mod rows;
 
 pub use rows::{run, run_into, ROWS_MAX};
 
-/// The words of a pool: 512 statements of 32 words, and the number of statements.
-pub const POOL_WORDS: usize = 16_385;
-
-/// The words of one statement of a pool.
-pub const STRIDE: usize = 32;
+/// The words of a pool: 512 statements of 20 words, and the number of statements.
+pub const POOL_WORDS: usize = 10_241;
 
 /// The longest record.
 pub const RECORD: usize = 512;

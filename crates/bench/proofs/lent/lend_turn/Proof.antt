@@ -62,7 +62,7 @@ use Rattle.bench.proofs.lent.lend_turn.Statement as stated
 use Rattle.bench.proofs.lent.lend_turn.Code as code
 
 abbrev PoolS : Slot 1
-PoolS = ArrayOf (plain (λ _. u64)) (λ κs. tt) 16385
+PoolS = ArrayOf (plain (λ _. u64)) (λ κs. tt) 10241
 
 abbrev stayed : Stays (lend-turn.ended .signature .params) (lend-turn.ended .kept)
 stayed = (stay-none (λ _. R) yes, (gave-ref (0 ∷ []) tt PoolS, tt))

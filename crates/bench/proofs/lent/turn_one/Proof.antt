@@ -63,7 +63,7 @@ abbrev CtlS : Slot 2
 CtlS = plain (λ _. CT.the-row)
 
 abbrev PoolS : Slot 2
-PoolS = ArrayOf (plain (λ _. u64)) (λ κs. tt) 16385
+PoolS = ArrayOf (plain (λ _. u64)) (λ κs. tt) 10241
 
 abbrev stayed : Stays (turn-one.ended .signature .params) (turn-one.ended .kept)
 stayed = (stay-ref (0 ∷ []) tt CtlS, (gave-ref (1 ∷ []) tt PoolS, tt))

@@ -20,7 +20,7 @@ new-requires c κs = search needs
 
 -- src/run.rt:134:5
 loop-holds : tie.Need-loop-holds Inv-loop μ-loop
-loop-holds c = (kept-first _ (c .new .ensures) 16 16385 refl refl, going-first _ (c .new .ensures) 16 16385 refl refl _ _)
+loop-holds c = (kept-first _ (c .new .ensures) 16 10241 refl refl, going-first _ (c .new .ensures) 16 10241 refl refl _ _)
 
 -- src/run.rt:135:36
 sub-read-line : tie.Need-sub-read-line Inv-loop μ-loop

@@ -38,7 +38,7 @@ holds-spec =
     (λ c κs. search needs)
     (λ c. search needs)
     (λ c. search needs)
-    (λ c. (omega arith, none-next _ _ _ _ (omega (arith, c .before .before .before .before .before .before .limit .ensures .1)) (c .before .before .before .before .loop .inv .1) (heads-differ _ _ _ _ (c .before .head .ensures) (c .before .before .before .before .before .head-of .ensures) (c .if1 .taken))))
+    (λ c. (omega arith, none-next _ _ _ _ (omega (arith, c .before .before .before .before .before .before .limit .ensures .1)) (c .before .before .before .before .loop .inv .1) (heads-differ _ _ _ _ (c .before .head .ensures) (c .before .before .before .before .before .head-of .ensures .0) (c .if1 .taken))))
     (λ c κs. search needs)
     (λ c. sym (found _ _ _ _ _ (omega (arith, c .before .before .before .before .before .before .before .before .limit .ensures .0)) (sym (c .before .same-at .ensures) ∙ c .if2 .taken)))
     (λ c. search needs)

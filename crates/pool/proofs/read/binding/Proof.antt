@@ -1,6 +1,6 @@
 use native.Mathlib.Omega.{arith}
 use mathlib.Core.Path.{ap, _∙_}
-use Prim.Native.Nat.{min}
+use Prim.Native.Nat.{_/_, _%_, min}
 use Rattle.pool.specs.Pool.{stmtAt}
 use borrow.Author.Needs.{needs}
 use Rattle.pool.proofs.read.binding.Statement.{statement}
@@ -8,12 +8,12 @@ use Rattle.pool.proofs.read.binding.Tie as tie
 use Rattle.pool.proofs.read.binding.Reads as reads
 use Rattle.pool.proofs.read.binding.Lts as lts
 use Rattle.pool.proofs.read.capped.Reads as capped-reads
-use Rattle.pool.proofs.read.word_at.Reads as word-at-reads
+use Rattle.pool.proofs.read.head_word.Reads as head-word-reads
 
 -- src/read.rt:63:1
 returns : tie.Need-returns
 unfolding stmtAt
-returns c = (c .capped .ensures ∙ ap (λ x. min x 2) (c .before .word-at .ensures), omega (arith, c .capped .ensures))
+returns c = (c .capped .ensures ∙ ap (λ x. min (x / 72057594037927936 % 16) 2) (c .before .head-word .ensures), omega (arith, c .capped .ensures))
 
 pub binding-spec : {M : Type 1} → statement M
 binding-spec = tie.close (tie.spec (λ c κs. search needs) (λ c κs. search needs) returns)

@@ -5,12 +5,12 @@ use Rattle.pool.proofs.read.kept.Statement.{statement}
 use Rattle.pool.proofs.read.kept.Tie as tie
 use Rattle.pool.proofs.read.kept.Reads as reads
 use Rattle.pool.proofs.read.kept.Lts as lts
-use Rattle.pool.proofs.read.word_at.Reads as word-at-reads
+use Rattle.pool.proofs.read.field.Reads as field-reads
 
 -- src/read.rt:47:1
 returns : tie.Need-returns
 unfolding stmtAt
-returns c = c .word-at .ensures
+returns c = c .field .ensures
 
 pub kept-spec : {M : Type 1} → statement M
 kept-spec = tie.close (tie.spec (λ c κs. search needs) returns)

@@ -7,12 +7,12 @@ use Rattle.pool.proofs.read.kind.Statement.{statement}
 use Rattle.pool.proofs.read.kind.Tie as tie
 use Rattle.pool.proofs.read.kind.Reads as reads
 use Rattle.pool.proofs.read.kind.Lts as lts
-use Rattle.pool.proofs.read.word_at.Reads as word-at-reads
+use Rattle.pool.proofs.read.head_word.Reads as head-word-reads
 
 -- src/read.rt:29:1
 returns : tie.Need-returns
 unfolding stmtAt
-returns c = (ap (λ x. x % 256) (c .word-at .ensures), omega arith)
+returns c = (ap (λ x. x % 256) (c .head-word .ensures), omega arith)
 
 pub kind-spec : {M : Type 1} → statement M
 kind-spec = tie.close (tie.spec (λ c κs. search needs) returns)

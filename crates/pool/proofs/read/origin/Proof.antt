@@ -1,18 +1,18 @@
 use native.Mathlib.Omega.{arith}
 use mathlib.Core.Path.{ap}
-use Prim.Native.Nat.{_%_}
+use Prim.Native.Nat.{_/_, _%_}
 use Rattle.pool.specs.Pool.{stmtAt}
 use borrow.Author.Needs.{needs}
 use Rattle.pool.proofs.read.origin.Statement.{statement}
 use Rattle.pool.proofs.read.origin.Tie as tie
 use Rattle.pool.proofs.read.origin.Reads as reads
 use Rattle.pool.proofs.read.origin.Lts as lts
-use Rattle.pool.proofs.read.word_at.Reads as word-at-reads
+use Rattle.pool.proofs.read.head_word.Reads as head-word-reads
 
 -- src/read.rt:35:1
 returns : tie.Need-returns
 unfolding stmtAt
-returns c = (ap (λ x. x % 256) (c .word-at .ensures), omega arith)
+returns c = (ap (λ x. x / 256 % 256) (c .head-word .ensures), omega arith)
 
 pub origin-spec : {M : Type 1} → statement M
 origin-spec = tie.close (tie.spec (λ c κs. search needs) returns)

@@ -5,12 +5,12 @@ use Rattle.pool.proofs.read.payload.Statement.{statement}
 use Rattle.pool.proofs.read.payload.Tie as tie
 use Rattle.pool.proofs.read.payload.Reads as reads
 use Rattle.pool.proofs.read.payload.Lts as lts
-use Rattle.pool.proofs.read.word_at.Reads as word-at-reads
+use Rattle.pool.proofs.read.field.Reads as field-reads
 
 -- src/read.rt:41:1
 returns : tie.Need-returns
 unfolding stmtAt
-returns c = c .word-at .ensures
+returns c = c .field .ensures
 
 pub payload-spec : {M : Type 1} → statement M
 payload-spec = tie.close (tie.spec (λ c κs. search needs) returns)

@@ -34,7 +34,7 @@ find-spec =
     (λ c κs. search needs)
     (λ c. search needs)
     (λ c. search needs)
-    (λ c. (omega arith, seek-more _ _ _ false (c .before .before .before .loop .inv .1) (sym (heads-differ _ _ _ _ (c .before .head .ensures) (c .before .before .before .before .head-of .ensures) (c .if1 .taken))) refl))
+    (λ c. (omega arith, seek-more _ _ _ false (c .before .before .before .loop .inv .1) (sym (heads-differ _ _ _ _ (c .before .head .ensures) (c .before .before .before .before .head-of .ensures .0) (c .if1 .taken))) refl))
     (λ c. search needs)
     (λ c κs. search needs)
     (λ c. search needs)

@@ -12,7 +12,7 @@ use Rattle.views.proofs.View.word.Reads as word-reads
 -- src/seek.rt:37:1
 returns : tie.Need-returns
 unfolding stmtOf
-returns c = head-is _ _ _ _ refl refl (omega arith) (c .word .ensures)
+returns c = (head-is _ _ _ _ refl refl (omega arith) (c .word .ensures), omega arith)
 
 pub head-of-spec : {M : Type 1} → statement M
 head-of-spec =
