@@ -1,7 +1,7 @@
 -- What the ways in which a turn ends come to.
 -- Assumes nothing.
 use mathlib.Core.Path.{_≡_, refl, sym, ap, ap₂, subst, _∙_}
-use mathlib.Core.Bool.{Bool, true, false, not}
+use mathlib.Core.Bool.{Bool, true, false}
 use mathlib.Core.List.{List, [], _∷_, _++_}
 use mathlib.Core.Option.{Option, some, none}
 use Prim.Native.Nat.{ℕ, _≤_}
@@ -25,17 +25,20 @@ use Rattle.statements.specs.Meaning.{stmtOf, bindingIs}
 use Rattle.statements.proofs.FieldLaws.{views-length}
 use Rattle.statements.proofs.Fits.{keeps-fits}
 use Rattle.pool.specs.declared.Record.{Record}
+use Rattle.pool.specs.declared.Placed.{Placed as Answered}
+use Rattle.pool.specs.declared.Placed.the-variants.{At, Full}
 use Rattle.pool.specs.Pool.{stmtAt, recordOf}
+use Rattle.pool.specs.Changes.{Pushed}
 use Rattle.engine.specs.declared.Controller.{Controller}
 use Rattle.engine.specs.declared.Outcome.{Outcome}
-use Rattle.engine.specs.declared.keep.Kept.{Kept}
 use Rattle.engine.specs.declared.Deed.{Deed}
 use Rattle.engine.specs.declared.Deed.the-variants.{Rest, Sign, Bind, Enter, Deliver}
 use Rattle.engine.specs.declared.Answer.the-variants.{Taken, Signed, Entered, Delivered, Refused}
 use Rattle.engine.specs.declared.Refusal.{Refusal}
-use Rattle.engine.specs.declared.Refusal.the-variants.{BadStatement, Repeated, Full, OutOfPlace}
+use Rattle.engine.specs.declared.Refusal.the-variants as refused
 use Rattle.engine.specs.Meaning.{controllerIs, withStatements, recordIs, poolIs, AllIn, Whole, answerIs, refusalIs, stepIs}
-use Rattle.engine.specs.Promise.{Meets, IsRefused, Turns, Adds, Placed, restIs, signedOf, addedOf}
+use Rattle.engine.specs.Promise.{Meets, IsRefused, Turns, Adds, Placed, Numbered, restIs, signedOf, addedOf}
+use Rattle.engine.proofs.Keeps.{is-full, not-full, all-in, record-more}
 
 -- ---- the controller's fields
 
@@ -65,9 +68,9 @@ refused-turn W c r q e h =
 
 -- ---- a statement is signed
 
--- the controller with another binding
-abbrev pub boundTo : Controller → Binding → Controller
-boundTo c b = record {
+-- the controller with another binding and another record
+abbrev pub boundTo : Controller → Binding → Record → Controller
+boundTo c b more = record {
   ready = c .ready;
   number = c .number;
   init = c .init;
@@ -78,46 +81,35 @@ boundTo c b = record {
   joining = c .joining;
   leaving = c .leaving;
   sending = c .sending;
-  statements = c .statements;
+  statements = more;
 }
 
-is-full : (b ok : Bool) → ok ≡ not b → ok ≡ false → b ≡ true
-is-full true ok e f = refl
-is-full false ok e f = absurd (subst T (sym e ∙ f) tt)
+module _ (W W′ : List ℕ) (c : Controller) (s : Stmt) (x : Answered) (p : Placed W (c .statements .len) s x W′) (e : x ≡ Full) where
+  pub full-is : call.isFull (hasRoom (poolIs W)) (recordIs W c) s ≡ true
+  full-is = is-full W c s (p .full e .0)
 
-not-full : (b ok : Bool) → ok ≡ not b → ok ≡ true → b ≡ false
-not-full true ok e f = absurd (subst T (sym f ∙ e) tt)
-not-full false ok e f = refl
-
-module _ (W W′ : List ℕ) (c : Controller) (s : Stmt) (k : Kept) (p : Placed W c s k W′) where
-  pub full-is : k .ok ≡ false → call.isFull (hasRoom (poolIs W)) (recordIs W c) s ≡ true
-  full-is e = is-full (call.isFull (hasRoom (poolIs W)) (recordIs W c) s) (k .ok) (p .room) e
-
-  pub room-is : k .ok ≡ true → call.isFull (hasRoom (poolIs W)) (recordIs W c) s ≡ false
-  room-is e = not-full (call.isFull (hasRoom (poolIs W)) (recordIs W c) s) (k .ok) (p .room) e
-
-  pub sign-full : (after : controller.Controller) (r : Outcome) → k .ok ≡ false → r .answer ≡ Refused Full → r .controller ≡ c
+  pub sign-full : (after : controller.Controller) (r : Outcome) → r .answer ≡ Refused refused.Full → r .controller ≡ c
       → Turns W c (turn.signing (controllerIs c) (recordIs W c) (hasRoom (poolIs W)) after s) r W′
   unfolding turn.signing
-  sign-full after r e a h = rw (full-is e) (subst (λ (U : List ℕ). Meets W c (call.refuse (controllerIs c) (recordIs W c) controller.full) none r U) (sym (p .unplaced e)) (refused-turn W c r Full a h))
+  sign-full after r a h =
+      rw full-is (subst (λ (U : List ℕ). Meets W c (call.refuse (controllerIs c) (recordIs W c) controller.full) none r U) (sym (p .full e .1)) (refused-turn W c r refused.Full a h))
 
-  kept-meaning : k .ok ≡ true → controllerIs (k .controller) ≡ controllerIs c
-  unfolding controllerIs
-  kept-meaning e = ap controllerIs (p .controller e)
+module _ (W W′ : List ℕ) (c : Controller) (s : Stmt) (x : Answered) (n : ℕ) (p : Placed W (c .statements .len) s x W′) (e : x ≡ At n) where
+  numbered : Numbered W (c .statements .len) s n W′
+  numbered = p .at n e
 
-  bound-meaning : (b : Binding) → k .ok ≡ true → controllerIs (boundTo (k .controller) b) ≡ controller.withBinding (bindingIs b) (controllerIs c)
-  unfolding controllerIs
-  bound-meaning b e = ap (λ x. controller.withBinding (bindingIs b) x) (kept-meaning e)
+  pub room-is : call.isFull (hasRoom (poolIs W)) (recordIs W c) s ≡ false
+  room-is = not-full W c s (numbered .short) (numbered .room)
 
-  pub sign-kept : (b : Binding) (r : Outcome) → k .ok ≡ true → r .answer ≡ Signed (k .number) → r .controller ≡ boundTo (k .controller) b
-      → Turns W c (turn.signing (controllerIs c) (recordIs W c) (hasRoom (poolIs W)) (controller.withBinding (bindingIs b) (controllerIs c)) s) r W′
-  unfolding turn.signing answerIs Whole recordIs
-  sign-kept b r e a h = rw (room-is e) (record {
-    answer = ap (answerIs W′) a ∙ ap controller.signed (p .number e .1);
-    number = λ x q. let y : s ≡ x = cc in a ∙ ap Signed (p .number e .0 ∙ ap (λ z. numberOf z (poolIs W)) y);
-    controller = ap controllerIs h ∙ bound-meaning b e;
-    statements = λ w. let (q, i) = p .statements e w in (ap (recordIs W′) h ∙ q, subst (λ (x : Controller). AllIn W′ (x .statements)) (sym h) i);
-    pool = p .pool e;
+  pub sign-kept : (b : Binding) (more : Record) → Pushed (c .statements) n more
+      → Turns W c (turn.signing (controllerIs c) (recordIs W c) (hasRoom (poolIs W)) (controller.withBinding (bindingIs b) (controllerIs c)) s) (record { answer = Signed n; controller = boundTo c b more }) W′
+  unfolding turn.signing answerIs Whole recordIs controllerIs
+  sign-kept b more q = rw room-is (record {
+    answer = ap controller.signed (numbered .is);
+    number = λ z h. let y : s ≡ z = cc in ap Signed (numbered .number ∙ ap (λ t. numberOf t (poolIs W)) y);
+    controller = refl;
+    statements = λ w. (record-more c numbered q w, all-in c numbered q w);
+    pool = numbered .pool;
     refused = λ t. absurd t;
   })
 
@@ -209,25 +201,26 @@ module _ (W : List ℕ) (c : Controller) (s : Stmt) where
   pub add-refused : (r : Outcome) (q : Refusal) → added ≡ call.refuse (controllerIs c) (recordIs W c) (refusalIs q) → r .answer ≡ Refused q → r .controller ≡ c → Adds W c s added r W
   add-refused r q e a h = subst (λ o. Adds W c s o r W) (sym e) (refused-turn W c r q a h)
 
-module _ (W W′ : List ℕ) (c : Controller) (s : Stmt) (x : Kept) (pl : Placed W c s x W′) where
-  pub add-full : (r : Outcome) → added W c s ≡ call.refuse (controllerIs c) (recordIs W c) controller.full → x .ok ≡ false → r .answer ≡ Refused Full → r .controller ≡ c → Adds W c s (added W c s) r W′
-  add-full r e n a h = subst (λ (U : List ℕ). Adds W c s (added W c s) r U) (sym (pl .unplaced n)) (add-refused W c s r Full e a h)
+pub add-full : (W W′ : List ℕ) (c : Controller) (s : Stmt) (x : Answered) (r : Outcome) → Placed W (c .statements .len) s x W′ → x ≡ Full → added W c s ≡ call.refuse (controllerIs c) (recordIs W c) controller.full
+    → r .answer ≡ Refused refused.Full → r .controller ≡ c → Adds W c s (added W c s) r W′
+add-full W W′ c s x r p f e a h = subst (λ (U : List ℕ). Adds W c s (added W c s) r U) (sym (p .full f .1)) (add-refused W c s r refused.Full e a h)
 
-  taken-meets : (r : Outcome) → x .ok ≡ true → r .answer ≡ Taken → r .controller ≡ x .controller
+module _ (W W′ : List ℕ) (c : Controller) (s : Stmt) (n : ℕ) (k : Numbered W (c .statements .len) s n W′) (more : Record) (q : Pushed (c .statements) n more) where
+  taken-meets : (r : Outcome) → r .answer ≡ Taken → r .controller ≡ withStatements c more
       → Meets W c (record { answer = controller.taken; controller = controllerIs c; statements = recordIs W c ++ (s ∷ []) }) (some s) r W′
-  unfolding answerIs Whole recordIs
-  taken-meets r n a h = record {
+  unfolding answerIs Whole recordIs controllerIs
+  taken-meets r a h = record {
     answer = ap (answerIs W′) a;
     number = λ y z. let t : _≡_ {A = ℕ} 0 1 = cc in absurd (omega arith);
-    controller = ap controllerIs h ∙ kept-meaning W W′ c s x pl n;
-    statements = λ w. let (t, i) = pl .statements n w in (ap (recordIs W′) h ∙ t, subst (λ (y : Controller). AllIn W′ (y .statements)) (sym h) i);
-    pool = pl .pool n;
+    controller = ap controllerIs h;
+    statements = λ w. (ap (recordIs W′) h ∙ record-more c k q w, subst (λ (y : Controller). AllIn W′ (y .statements)) (sym h) (all-in c k q w));
+    pool = k .pool;
     refused = λ t. absurd t;
   }
 
   pub add-kept : (r : Outcome) → added W c s ≡ record { answer = controller.taken; controller = controllerIs c; statements = recordIs W c ++ (s ∷ []) }
-      → x .ok ≡ true → r .answer ≡ Taken → r .controller ≡ x .controller → Adds W c s (added W c s) r W′
-  add-kept r e n a h = subst (λ o. Adds W c s o r W′) (sym e) (taken-meets r n a h)
+      → r .answer ≡ Taken → r .controller ≡ withStatements c more → Adds W c s (added W c s) r W′
+  add-kept r e a h = subst (λ o. Adds W c s o r W′) (sym e) (taken-meets r a h)
 
 pub short-by-rules : (st : Statement) (b : Bool) → b ≡ fieldRules 16 (stmtOf st) → b ≡ true → st .history .len ≤ 16
 unfolding stmtOf

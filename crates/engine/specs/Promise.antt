@@ -1,22 +1,22 @@
 -- What every call promises: its answer, the whole controller and record after it, and the pool.
 -- Assumes nothing.
 use mathlib.Core.Path.{_≡_}
-use mathlib.Core.Bool.{Bool, true, false, not}
-use mathlib.Core.List.{List, [], _∷_, _++_}
+use mathlib.Core.Logic.{_⊎_}
+use mathlib.Core.Bool.{Bool, true, false}
+use mathlib.Core.List.{List}
 use mathlib.Core.Option.{Option, some, none}
-use Prim.Native.Nat.{ℕ}
+use Prim.Native.Nat.{ℕ, _≤_, _<_}
 use Rattle.protocol.specs.Statement.{Stmt}
 use Rattle.protocol.specs.Controller as controller
-use Rattle.protocol.specs.Call.{isFull}
 use Rattle.protocol.specs.Pool.{numberOf, pooled, hasRoom}
 use Rattle.engine.specs.declared.Controller.{Controller}
-use Rattle.pool.specs.Pool.{stmtAt}
-use Rattle.pool.specs.Changes.{Pushed}
+use Rattle.pool.specs.declared.Placed as placing
+use Rattle.pool.specs.declared.Placed.the-variants.{At, Full}
+use Rattle.pool.specs.Pool.{stmtAt, poolLen}
 use Rattle.engine.specs.declared.Outcome.{Outcome}
-use Rattle.engine.specs.declared.keep.Kept.{Kept}
 use Rattle.engine.specs.declared.Answer.{Answer}
 use Rattle.engine.specs.declared.Answer.the-variants.{Signed, Left, Quiet}
-use Rattle.engine.specs.Meaning.{controllerIs, withStatements, recordIs, poolIs, Whole, answerIs}
+use Rattle.engine.specs.Meaning.{controllerIs, recordIs, poolIs, Whole, answerIs}
 
 -- The pool after a statement went into it, or none did.
 abbrev pub PoolAfter : List ℕ → Option Stmt → List ℕ → Type 0
@@ -58,21 +58,21 @@ pub record Meets (W : List ℕ) (c : Controller) (o : controller.Outcome) (p : O
 unfoldable pub Calls : (List Stmt → controller.Outcome) → Controller → Outcome → Type 0
 Calls f c r = (W : List ℕ) → Meets W c (f (recordIs W c)) none r W
 
--- st went into the pool W and to the end of the record of c, or there was no room and nothing changed. Only the record of the controller differs.
-pub record Placed (W : List ℕ) (c : Controller) (s : Stmt) (r : Kept) (W′ : List ℕ) : Type 0 where
-  pub room : r .ok ≡ not (isFull (hasRoom (poolIs W)) (recordIs W c) s)
-  pub unplaced : r .ok ≡ false → W′ ≡ W
-  pub controller : r .ok ≡ true → r .controller ≡ withStatements c (r .controller .statements)
-  pub pool : r .ok ≡ true → poolIs W′ ≡ pooled s (poolIs W)
-  pub number : r .ok ≡ true → (r .number ≡ numberOf s (poolIs W)) × (stmtAt W′ (r .number) ≡ s)
-  pub statements : r .ok ≡ true → Whole W c → (recordIs W′ (r .controller) ≡ recordIs W c ++ (s ∷ [])) × Whole W′ (r .controller)
+-- Statement n of the pool W′ is s, the pool is W with s, and it had room for s, as has a record of this length.
+pub record Numbered (W : List ℕ) (len : ℕ) (s : Stmt) (n : ℕ) (W′ : List ℕ) : Type 0 where
+  pub short : len < 512
+  pub room : hasRoom (poolIs W) s ≡ true
+  pub number : n ≡ numberOf s (poolIs W)
+  pub is : stmtAt W′ n ≡ s
+  pub pool : poolIs W′ ≡ pooled s (poolIs W)
+  pub more : poolLen W ≤ poolLen W′
+  pub within : n < poolLen W′
+  pub same : (m : ℕ) → m < poolLen W → stmtAt W′ m ≡ stmtAt W m
 
--- The number n went to the end of the record of c.
-pub record Numbered (c : Controller) (n : ℕ) (r : Kept) : Type 0 where
-  pub ok : r .ok ≡ true
-  pub number : r .number ≡ n
-  pub controller : r .controller ≡ withStatements c (r .controller .statements)
-  pub pushed : Pushed (c .statements) n (r .controller .statements)
+-- s went into the pool W under the number that r tells; or a record of this length, or the pool, had no room, and nothing changed.
+pub record Placed (W : List ℕ) (len : ℕ) (s : Stmt) (r : placing.Placed) (W′ : List ℕ) : Type 0 where
+  pub full : r ≡ Full → ((512 ≤ len) ⊎ (hasRoom (poolIs W) s ≡ false)) × (W′ ≡ W)
+  pub at : (n : ℕ) → r ≡ At n → Numbered W len s n W′
 
 -- A turn: what it signs goes into the pool.
 abbrev pub Turns : List ℕ → Controller → controller.Outcome → Outcome → List ℕ → Type 0

@@ -27,11 +27,14 @@ impl Controller {
         if pool::record_has(words, statements, st) {
             return calls::refuse(self, Refusal::Repeated);
         }
-        let k = keep::keep(self, words, st);
-        if !k.ok {
+        let placed = keep::place(words, statements.len, st);
+        let pool::Placed::At(n) = placed else {
             return calls::refuse(self, Refusal::Full);
-        }
-        let next = k.controller;
-        calls::take(next)
+        };
+        let more = pool::push(statements, n);
+        calls::take(Controller {
+            statements: more,
+            ..self
+        })
     }
 }

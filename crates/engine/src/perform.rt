@@ -27,14 +27,19 @@ fn sign(c: Controller, words: &mut [u64; POOL_WORDS], b: Binding, st: Statement)
     requires { ⌜ st .history .len ≤ 16 ⌝ }
     ensures { λ r. ⌜ Turns (now (words .entry)) c (protocol.signing (controllerIs c) (recordIs (now (words .entry)) c) (hasRoom (poolIs (now (words .entry)))) (withBinding (bindingIs b) (controllerIs c)) (stmtOf st)) r (now (words .exit)) ⌝ }
 {
-    let k = keep::keep(c, words, st);
-    if !k.ok {
+    let statements = c.statements;
+    let placed = keep::place(words, statements.len, st);
+    let pool::Placed::At(n) = placed else {
         return calls::refuse(c, Refusal::Full);
-    }
-    let next = k.controller;
+    };
+    let more = pool::push(statements, n);
     Outcome {
-        answer: Answer::Signed(k.number),
-        controller: Controller { binding: b, ..next },
+        answer: Answer::Signed(n),
+        controller: Controller {
+            statements: more,
+            binding: b,
+            ..c
+        },
     }
 }
 

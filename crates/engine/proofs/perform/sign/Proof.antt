@@ -1,6 +1,4 @@
 use native.Mathlib.Omega.{arith}
-use mathlib.Core.Path.{refl}
-use borrow.Author.Tests.{not-true, not-false}
 use Rattle.engine.proofs.Performs.{sign-full, sign-kept}
 use borrow.Author.Needs.{needs}
 use Rattle.engine.proofs.perform.sign.Statement.{statement}
@@ -8,11 +6,20 @@ use Rattle.engine.proofs.perform.sign.Tie as tie
 use Rattle.engine.proofs.perform.sign.Reads as reads
 use Rattle.engine.proofs.perform.sign.Lts as lts
 use Rattle.engine.proofs.calls.refuse.Reads as refuse-reads
-use Rattle.engine.proofs.keep.keep.Reads as keep-reads
+use Rattle.engine.proofs.keep.place.Reads as place-reads
+use Rattle.pool.proofs.push.Reads as push-reads
 
 -- src/perform.rt:31:9
-keep-requires : tie.Need-keep-requires
-keep-requires c κs = search needs
+place-requires : tie.Need-place-requires
+place-requires c κs = search needs
+
+-- src/perform.rt:32:26
+enum-known-placed : tie.Need-enum-known-placed
+enum-known-placed c = search needs
+
+-- src/perform.rt:33:33
+enum-told : tie.Need-enum-told
+enum-told c = search needs
 
 -- src/perform.rt:33:9
 refuse-requires : tie.Need-refuse-requires
@@ -20,11 +27,24 @@ refuse-requires c κs = search needs
 
 -- src/perform.rt:33:9
 returns : tie.Need-returns
-returns c = sign-full _ _ (c .before .before .before .before .before .args .c) _ (c .before .before .before .keep .result) (c .before .before .before .keep .ensures) _ _ (not-true _ (c .before .if1 .taken)) (c .refuse .ensures .0) (c .refuse .ensures .1)
+returns c = sign-full _ _ (c .before .before .before .before .before .before .args .c) _ (c .before .before .before .place .result) (c .before .before .before .place .ensures) (c .before .enum-told .given .1) _ _ (c .refuse .ensures .0) (c .refuse .ensures .1)
 
--- src/perform.rt:27:1
+-- src/perform.rt:35:9
+push-requires : tie.Need-push-requires
+push-requires c κs = search needs
+
+-- src/perform.rt:26:1
 returns-2 : tie.Need-returns-2
-returns-2 c = sign-kept _ _ (c .before .before .before .before .before .before .before .before .args .c) _ (c .before .before .before .before .before .before .keep .result) (c .before .before .before .before .before .before .keep .ensures) (c .before .before .before .before .before .before .before .before .args .b) _ (not-false _ (c .before .before .before .before .if1 .left)) refl refl
+returns-2 c = sign-kept _ _ (c .before .before .before .before .before .before .before .before .before .args .c) _ (c .before .before .before .before .before .before .place .result) _ (c .before .before .before .before .before .before .place .ensures) (c .before .before .before .before .placed .given .1) (c .before .before .before .before .before .before .before .before .before .args .b) (c .before .before .push .result) (c .before .before .push .ensures)
 
 pub sign-spec : {M : Type 1} → statement M
-sign-spec = tie.close (tie.spec keep-requires refuse-requires returns returns-2)
+sign-spec =
+    tie.close
+    (tie.spec
+    place-requires
+    enum-known-placed
+    enum-told
+    refuse-requires
+    returns
+    push-requires
+    returns-2)
