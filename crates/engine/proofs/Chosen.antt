@@ -6,16 +6,16 @@ use mathlib.Core.List.{List, [], _∷_, map}
 use mathlib.Core.Option.{Option, some, none}
 use Prim.Native.Nat.{ℕ}
 use Rattle.protocol.specs.Lists.{firstOf}
+use Rattle.protocol.specs.View.{Ring}
 use Rattle.protocol.specs.Statement.{Stmt}
 use Rattle.protocol.specs.Controller.{Controller}
 use Rattle.protocol.specs.Turn.{Action, rule1, rule2, rule3, rule4, rule5, rule6, rule7, rule8, rule9, rule10, firstRule}
 use Rattle.statements.specs.Meaning.{stmtOf}
-use Rattle.engine.specs.declared.Controller as held
 use Rattle.engine.specs.declared.Deed.{Deed}
 use Rattle.engine.specs.declared.Deed.the-variants.{Rest, Sign, Bind, Enter, Deliver}
 use Rattle.engine.specs.declared.Step.{Step}
 use Rattle.engine.specs.declared.rules.Sight.{Sight}
-use Rattle.engine.specs.Meaning.{controllerIs, recordIs, stepIs, actionIs}
+use Rattle.engine.specs.Meaning.{stepIs, actionIs}
 use Rattle.engine.specs.Rules.{Owns, SightOf, Rule, Does, Owned, Firsts, OwnedFirsts, Entering, Chosen, acts}
 
 acted : (a : Deed) (s : Stmt) (l : List (Option Action)) → acts a ≡ true → stepIs a s ≡ firstOf (stepIs a s ∷ l)
@@ -74,25 +74,30 @@ module _ {Y : List Stmt} {s : Sight} {rule : Rule} where
 
 -- ---- all ten
 
-module _ (W : List ℕ) (c : held.Controller) (s : Sight) (k : SightOf (controllerIs c) (recordIs W c) s) (Y : List Stmt) (o : Owns (recordIs W c) Y (s .number)) where
-  abbrev d : Controller
-  d = controllerIs c
+module _ {X Y : List Stmt} {s : Sight} (o : Owns X Y (s .number)) where
+  module _ (d : Controller) (k : SightOf d X s) where
+    first-means : {r : Step} → Owned Y s rule1 r → acts (r .deed) ≡ true → actionIs r ≡ firstRule d X
+    unfolding firstRule
+    first-means {r} m a = acted-as (r .deed) _ _ a (m .does X .means o d k)
 
-  abbrev X : List Stmt
-  X = recordIs W c
+    module _ {q : Step} (m : Owned Y s rule1 q) (a : acts (q .deed) ≡ false) where
+      passed : (l : List (Option Action)) → firstOf l ≡ firstOf (rule1 d X ∷ l)
+      passed l = skipped (rule1 d X) l (sym (m .does X .means o d k) ∙ idle (q .deed) _ a)
 
-  pub chosen-first : {r : Step} → Owned Y s rule1 r → acts (r .deed) ≡ true → Chosen W c r
-  unfolding firstRule
-  chosen-first {r} m a = record { means = acted-as (r .deed) _ _ a (m .does X .means o d k); short = m .does X .short }
+      second-means : {R : Ring} {r : Step} → Entering X R s r → d .ring ≡ R → acts (r .deed) ≡ true → actionIs r ≡ firstRule d X
+      unfolding firstRule
+      second-means {R} {r} n e b = acted-as (r .deed) _ _ b (n .means d k e) ∙ passed _
+
+      later-means : {R : Ring} {p r : Step} → Entering X R s p → d .ring ≡ R → acts (p .deed) ≡ false → Firsts X Y s (rule3 ∷ rule4 ∷ rule5 ∷ rule6 ∷ rule7 ∷ rule8 ∷ rule9 ∷ rule10 ∷ []) r → actionIs r ≡ firstRule d X
+      unfolding firstRule
+      later-means {R} {p} n e b l = l .means o d k ∙ skipped (rule2 d X) _ (sym (n .means d k e) ∙ idle (p .deed) _ b) ∙ passed _
+
+  pub chosen-first : {R : Ring} {r : Step} → Owned Y s rule1 r → acts (r .deed) ≡ true → Chosen X R s r
+  chosen-first m a = record { means = λ d k e. first-means d k m a; short = m .does X .short }
 
   module _ {q : Step} (m : Owned Y s rule1 q) (a : acts (q .deed) ≡ false) where
-    passed : (l : List (Option Action)) → firstOf l ≡ firstOf (rule1 d X ∷ l)
-    passed l = skipped (rule1 d X) l (sym (m .does X .means o d k) ∙ idle (q .deed) _ a)
+    pub chosen-second : {R : Ring} {r : Step} → Entering X R s r → acts (r .deed) ≡ true → Chosen X R s r
+    chosen-second n b = record { means = λ d k e. second-means d k m a n e b; short = n .short }
 
-    pub chosen-second : {r : Step} → Entering X (d .ring) s r → acts (r .deed) ≡ true → Chosen W c r
-    unfolding firstRule
-    chosen-second {r} n b = record { means = acted-as (r .deed) _ _ b (n .means d k refl) ∙ passed _; short = n .short }
-
-    pub chosen-later : {p r : Step} → Entering X (d .ring) s p → acts (p .deed) ≡ false → Firsts X Y s (rule3 ∷ rule4 ∷ rule5 ∷ rule6 ∷ rule7 ∷ rule8 ∷ rule9 ∷ rule10 ∷ []) r → Chosen W c r
-    unfolding firstRule
-    chosen-later {p} n b l = record { means = l .means o d k ∙ skipped (rule2 d X) _ (sym (n .means d k refl) ∙ idle (p .deed) _ b) ∙ passed _; short = l .short }
+    pub chosen-later : {R : Ring} {p r : Step} → Entering X R s p → acts (p .deed) ≡ false → Firsts X Y s (rule3 ∷ rule4 ∷ rule5 ∷ rule6 ∷ rule7 ∷ rule8 ∷ rule9 ∷ rule10 ∷ []) r → Chosen X R s r
+    chosen-later n b l = record { means = λ d k e. later-means d k m a n e b l; short = l .short }

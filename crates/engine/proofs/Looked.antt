@@ -20,7 +20,7 @@ use Rattle.protocol.proofs.Asked.{candidates-exact, greatest-holds}
 use Rattle.views.specs.declared.View as held
 use Rattle.views.specs.declared.History.{History}
 use Rattle.views.specs.Table.{table}
-use Rattle.views.specs.View.{viewOf, ring}
+use Rattle.views.specs.View.{viewOf}
 use Rattle.views.specs.Held.{viewIs, viewsIs, heldAt}
 use Rattle.views.proofs.Tables.{table-length}
 use Rattle.views.proofs.Held.{views-of}
@@ -29,10 +29,9 @@ use Rattle.evidence.specs.declared.Evidence.{Evidence}
 use Rattle.evidence.specs.Evidence.{EvidenceOf, Settled}
 use Rattle.evidence.specs.Slots.{viewsOf}
 use Rattle.engine.specs.declared.Controller.{Controller}
-use Rattle.engine.specs.declared.Step.{Step}
 use Rattle.engine.specs.declared.rules.Sight.{Sight}
-use Rattle.engine.specs.Meaning.{controllerIs, recordIs}
-use Rattle.engine.specs.Rules.{Seen, SightOf, notAbove, Looks, Entering}
+use Rattle.engine.specs.Meaning.{controllerIs}
+use Rattle.engine.specs.Rules.{SightOf, notAbove, Looks, Seen}
 
 some-in : {A : Type 0} {a : A} (l : List A) → a ∈ l → 0 < length l
 some-in [] m = absurd (List·Memᴰ·not-nil m)
@@ -61,30 +60,19 @@ pub record Looking (c : Controller) (e : Evidence) (s : Sight) : Type 0 where
   pub stands : s .stands ≡ (s .entered && all (notAbove (viewIs (s .top))) (viewsIs (c .entered)))
   pub active : s .active ≡ ltb 0 (min (c .entered .len) 16)
 
-module _ (W : List ℕ) (c : Controller) (e : Evidence) (k : Seen W c e) where
-  abbrev X : List Stmt
-  X = recordIs W c
+-- the counts of what a rule is done for
 
-  abbrev d : protocol.Controller
-  d = controllerIs c
+module _ (R : Ring) (sender : ℕ) (X : List Stmt) (e : Evidence) (k : Settled R sender X e) where
+  few-candidates : e .count ≤ 16
+  few-candidates = omega (arith, ltb-false 16 (length (candidates R X)) (sym (k .of .many (k .agree)) ∙ k .few), ap length (k .of .candidates (k .agree) (k .few)), slots-count (e .candidates) (e .count))
 
-  abbrev shown : EvidenceOf (d .ring) (c .sender) X e
-  shown = k .settled .of
-
-  agrees : e .conflict ≡ false
-  agrees = k .settled .agree
-
-  pub few-candidates : e .count ≤ 16
-  few-candidates =
-      omega (arith, ltb-false 16 (length (candidates (d .ring) X)) (sym (shown .many agrees) ∙ k .settled .few), ap length (shown .candidates agrees (k .settled .few)), slots-count (e .candidates) (e .count))
-
-  pub some-candidate : 0 < e .count
+  some-candidate : 0 < e .count
   some-candidate =
-      let m = candidates-exact (d .ring) X (d .ring .init) .1 (initial refl) in
-      omega (arith, some-in _ m, ap length (shown .candidates agrees (k .settled .few)), slots-count (e .candidates) (e .count))
+      let m = candidates-exact R X (R .init) .1 (initial refl) in
+      omega (arith, some-in _ m, ap length (k .of .candidates (k .agree) (k .few)), slots-count (e .candidates) (e .count))
 
-  sealed-greatest : Sealed (d .ring) X (viewsOf (e .greatest) (e .length))
-  sealed-greatest = rw (shown .greatest agrees) (greatest-holds (d .ring) (c .sender) X (rw (sym (shown .conflict) ∙ agrees) tt) .0)
+  sealed-greatest : Sealed R X (viewsOf (e .greatest) (e .length))
+  sealed-greatest = rw (k .of .greatest (k .agree)) (greatest-holds R sender X (rw (sym (k .of .conflict) ∙ k .agree) tt) .0)
 
   pub some-view : 0 < e .length
   some-view = omega (arith, sealed-size sealed-greatest .0, slots-count (e .greatest) (e .length))
@@ -92,39 +80,56 @@ module _ (W : List ℕ) (c : Controller) (e : Evidence) (k : Seen W c e) where
   pub few-views : e .length ≤ 16
   few-views = omega (arith, sealed-size sealed-greatest .1, slots-count (e .greatest) (e .length))
 
-  module _ (s : Sight) (l : Looking c e s) where
-    the-greatest : G d X ≡ viewsOf (e .greatest) (e .length)
-    unfolding G
-    the-greatest = sym (shown .greatest agrees)
+-- what the first rule asks of them
 
-    the-top : T d X ≡ viewIs (s .top)
-    unfolding T
-    the-top = ap (top (d .ring)) the-greatest ∙ sym (slots-top (d .ring) (e .greatest) (e .length) some-view) ∙ sym (l .top)
+module _ {X : List Stmt} {R : Ring} {e : Evidence} {s : Sight} (k : Seen X R e s) where
+  pub short-views : s .length ≤ 16
+  short-views = omega (arith, k .length, few-views R (s .sender) X e (k .settled))
 
-    has-entered : (v : View) → hasEntered d X v ≡ any (sameView v) (viewsIs (c .entered))
-    unfolding hasEntered controllerIs
-    has-entered v = refl
+  pub short-candidates : (0 < s .count) × (s .count ≤ 16)
+  short-candidates = (omega (arith, k .count, some-candidate R (s .sender) X e (k .settled)), omega (arith, k .count, few-candidates R (s .sender) X e (k .settled)))
 
-    the-entered : hasEntered d X (viewIs (s .top)) ≡ s .entered
-    the-entered = has-entered (viewIs (s .top)) ∙ sym (l .entered)
+-- ---- what the rules look at
 
-    at-the-top : (t : View) → all (λ u. not (below (d .ring .width) t u)) (d .entered) ≡ all (notAbove t) (viewsIs (c .entered))
-    unfolding controllerIs notAbove
-    at-the-top t = refl
+module _ (X : List Stmt) (c : Controller) (e : Evidence) (k : Settled (controllerIs c .ring) (c .sender) X e) (s : Sight) (l : Looking c e s) where
+  abbrev d : protocol.Controller
+  d = controllerIs c
 
-    it-stands : stands d X ≡ s .stands
-    unfolding stands
-    it-stands =
-        ap (λ t. hasEntered d X t && all (λ u. not (below (d .ring .width) t u)) (d .entered)) the-top
-        ∙ ap₂ _&&_ the-entered (at-the-top (viewIs (s .top))) ∙ sym (l .stands)
+  abbrev shown : EvidenceOf (d .ring) (c .sender) X e
+  shown = k .of
 
-    the-certificate : certificate d X ≡ when (e .certified) (e .payload)
-    unfolding certificate controllerIs
-    the-certificate = sym (shown .certificate agrees)
+  the-greatest : G d X ≡ viewsOf (e .greatest) (e .length)
+  unfolding G
+  the-greatest = sym (shown .greatest (k .agree))
 
-    some-entered : ltb 0 (length (d .entered)) ≡ s .active
-    unfolding controllerIs
-    some-entered = ap (ltb 0) (views-count (c .entered)) ∙ sym (l .active)
+  the-top : T d X ≡ viewIs (s .top)
+  unfolding T
+  the-top = ap (top (d .ring)) the-greatest ∙ sym (slots-top (d .ring) (e .greatest) (e .length) (some-view (d .ring) (c .sender) X e k)) ∙ sym (l .top)
+
+  has-entered : (v : View) → hasEntered d X v ≡ any (sameView v) (viewsIs (c .entered))
+  unfolding hasEntered controllerIs
+  has-entered v = refl
+
+  the-entered : hasEntered d X (viewIs (s .top)) ≡ s .entered
+  the-entered = has-entered (viewIs (s .top)) ∙ sym (l .entered)
+
+  at-the-top : (t : View) → all (λ u. not (below (d .ring .width) t u)) (d .entered) ≡ all (notAbove t) (viewsIs (c .entered))
+  unfolding controllerIs notAbove
+  at-the-top t = refl
+
+  it-stands : stands d X ≡ s .stands
+  unfolding stands
+  it-stands =
+      ap (λ t. hasEntered d X t && all (λ u. not (below (d .ring .width) t u)) (d .entered)) the-top
+      ∙ ap₂ _&&_ the-entered (at-the-top (viewIs (s .top))) ∙ sym (l .stands)
+
+  the-certificate : certificate d X ≡ when (e .certified) (e .payload)
+  unfolding certificate controllerIs
+  the-certificate = sym (shown .certificate (k .agree))
+
+  some-entered : ltb 0 (length (d .entered)) ≡ s .active
+  unfolding controllerIs
+  some-entered = ap (ltb 0) (views-count (c .entered)) ∙ sym (l .active)
 
 -- what `look` makes of the controller and the evidence
 abbrev pub sight : Controller → Evidence → held.View → held.View → Bool → Bool → Bool → Sight
@@ -151,9 +156,9 @@ sight c e t w active entered stands = record {
 }
 
 module _ (c : Controller) (e : Evidence) (t w : held.View) (active entered stands : Bool) (l : Looking c e (sight c e t w active entered stands)) where
-  seen : (W : List ℕ) → Seen W c e → SightOf (controllerIs c) (recordIs W c) (sight c e t w active entered stands)
+  seen : (X : List Stmt) → Settled (controllerIs c .ring) (c .sender) X e → SightOf (controllerIs c) X (sight c e t w active entered stands)
   unfolding controllerIs
-  seen W k = record {
+  seen X k = record {
     number = refl;
     width = refl;
     sender = refl;
@@ -162,15 +167,15 @@ module _ (c : Controller) (e : Evidence) (t w : held.View) (active entered stand
     joining = refl;
     leaving = refl;
     sending = refl;
-    active = some-entered W c e k _ l;
-    entered = the-entered W c e k _ l;
-    stands = it-stands W c e k _ l;
-    top = the-top W c e k _ l;
-    wished = sym (k .settled .of .wished) ∙ sym (l .wished);
-    candidates = sym (k .settled .of .candidates (k .settled .agree) (k .settled .few));
-    greatest = the-greatest W c e k _ l;
-    certificate = the-certificate W c e k _ l;
-    stored = λ q. sym (k .settled .of .stored (k .settled .agree) q);
+    active = some-entered X c e k _ l;
+    entered = the-entered X c e k _ l;
+    stands = it-stands X c e k _ l;
+    top = the-top X c e k _ l;
+    wished = sym (k .of .wished) ∙ sym (l .wished);
+    candidates = sym (k .of .candidates (k .agree) (k .few));
+    greatest = the-greatest X c e k _ l;
+    certificate = the-certificate X c e k _ l;
+    stored = λ q. sym (k .of .stored (k .agree) q);
   }
 
   pub looked : Looks c e (sight c e t w active entered stands)
@@ -185,25 +190,3 @@ module _ (t u : View) (b : Bool) (e : b ≡ below 16 t u) where
   pub level : b ≡ false → notAbove t u ≡ true
   unfolding notAbove
   level f = ap not (sym e ∙ f)
-
--- ---- the ring by the word of the initial view
-
-module _ (c : Controller) (w : ℕ) (is : viewOf w ≡ viewIs (c .init)) where
-  ring-of : ring w ≡ controllerIs c .ring
-  unfolding controllerIs
-  ring-of i = record { width = 16; init = is i }
-
-  pub settled-word : {W : List ℕ} {e : Evidence} {s : Sight} → Looks c e s → Seen W c e → Settled (ring w) (s .sender) (recordIs W c) e
-  settled-word {W} {e} l k = rw (ring-of, l .sender) (k .settled)
-
-  pub entering-word : {X : List Stmt} {s : Sight} {r : Step} → Entering X (ring w) s r → Entering X (controllerIs c .ring) s r
-  entering-word n = record { means = λ d k q. n .means d k (q ∙ sym ring-of); short = n .short }
-
--- what the first rule asks of the counts
-
-module _ {W : List ℕ} {c : Controller} {e : Evidence} {s : Sight} (l : Looks c e s) (k : Seen W c e) where
-  pub short-views : s .length ≤ 16
-  short-views = omega (arith, l .length, few-views W c e k)
-
-  pub short-candidates : (0 < s .count) × (s .count ≤ 16)
-  short-candidates = (omega (arith, l .count, some-candidate W c e k), omega (arith, l .count, few-candidates W c e k))

@@ -1,9 +1,9 @@
 -- What the ways in which a turn ends come to.
 -- Assumes nothing.
-use mathlib.Core.Path.{_≡_, refl, sym, ap, ap₂, subst, _∙_}
+use mathlib.Core.Path.{_≡_, refl, sym, ap, subst, _∙_}
 use mathlib.Core.Bool.{Bool, true, false}
 use mathlib.Core.List.{List, [], _∷_, _++_}
-use mathlib.Core.Option.{Option, some, none}
+use mathlib.Core.Option.{some, none}
 use Prim.Native.Nat.{ℕ, _≤_}
 use native.Mathlib.Omega.{arith}
 use lib.Dec.{T}
@@ -27,7 +27,7 @@ use Rattle.statements.proofs.Fits.{keeps-fits}
 use Rattle.pool.specs.declared.Record.{Record}
 use Rattle.pool.specs.declared.Placed.{Placed as Answered}
 use Rattle.pool.specs.declared.Placed.the-variants.{At, Full}
-use Rattle.pool.specs.Pool.{stmtAt, recordOf}
+use Rattle.pool.specs.Pool.{recordOf}
 use Rattle.pool.specs.Changes.{Pushed}
 use Rattle.engine.specs.declared.Controller.{Controller}
 use Rattle.engine.specs.declared.Outcome.{Outcome}
@@ -37,7 +37,7 @@ use Rattle.engine.specs.declared.Answer.the-variants.{Taken, Signed, Ent
 use Rattle.engine.specs.declared.Refusal.{Refusal}
 use Rattle.engine.specs.declared.Refusal.the-variants as refused
 use Rattle.engine.specs.Meaning.{controllerIs, withStatements, recordIs, poolIs, AllIn, Whole, answerIs, refusalIs, stepIs}
-use Rattle.engine.specs.Promise.{Meets, IsRefused, Turns, Adds, Placed, Numbered, restIs, signedOf, addedOf}
+use Rattle.engine.specs.Promise.{Meets, IsRefused, Turns, Adds, Placed, Numbered, restIs}
 use Rattle.engine.proofs.Keeps.{is-full, not-full, all-in, record-more}
 
 -- ---- the controller's fields

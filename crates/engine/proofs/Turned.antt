@@ -4,7 +4,7 @@ use mathlib.Core.Path.{_≡_, refl, sym, ap, ap₂, subst, _∙_}
 use mathlib.Core.Bool.{Bool, true, false, not}
 use mathlib.Core.List.{List}
 use mathlib.Core.Option.{Option, none}
-use Prim.Native.Nat.{ℕ}
+use Prim.Native.Nat.{ℕ, _≤_, _<_}
 use lib.Dec.{T, ltb}
 use lib.ListN.{length}
 use Rattle.protocol.specs.Sets.{bit}
@@ -24,11 +24,13 @@ use Rattle.engine.specs.declared.Controller.{Controller}
 use Rattle.engine.specs.declared.Outcome.{Outcome}
 use Rattle.engine.specs.declared.Refusal.{Refusal}
 use Rattle.engine.specs.declared.Answer.the-variants.{Refused}
+use Rattle.engine.specs.declared.Step.{Step}
 use Rattle.engine.specs.declared.rules.Sight.{Sight}
-use Rattle.engine.specs.Meaning.{controllerIs, recordIs, poolIs, refusalIs}
+use Rattle.engine.specs.Meaning.{controllerIs, recordIs, poolIs, refusalIs, actionIs}
 use Rattle.engine.specs.Promise.{Meets, Turns}
-use Rattle.engine.specs.Rules.{Seen, Looks}
+use Rattle.engine.specs.Rules.{Looks, Seen, Chosen}
 use Rattle.engine.proofs.Performs.{refused-turn}
+use Rattle.engine.proofs.Looked.{some-view, few-views}
 
 module _ (c : Controller) (X : List Stmt) (room : Stmt → Bool) where
   pub turn-unready : c .ready ≡ false → turn.turn (controllerIs c) X room ≡ call.refuse (controllerIs c) X controller.outOfPlace
@@ -65,8 +67,27 @@ module _ (W : List ℕ) (c : Controller) (w : ℕ) (e : Evidence) (v : viewOf w 
   pub many-is : (b : Bool) → e .conflict ≡ false → e .many ≡ b → ltb 16 (length (candidates (controllerIs c .ring) (recordIs W c))) ≡ b
   many-is b h k = sym (of-controller .many h) ∙ k
 
-  pub seen : e .conflict ≡ false → e .many ≡ false → Seen W c e
-  seen h k = record { settled = record { of = of-controller; agree = h; few = k } }
+  module _ (h : e .conflict ≡ false) (k : e .many ≡ false) where
+    settled : Settled (controllerIs c .ring) (c .sender) (recordIs W c) e
+    settled = record { of = of-controller; agree = h; few = k }
+
+    -- what `look` asks of the evidence
+    pub looking : (0 < e .length) × (e .length ≤ 16)
+    looking = (some-view _ _ _ e settled, few-views _ _ _ e settled)
+
+    module _ (s : Sight) (l : Looks c e s) where
+      -- what the first rule asks
+      pub seen : Seen (recordOf W (c .statements .ids) (c .statements .len)) (ring w) e s
+      seen = record { settled = rw (l .sender) (record { of = o; agree = h; few = k }); count = l .count; length = l .length }
+
+      -- what it promises, of this controller
+      pub chosen : {r : Step} → Chosen (recordOf W (c .statements .ids) (c .statements .len)) (ring w) s r → actionIs r ≡ turn.firstRule (controllerIs c) (recordIs W c)
+      unfolding recordIs
+      chosen m = m .means (controllerIs c) (l .sight (recordIs W c) settled) (sym (ring-is c w v))
+
+      -- the controller is in the left set of the top
+      pub gone-is : (b : Bool) → b ≡ bit (s .top .left) (c .number) → b ≡ bit (turn.T (controllerIs c) (recordIs W c) .left) (c .number)
+      gone-is b g = g ∙ ap (λ v. bit (v .left) (c .number)) (sym (l .sight (recordIs W c) settled .top))
 
 -- a turn that is refused for q
 pub turn-refused : (W : List ℕ) (c : Controller) (r : Outcome) (q : Refusal) → turn.turn (controllerIs c) (recordIs W c) (hasRoom (poolIs W)) ≡ call.refuse (controllerIs c) (recordIs W c) (refusalIs q)
@@ -77,7 +98,3 @@ turn-refused W c r q e a h = subst (λ o. Turns W c o r W) (sym e) (refused-turn
 pub turn-done : (W W′ : List ℕ) (c : Controller) (r : Outcome) (a : Option turn.Action) → turn.turn (controllerIs c) (recordIs W c) (hasRoom (poolIs W)) ≡ turn.perform (controllerIs c) (recordIs W c) (hasRoom (poolIs W)) (turn.firstRule (controllerIs c) (recordIs W c))
     → a ≡ turn.firstRule (controllerIs c) (recordIs W c) → Turns W c (turn.perform (controllerIs c) (recordIs W c) (hasRoom (poolIs W)) a) r W′ → Turns W c (turn.turn (controllerIs c) (recordIs W c) (hasRoom (poolIs W))) r W′
 turn-done W W′ c r a e f t = subst (λ o. Turns W c o r W′) (sym e) (subst (λ x. Turns W c (turn.perform (controllerIs c) (recordIs W c) (hasRoom (poolIs W)) x) r W′) f t)
-
--- the controller is in the left set of the top
-pub gone-is : (W : List ℕ) (c : Controller) (e : Evidence) (s : Sight) (b : Bool) → Looks c e s → Seen W c e → b ≡ bit (s .top .left) (c .number) → b ≡ bit (turn.T (controllerIs c) (recordIs W c) .left) (c .number)
-gone-is W c e s b l n h = h ∙ ap (λ v. bit (v .left) (c .number)) (sym (l .sight W n .top))

@@ -27,11 +27,7 @@ use Rattle.engine.specs.declared.Step.{Step}
 use Rattle.engine.specs.declared.rules.Sight.{Sight}
 use Rattle.engine.specs.declared.rules.Due.{Due}
 use Rattle.engine.specs.declared.rules.Due.the-variants.{Nothing, On}
-use Rattle.engine.specs.Meaning.{sendIs, controllerIs, recordIs, actionIs}
-
--- e is the evidence of the controller's record, and that is one that a rule is done for.
-pub record Seen (W : List ℕ) (c : held.Controller) (e : Evidence) : Type 0 where
-  pub settled : Settled (controllerIs c .ring) (c .sender) (recordIs W c) e
+use Rattle.engine.specs.Meaning.{sendIs, controllerIs, actionIs}
 
 -- ---- what is asked of the record
 
@@ -85,10 +81,16 @@ pub record SightOf (d : Controller) (X : List Stmt) (s : Sight) : Type 0 where
 unfoldable pub notAbove : View → View → Bool
 notAbove t u = not (below 16 t u)
 
--- s is what the rules look at, where e is the evidence of the controller's record.
+-- s is what the rules look at, of the controller c with a record whose evidence is e.
 pub record Looks (c : held.Controller) (e : Evidence) (s : Sight) : Type 0 where
-  pub sight : (W : List ℕ) → Seen W c e → SightOf (controllerIs c) (recordIs W c) s
+  pub sight : (X : List Stmt) → Settled (controllerIs c .ring) (c .sender) X e → SightOf (controllerIs c) X s
   pub sender : s .sender ≡ c .sender
+  pub count : s .count ≡ e .count
+  pub length : s .length ≡ e .length
+
+-- e is the evidence of the record X in the ring R, a rule is done for it, and s has its histories.
+pub record Seen (X : List Stmt) (R : Ring) (e : Evidence) (s : Sight) : Type 0 where
+  pub settled : Settled R (s .sender) X e
   pub count : s .count ≡ e .count
   pub length : s .length ≡ e .length
 
@@ -148,7 +150,7 @@ acts (Deliver m) = true
 
 -- ---- the turn's step
 
--- r is what the first rule that applies has the controller c do, over the pool's memory W.
-pub record Chosen (W : List ℕ) (c : held.Controller) (r : Step) : Type 0 where
-  pub means : actionIs r ≡ firstRule (controllerIs c) (recordIs W c)
+-- For every controller of the ring R that s is of, with the record X, r is what the first rule that applies has it do.
+pub record Chosen (X : List Stmt) (R : Ring) (s : Sight) (r : Step) : Type 0 where
+  pub means : (d : Controller) → SightOf d X s → d .ring ≡ R → actionIs r ≡ firstRule d X
   pub short : r .statement .history .len ≤ 16

@@ -8,9 +8,6 @@ mod turn;
 
 pub use calls::refuse;
 use pool::Record;
-pub use rules::Sight;
-pub use rules::first_rule;
-pub use rules::has_left;
 use statements::Binding;
 use statements::Statement;
 use views::History;

@@ -666,15 +666,18 @@ fn entered(
 }
 
 // The first rule that applies.
-pub fn first_rule(words: &[u64; POOL_WORDS], c: Controller, e: Evidence) -> Step
-    requires { ⌜ Seen (now words) c e ⌝ }
-    ensures { λ r. ⌜ Chosen (now (words .entry)) c r ⌝ }
+pub fn first_rule(
+    words: &[u64; POOL_WORDS],
+    ids: &[u16; 512],
+    len: usize,
+    init: u32,
+    e: Evidence,
+    s: Sight,
+) -> Step
+    requires { ⌜ Seen (recordOf (now words) (now ids) len) (ring init) e s ⌝ }
+    ensures { λ r. ⌜ Chosen (recordOf (now (words .entry)) (now (ids .entry)) len) (ring init) s r ⌝ }
 {
-    let s = look(c, e);
-    let log = c.statements;
-    let len = log.len;
-    let ids = log.ids;
-    let signed = own_of(words, &ids, len, s.number);
+    let signed = own_of(words, ids, len, s.number);
     let own = signed.ids;
     let count = signed.len;
     let first = rule1(words, &own, count, s);
@@ -682,11 +685,10 @@ pub fn first_rule(words: &[u64; POOL_WORDS], c: Controller, e: Evidence) -> Step
     if acts(d) {
         return first;
     }
-    let init = c.init;
-    let second = entered(words, &ids, len, init.word(), e, s);
+    let second = entered(words, ids, len, init, e, s);
     let d = second.deed;
     if acts(d) {
         return second;
     }
-    agreed(words, &ids, len, &own, count, s)
+    agreed(words, ids, len, &own, count, s)
 }

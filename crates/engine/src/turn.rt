@@ -18,18 +18,20 @@ impl Controller {
         if !self.ready {
             return calls::refuse(self, Refusal::OutOfPlace);
         }
-        let init = self.init;
+        let view = self.init;
+        let init = view.word();
         let statements = self.statements;
         let ids = statements.ids;
-        let e = evidence::of_record(words, &ids, statements.len, init.word(), self.sender);
+        let len = statements.len;
+        let e = evidence::of_record(words, &ids, len, init, self.sender);
         if e.conflict {
             return calls::refuse(self, Refusal::Conflict);
         }
         if e.many {
             return calls::refuse(self, Refusal::ManyCandidates);
         }
-        let a = rules::first_rule(words, self, e);
         let s = rules::look(self, e);
+        let a = rules::first_rule(words, &ids, len, init, e, s);
         let top = s.top;
         let gone = rules::has_left(top, self.number);
         perform::perform(self, words, a, gone)
