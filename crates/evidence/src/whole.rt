@@ -76,7 +76,7 @@ fn judge(
     requires { ⌜ Tables (now words) (now ids) len init (now chosen) nc (now agreed) (now entry) na × Groups (now words) (now ids) len (now first) (now seen) n ⌝ }
     ensures { λ r. ⌜ Verdicts (now (words .entry)) (now (ids .entry)) len init (now (chosen .entry)) nc (now (agreed .entry)) (now (entry .entry)) na (now (mc .exit)) (now (ma .exit)) × Backed (now (words .entry)) (now (ids .entry)) len init (now (first .entry)) n (now (marks .exit)) ⌝ }
 {
-    let mut ai = [0u16; INDEX];
+    let mut ai = [65535u16; INDEX];
     sealing::verdicts(
         words,
         ids,

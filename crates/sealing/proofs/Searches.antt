@@ -11,15 +11,19 @@ use lib.Seq.{getD-set-same, getD-set-other}
 use Rattle.protocol.specs.Lists.{any}
 use Rattle.views.proofs.Tables.{any-zero, any-suc}
 use Rattle.votes.specs.Tables.{high, upTo}
-use Rattle.sealing.specs.Rows.{Next, Passed, slotOf, slotAt, headOf, linkOf, Starts, Indexed}
+use Rattle.sealing.specs.Rows.{Next, Passed, slotOf, slotAt, headOf, linkOf, Starts, Indexed, Empty}
 
 -- ---- the index, built from the last row down
 
-pub indexed-first : (X : List ℕ) (n : ℕ) → n ≤ 512 → Indexed X n n (replicate 1024 65535)
-indexed-first X n l = record {
-  long = length-replicate {A = ℕ} 1024 65535;
-  above = λ s h. omega (arith, getD-replicate {A = ℕ} 1024 s 65535 0 (omega arith));
-  head-same = λ s h k. absurd (omega (arith, getD-replicate {A = ℕ} 1024 s 65535 0 (omega arith)));
+-- an array that was just made
+pub empty-made : Empty (replicate 1024 65535)
+empty-made = record { long = length-replicate {A = ℕ} 1024 65535; none = λ s h. omega (arith, getD-replicate {A = ℕ} 1024 s 65535 0 (omega arith)) }
+
+pub indexed-first : {X : List ℕ} {n : ℕ} {I : List ℕ} → n ≤ 512 → Empty I → Indexed X n n I
+indexed-first l e = record {
+  long = e .long;
+  above = λ s h. omega (arith, e .none s h);
+  head-same = λ s h k. absurd (omega (arith, e .none s h));
   head-least = λ s i h k m. absurd (omega arith);
   rises = λ i h k. absurd (omega arith);
   link-same = λ i h k. absurd (omega arith);

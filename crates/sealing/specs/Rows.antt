@@ -52,6 +52,11 @@ pub record Indexed (X : List ℕ) (m n : ℕ) (I : List ℕ) : Type 0 where
   pub link-same : (i : ℕ) → m ≤ i → i < n → linkOf I i < n → slotAt X (linkOf I i) ≡ slotAt X i
   pub link-least : (i j : ℕ) → m ≤ i → i < j → j < n → slotAt X j ≡ slotAt X i → linkOf I i ≤ j
 
+-- I is an index without rows.
+pub record Empty (I : List ℕ) : Type 0 where
+  pub long : length I ≡ 1024
+  pub none : (s : ℕ) → s < 512 → 512 ≤ headOf I s
+
 -- Both tables have their indexes.
 pub record Indexes (C : List ℕ) (nc : ℕ) (IC A : List ℕ) (na : ℕ) (IA : List ℕ) : Type 0 where
   pub choices : Indexed C 0 nc IC

@@ -7,7 +7,7 @@ ghost use Rattle.views.specs.View.{viewOf, ring};
 ghost use Rattle.pool.specs.Pool.{recordOf};
 ghost use Rattle.votes.specs.Tables.{Tables, Verdicts};
 ghost use Rattle.sealing.specs.Memos.{Memos, Choices, Agreements};
-ghost use Rattle.sealing.specs.Rows.{Indexed, Indexes};
+ghost use Rattle.sealing.specs.Rows.{Indexed, Indexes, Empty};
 use crate::cycle;
 use crate::cycle::MEMO;
 use crate::rows;
@@ -116,7 +116,7 @@ fn agreements(
     }
 }
 
-// All verdicts, and the index of the agreements. What the memory held before does not matter.
+// All verdicts, and the index of the agreements, put into an empty one. What the other memory held before does not matter.
 pub fn verdicts(
     words: &[u64; POOL_WORDS],
     ids: &[u16; 512],
@@ -131,12 +131,12 @@ pub fn verdicts(
     mc: &mut [u8; 512],
     ma: &mut [u8; 512],
 )
-    requires { ⌜ Tables (now words) (now ids) len init (now chosen) nc (now agreed) (now entry) na ⌝ }
+    requires { ⌜ Tables (now words) (now ids) len init (now chosen) nc (now agreed) (now entry) na × Empty (now ai) ⌝ }
     ensures { λ r. ⌜ Verdicts (now (words .entry)) (now (ids .entry)) len init (now (chosen .entry)) nc (now (agreed .entry)) (now (entry .entry)) na (now (mc .exit)) (now (ma .exit)) × Agreements (now (words .entry)) (now (ids .entry)) len init (now (agreed .entry)) (now (entry .entry)) na (now (ma .exit)) × Indexed (now (agreed .entry)) 0 na (now (ai .exit)) ⌝ }
 {
     room(mc);
     room(ma);
-    let mut ci = [0u16; INDEX];
+    let mut ci = [65535u16; INDEX];
     rows::index_rows(chosen, nc, &mut ci);
     rows::index_rows(agreed, na, ai);
     let mut memo = [0u8; MEMO];

@@ -6,7 +6,7 @@ ghost use mathlib.Core.Path.{_≡_};
 ghost use Prim.Native.Nat.{_+_, _≤_, _<_, min};
 ghost use lib.ListN.{getD};
 ghost use Rattle.votes.specs.Tables.{low, high};
-ghost use Rattle.sealing.specs.Rows.{Next, slotOf, headOf, linkOf, Starts, Indexed};
+ghost use Rattle.sealing.specs.Rows.{Next, slotOf, headOf, linkOf, Starts, Indexed, Empty};
 
 // How many numbers an index has.
 pub const INDEX: usize = 1024;
@@ -65,12 +65,11 @@ fn put(rows: &[u64; 512], n: usize, i: usize, index: &mut [u16; INDEX])
     index[s] = i as u16;
 }
 
-// The index of n rows. What the memory held before does not matter.
+// The index of n rows, put into an empty one: whoever makes it fills it once, and not with zeros first.
 pub fn index_rows(rows: &[u64; 512], n: usize, index: &mut [u16; INDEX])
-    requires { ⌜ n ≤ 512 ⌝ }
+    requires { ⌜ (n ≤ 512) × Empty (now index) ⌝ }
     ensures { λ r. ⌜ Indexed (now (rows .entry)) 0 n (now (index .exit)) ⌝ }
 {
-    *index = [65535u16; INDEX];
     let mut i = n;
     while 0 < i {
         i -= 1;

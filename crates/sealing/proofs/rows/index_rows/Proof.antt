@@ -14,4 +14,4 @@ abbrev μ-loop : tie.MeasureT-loop
 
 pub index-rows-spec : {M : Type 1} → statement M
 index-rows-spec =
-    tie.close (tie.spec Inv-loop μ-loop (λ c. (omega arith, indexed-first _ _ (c .before .pre))) (λ c. omega arith) (λ c κs. (omega arith, omega arith, indexed-at (omega arith) (c .before .before .loop .inv .1))) (λ c. search needs) (λ c. (omega arith, c .put .ensures)) (λ c. indexed-at (omega arith) (c .before .loop .inv .1)))
+    tie.close (tie.spec Inv-loop μ-loop (λ c. (omega arith, indexed-first (c .pre .0) (c .pre .1))) (λ c. omega arith) (λ c κs. (omega arith, omega arith, indexed-at (omega arith) (c .before .before .loop .inv .1))) (λ c. search needs) (λ c. (omega arith, c .put .ensures)) (λ c. indexed-at (omega arith) (c .before .loop .inv .1)))
