@@ -169,13 +169,24 @@ pub fn of_record(
 {
     let mut first = [0u16; 512];
     let mut seen = [0u32; 512];
-    let sifted = votes::gather(words, ids, len, init, &mut first, &mut seen);
-    let wish = sifted.wished;
-    let n = sifted.groups;
+    // The tables serve the gathering first, since each array that is declared is cleared, which takes time.
     let mut chosen = [0u64; 512];
-    let nc = votes::choices(words, ids, len, init, wish, &first, &seen, n, &mut chosen);
     let mut agreed = [0u64; 512];
     let mut entry = [0u16; 512];
+    let sifted = votes::gather(
+        words,
+        ids,
+        len,
+        init,
+        &mut chosen,
+        &mut agreed,
+        &mut first,
+        &mut seen,
+        &mut entry,
+    );
+    let wish = sifted.wished;
+    let n = sifted.groups;
+    let nc = votes::choices(words, ids, len, init, wish, &first, &seen, n, &mut chosen);
     let na = votes::agreements(
         words,
         ids,

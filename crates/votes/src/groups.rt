@@ -139,32 +139,36 @@ fn gather_in(
 }
 
 // The votes of a record in groups: the place of each group's first vote, and who signed it; and the view that it wishes.
+// What the lent memory held before does not matter; `heads`, `tails` and `links` are of no use afterwards.
 pub fn gather(
     words: &[u64; POOL_WORDS],
     ids: &[u16; 512],
     len: usize,
     init: u32,
+    heads: &mut [u64; 512],
+    tails: &mut [u64; 512],
     first: &mut [u16; 512],
     seen: &mut [u32; 512],
+    links: &mut [u16; 512],
 ) -> Sifted
     ensures { λ r. ⌜ Groups (now (words .entry)) (now (ids .entry)) len (now (first .exit)) (now (seen .exit)) (r .groups) × (viewOf (r .wished) ≡ wished (ring init) (recordOf (now (words .entry)) (now (ids .entry)) len)) ⌝ }
 {
-    let mut heads = [0u64; 512];
-    let mut tails = [0u64; 512];
-    let mut slots = [0u16; 1024];
-    let mut links = [0u16; 512];
+    lengths::of_u64(heads);
+    lengths::of_u64(tails);
     lengths::of_u16(first);
     lengths::of_u32(seen);
+    lengths::of_u16(links);
+    let mut slots = [0u16; 1024];
     gather_in(
         words,
         ids,
         len,
         init,
-        &mut heads,
-        &mut tails,
+        heads,
+        tails,
         first,
         seen,
         &mut slots,
-        &mut links,
+        links,
     )
 }

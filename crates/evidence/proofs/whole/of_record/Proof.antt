@@ -1,17 +1,9 @@
-use native.Mathlib.Omega.{arith}
-use native.Mathlib.Omega.{arith}
 use Rattle.votes.proofs.Tabled.{tables-are}
 use borrow.Author.Needs.{needs}
 use Rattle.evidence.proofs.whole.of_record.Statement.{statement}
 use Rattle.evidence.proofs.whole.of_record.Tie as tie
-use Rattle.evidence.proofs.whole.of_record.Reads as reads
-use Rattle.evidence.proofs.whole.of_record.Lts as lts
-use Rattle.evidence.proofs.whole.from_tables.Reads as from-tables-reads
-use Rattle.votes.proofs.agreements.Reads as agreements-reads
-use Rattle.votes.proofs.choices.Reads as choices-reads
-use Rattle.votes.proofs.gather.Reads as gather-reads
 
 pub of-record-spec : {M : Type 1} → statement M
 of-record-spec =
     tie.close
-    (tie.spec (λ c κs. search needs) (λ c κs. c .before .before .before .gather .ensures) (λ c κs. c .before .before .before .before .before .before .before .before .gather .ensures .0) (λ c κs. (c .before .before .before .before .before .before .before .before .before .before .before .before .before .before .gather .ensures .1, tables-are _ _ _ _ _ _ _ (c .before .before .before .before .before .before .before .before .before .before .before .before .before .before .gather .ensures .0) _ _ _ _ _ (c .before .before .before .before .before .before .before .before .before .before .before .before .before .before .before .before .before .fits .init .fits) (c .before .before .before .before .before .before .before .before .before .before .choices .ensures) (c .before .before .before .before .before .agreements .ensures), c .before .before .before .before .before .before .before .before .before .before .before .before .before .before .gather .ensures .0)) (λ c. search needs))
+    (tie.spec (λ c κs. search needs) (λ c κs. search needs) (λ c κs. search needs) (λ c κs. (c .before .before .before .before .before .before .before .before .before .before .before .before .before .before .gather .ensures .1, tables-are _ _ _ _ _ _ _ (c .before .before .before .before .before .before .before .before .before .before .before .before .before .before .gather .ensures .0) _ _ _ _ _ (c .before .before .before .before .before .before .before .before .before .before .before .before .before .before .before .before .before .before .before .before .fits .init .fits) (c .before .before .before .before .before .before .before .before .before .before .choices .ensures) (c .before .before .before .before .before .agreements .ensures), c .before .before .before .before .before .before .before .before .before .before .before .before .before .before .gather .ensures .0)) (λ c. search needs))
