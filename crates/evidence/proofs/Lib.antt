@@ -8,3 +8,4 @@ pub mod Reporting
 pub mod Merging
 pub mod Turns
 pub mod Tied
+pub mod Unvoted

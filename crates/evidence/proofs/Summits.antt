@@ -63,6 +63,11 @@ links-stop W S last b = record { good = λ t. absurd (subst (λ b. T (not b)) t 
 pub links-end : (W S : List ℕ) (k last : ℕ) (some : Bool) → k ≡ 17 → Chain (historyScale W) S k some last → ChainOf W S true last
 links-end W S k last some e c = record { good = λ t. (some, subst (λ k. Chain (historyScale W) S k some last) e c); bad = λ f. absurd (subst T f tt) }
 
+-- the history of the initial view
+pub alone-views : (init : ℕ) → viewsOf (replicate 16 init) 1 ≡ viewOf init ∷ []
+unfolding viewsOf table
+alone-views init = refl
+
 -- ---- sealed histories rise
 
 rising-climbs : (w : ℕ) (u : View) (H : List View) → Rising w u H → Climbs (size w) (u ∷ H)
@@ -132,14 +137,10 @@ module _ (init : ℕ) (X : List Stmt) where
   -- ---- the agreements that are marked
 
   module _ (W E M : List ℕ) (n : ℕ) (agreements : Agreements init X W E M n) where
-    alone-views : viewsOf (replicate 16 init) 1 ≡ viewOf init ∷ []
-    unfolding viewsOf table
-    alone-views = refl
-
     -- none is marked
     pub alone : (r : ℕ) → r ≡ n → FirstMarked M n r → HistoriesOf init X (record { conflict = false; length = 1; views = replicate 16 init })
     alone r e f =
-        let g : Sealed (ring init) X (viewsOf (replicate 16 init) 1) = start alone-views in
+        let g : Sealed (ring init) X (viewsOf (replicate 16 init) 1) = start (alone-views init) in
         greatest 1 (replicate 16 init) g (λ K k. start-in (only K k) g) (λ H h K k. inr (start-in (only H h) k))
       where
         only : (K : List View) → Sealed (ring init) X K → K ≡ viewOf init ∷ []

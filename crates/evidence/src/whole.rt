@@ -1,13 +1,14 @@
 // All the evidence of a record, from its votes.
 ghost use mathlib.Core.Path.{_≡_};
-ghost use mathlib.Core.Bool.{_||_};
+ghost use mathlib.Core.Bool.{false, _||_};
 ghost use mathlib.Core.List.{List};
 ghost use Prim.Native.Nat.{ℕ};
+ghost use Rattle.protocol.specs.Lists.{any};
 ghost use Rattle.protocol.specs.Statement.{Stmt};
 ghost use Rattle.protocol.specs.Evidence.{wished, isStored};
 ghost use Rattle.views.specs.View.{viewOf, ring};
 ghost use Rattle.pool.specs.Pool.{recordOf};
-ghost use Rattle.votes.specs.Votes.{Groups};
+ghost use Rattle.votes.specs.Votes.{isVote, Groups};
 ghost use Rattle.votes.specs.Tables.{Tables, Verdicts};
 ghost use Rattle.evidence.specs.Shown.{Backed, CandidatesOf, HistoriesOf, CertificatesOf};
 ghost use Rattle.evidence.specs.Evidence.{EvidenceOf};
@@ -157,8 +158,8 @@ fn from_tables(
     tie(wish, r, h, c, stored)
 }
 
-// The evidence of a record.
-pub fn of_record(
+// The evidence of a record, from its votes.
+fn of_votes(
     words: &[u64; POOL_WORDS],
     ids: &[u16; 512],
     len: usize,
@@ -214,4 +215,38 @@ pub fn of_record(
         &seen,
         n,
     )
+}
+
+// The evidence of a record without votes: the initial view is its only candidate and alone its greatest history, and nothing has a certificate.
+fn unvoted(wish: u32, init: u32) -> Evidence
+    ensures { λ e. ⌜ ((sender : ℕ) (X : List Stmt) → any isVote X ≡ false → viewOf wish ≡ wished (ring init) X → EvidenceOf (ring init) sender X e) ⌝ }
+{
+    Evidence {
+        conflict: false,
+        many: false,
+        wished: wish,
+        candidates: [init; 16],
+        count: 1,
+        greatest: [init; 16],
+        length: 1,
+        certified: false,
+        payload: 0,
+        stored: false,
+    }
+}
+
+// The evidence of a record. Where there are no votes, none of the memory is cleared that they are gathered in.
+pub fn of_record(
+    words: &[u64; POOL_WORDS],
+    ids: &[u16; 512],
+    len: usize,
+    init: u32,
+    sender: u8,
+) -> Evidence
+    ensures { λ e. ⌜ EvidenceOf (ring init) sender (recordOf (now (words .entry)) (now (ids .entry)) len) e ⌝ }
+{
+    if votes::has_votes(words, ids, len) {
+        return of_votes(words, ids, len, init, sender);
+    }
+    unvoted(votes::wished_by(words, ids, len, init), init)
 }

@@ -1,10 +1,11 @@
 // The votes of a record in groups, found by the slots of their words.
 ghost use mathlib.Core.Path.{_≡_};
 ghost use Prim.Native.Nat.{_+_, _<_, _≤_};
+ghost use Rattle.protocol.specs.Lists.{any};
 ghost use Rattle.protocol.specs.Evidence.{wished};
 ghost use Rattle.views.specs.View.{viewOf, ring};
 ghost use Rattle.pool.specs.Pool.{recordOf};
-ghost use Rattle.votes.specs.Votes.{Groups};
+ghost use Rattle.votes.specs.Votes.{isVote, Groups};
 ghost use Rattle.votes.specs.Keys.{Key, Keyed, Chained, Place, Sofar};
 use crate::keys;
 use crate::lengths;
@@ -171,4 +172,19 @@ pub fn gather(
         &mut slots,
         links,
     )
+}
+
+// Whether a record has votes to gather.
+pub fn has_votes(words: &[u64; POOL_WORDS], ids: &[u16; 512], len: usize) -> bool
+    ensures { λ r. ⌜ r ≡ any isVote (recordOf (now (words .entry)) (now (ids .entry)) len) ⌝ }
+{
+    let end = pool::limit(len);
+    let mut i = 0usize;
+    while i < end {
+        if keys::is_vote(words, ids[i]) {
+            return true;
+        }
+        i += 1;
+    }
+    false
 }

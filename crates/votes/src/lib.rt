@@ -9,3 +9,5 @@ pub use chosen::agreements;
 pub use chosen::choices;
 pub use groups::Sifted;
 pub use groups::gather;
+pub use groups::has_votes;
+pub use wish::wished_by;

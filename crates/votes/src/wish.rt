@@ -6,7 +6,7 @@ ghost use Rattle.protocol.specs.Statement.{Stmt, isKind};
 ghost use Rattle.protocol.specs.Evidence.{signs, wished};
 ghost use Rattle.views.specs.Sets.{IsSet, Noted};
 ghost use Rattle.views.specs.View.{viewOf, ring};
-ghost use Rattle.pool.specs.Pool.{stmtAt};
+ghost use Rattle.pool.specs.Pool.{stmtAt, recordOf};
 use pool::POOL_WORDS;
 
 // `seen`, and the origin of statement s too where that is of this kind.
@@ -27,4 +27,21 @@ pub fn wished_view(init: u32, joins: u32, leaves: u32) -> u32
     let joined = views::union(init % 65536, joins);
     let left = views::union(init / 65536, joined & leaves);
     joined + left * 65536
+}
+
+// The view that a record wishes. `groups::gather` finds it too, where there are votes to gather in the same pass.
+pub fn wished_by(words: &[u64; POOL_WORDS], ids: &[u16; 512], len: usize, init: u32) -> u32
+    ensures { λ r. ⌜ viewOf r ≡ wished (ring init) (recordOf (now (words .entry)) (now (ids .entry)) len) ⌝ }
+{
+    let end = pool::limit(len);
+    let mut joins: u32 = 0;
+    let mut leaves: u32 = 0;
+    let mut i = 0usize;
+    while i < end {
+        let s = ids[i];
+        joins = note_kind(words, s, 1, joins);
+        leaves = note_kind(words, s, 2, leaves);
+        i += 1;
+    }
+    wished_view(init, joins, leaves)
 }

@@ -1,4 +1,4 @@
-use Rattle.votes.proofs.Tabled.{tables-are}
+use mathlib.Core.Path.{sym, _∙_}
 use borrow.Author.Needs.{needs}
 use Rattle.evidence.proofs.whole.of_record.Statement.{statement}
 use Rattle.evidence.proofs.whole.of_record.Tie as tie
@@ -6,4 +6,10 @@ use Rattle.evidence.proofs.whole.of_record.Tie as tie
 pub of-record-spec : {M : Type 1} → statement M
 of-record-spec =
     tie.close
-    (tie.spec (λ c κs. search needs) (λ c κs. search needs) (λ c κs. search needs) (λ c κs. (c .before .before .before .before .before .before .before .before .before .before .before .before .before .before .gather .ensures .1, tables-are _ _ _ _ _ _ _ (c .before .before .before .before .before .before .before .before .before .before .before .before .before .before .gather .ensures .0) _ _ _ _ _ (c .before .before .before .before .before .before .before .before .before .before .before .before .before .before .before .before .before .before .before .before .fits .init .fits) (c .before .before .before .before .before .before .before .before .before .before .choices .ensures) (c .before .before .before .before .before .agreements .ensures), c .before .before .before .before .before .before .before .before .before .before .before .before .before .before .gather .ensures .0)) (λ c. search needs))
+    (tie.spec
+    (λ c κs. search needs)
+    (λ c κs. search needs)
+    (λ c. search needs)
+    (λ c κs. search needs)
+    (λ c κs. search needs)
+    (λ c. c .unvoted .ensures _ _ (sym (c .before .before .before .has-votes .ensures) ∙ c .before .before .if1 .left) (c .before .wished-by .ensures)))

@@ -1,0 +1,97 @@
+-- A record without votes shows the initial view alone.
+-- Assumes nothing.
+use mathlib.Core.Path.{_≡_, refl, sym, ap, subst, _∙_}
+use mathlib.Core.Logic.{inl, inr}
+use mathlib.Core.Bool.{Bool, true, false, not}
+use mathlib.Core.List.{List, [], _∷_, map, List·Memᴰ·head, List·Memᴰ·tail}
+use Prim.Native.Nat.{ℕ}
+use native.Mathlib.Omega.{arith}
+use lib.Dec.{T, eqb, ltb}
+use lib.ListN.{length, replicate}
+use Rattle.protocol.specs.Lists.{if_then_else_, _∈_, any, filter, first, when}
+use Rattle.protocol.specs.View.{View}
+use Rattle.protocol.specs.Statement.{Stmt, isKind}
+use Rattle.protocol.specs.Evidence.{wished, candidate, initial, chosen, start, agreed, Candidate, isCandidate, insert, insertAll, candidates, Sealed, Certificate, certificates, isStored}
+use Rattle.protocol.proofs.Says.{says-eqb, says-any}
+use Rattle.protocol.proofs.Quorums.{someone}
+use Rattle.protocol.proofs.Histories.{within-of}
+use Rattle.protocol.proofs.Decided.{says-kind, says-shown, says-stored}
+use Rattle.protocol.proofs.Asked.{says-pairwise, candidates-exact, certificates-out}
+use Rattle.views.specs.View.{viewOf, ring}
+use Rattle.views.proofs.Views.{passes, fails}
+use Rattle.votes.specs.Votes.{isVote}
+use Rattle.votes.proofs.Alike.{Vote, says-vote}
+use Rattle.evidence.specs.Shown.{CandidatesOf, HistoriesOf, CertificatesOf}
+use Rattle.evidence.specs.Evidence.{EvidenceOf}
+use Rattle.evidence.proofs.Ranks.{says-comparable}
+use Rattle.evidence.proofs.Summits.{alone-views, alone}
+use Rattle.evidence.proofs.Tied.{tied}
+
+filter-none : {A : Type 0} (p : A → Bool) (l : List A) → ((a : A) → a ∈ l → p a ≡ false) → filter p l ≡ []
+unfolding filter
+filter-none p [] h = refl
+filter-none p (a ∷ l) h = ap (λ b. if b then a ∷ filter p l else filter p l) (h a (List·Memᴰ·head refl)) ∙ filter-none p l (λ b m. h b (List·Memᴰ·tail m))
+
+module _ (init : ℕ) (X : List Stmt) (none : any isVote X ≡ false) where
+  silent : {s : Stmt} → s ∈ X → Vote s → ⊥
+  silent {s} m v = subst T none (says-any says-vote X .complete (s, m, v))
+
+  only-candidate : {v : View} → Candidate (ring init) X v → v ≡ viewOf init
+  only-candidate (initial e) = e
+  only-candidate (chosen g b n i q) = let (_, (s, m, _, a)) = someone q in absurd (silent m (inl (inl (inl (a .kind)))))
+
+  only-sealed : {H : List View} → Sealed (ring init) X H → H ≡ viewOf init ∷ []
+  only-sealed (start e) = e
+  only-sealed (agreed g h i n c q) = let (_, (s, m, _, a)) = someone q in absurd (silent m (inl (inl (inr (a .kind)))))
+
+  candidates-are : candidates (ring init) X ≡ viewOf init ∷ []
+  unfolding candidates filter insertAll insert
+  candidates-are =
+      ap (λ l. insertAll (ring init) [] (filter (isCandidate (ring init) X) (viewOf init ∷ map (λ s. s .view) l)))
+      (filter-none (isKind 3) X (λ s m. fails (says-kind 3 s) (λ k. silent m (inl (inl (inl k))))))
+      ∙ ap (λ b. insertAll (ring init) [] (if b then viewOf init ∷ [] else [])) (passes (says-shown (ring init) X (candidate (viewOf init))) (initial refl))
+
+  candidates-of : CandidatesOf init X (record { conflict = false; many = false; count = 1; views = replicate 16 init })
+  candidates-of = record {
+    conflict = ap not (sym (passes (says-pairwise says-comparable (candidates (ring init) X)) (λ u i v j. inl (within-of (inl (is u i ∙ sym (is v j)))))));
+    many = λ z. ap (λ l. ltb 16 (length l)) (sym candidates-are);
+    views = λ z h. alone-views init ∙ sym candidates-are;
+  }
+    where
+      is : (v : View) → v ∈ candidates (ring init) X → v ≡ viewOf init
+      is v m = only-candidate (candidates-exact (ring init) X v .0 m)
+
+  histories-of : HistoriesOf init X (record { conflict = false; length = 1; views = replicate 16 init })
+  histories-of = alone init X [] [] [] 0 (record { sound = λ a l. absurd (omega arith); complete = λ H k. inl (only-sealed k) }) 0 refl
+      (record { most = omega arith; none = λ a l. absurd (omega arith); is = λ l. absurd (omega arith) })
+
+  certificates-of : (sender : ℕ) → CertificatesOf init sender X (record { conflict = false; some = false; payload = 0 })
+  certificates-of sender = record {
+    conflict = ap not (sym (passes (says-pairwise (λ a b. says-eqb {m = a} {n = b}) (certificates (ring init) sender X)) (λ a i. absurd (uncertified i))));
+    certificate = λ z. go (certificates (ring init) sender X) refl;
+  }
+    where
+      uncertified : {m : ℕ} → m ∈ certificates (ring init) sender X → ⊥
+      uncertified i = let (_, (s, m, _, a)) = someone (certificates-out (ring init) sender X i .acked) in silent m (inl (inr (a .kind)))
+
+      go : (l : List ℕ) → certificates (ring init) sender X ≡ l → when false 0 ≡ first l
+      go [] h = refl
+      go (m ∷ l) h = absurd (uncertified (subst (λ l. m ∈ l) (sym h) (List·Memᴰ·head refl)))
+
+  unstored : (m : ℕ) → false ≡ isStored (ring init) X m
+  unstored m = sym (fails (says-stored (ring init) X m) (λ (H, h, q). let (_, (s, i, _, a)) = someone q in silent i (inr (a .kind))))
+
+  pub unvoted : (wish sender : ℕ) → viewOf wish ≡ wished (ring init) X
+      → EvidenceOf (ring init) sender X (record {
+        conflict = false;
+        many = false;
+        wished = wish;
+        candidates = replicate 16 init;
+        count = 1;
+        greatest = replicate 16 init;
+        length = 1;
+        certified = false;
+        payload = 0;
+        stored = false;
+      })
+  unvoted wish sender w = tied wish _ _ _ false false refl init sender X w candidates-of histories-of (certificates-of sender) (unstored 0)
