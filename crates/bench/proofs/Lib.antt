@@ -5,6 +5,7 @@ pub mod Commands
 pub mod Lies
 pub mod Whole
 pub mod Rows
+pub mod Unchanged
 pub mod Seats
 pub mod States
 pub mod Starts

@@ -17,11 +17,11 @@ use Rattle.views.specs.Held.{viewIs}
 use Rattle.statements.specs.Text.{parted, viewText}
 use Rattle.statements.proofs.Fields.{view-long}
 use Rattle.statements.proofs.Written.{four-runs}
+use Rattle.engine.specs.declared.Answer.{Answer as Answered}
 use Rattle.bench.specs.declared.row.Word.{Word}
 use Rattle.bench.specs.declared.row.Word.the-variants.{Taken, Signed, Entered, Delivered, Left, Quiet, Refused}
 use Rattle.bench.specs.declared.row.Value.{Value}
 use Rattle.bench.specs.declared.row.Value.the-variants.{Number, View}
-use Rattle.bench.specs.declared.state.Stepped.{Stepped}
 use Rattle.bench.specs.Seats.{wordOf, valueOf}
 use Rattle.bench.specs.Running.{rowIs}
 use Rattle.bench.specs.Bench.{Reply}
@@ -135,10 +135,10 @@ unfolding rowOf rowText
 shown n {r} {who} {w} {v} s = rw (← s .named, ← s .word, ← s .value, word-for (r .answer))
 
 -- a line's row, as it is put
-pub row-put : (s : Stepped) (n at : ℕ) (R : List ℕ) {R′ : List ℕ} {r : ℕ} {w : Word} {v : Value} → w ≡ wordOf (s .answer) → v ≡ valueOf (s .answer) (s .number)
-    → (r ≡ at + length (rowOf n (s .who) w v)) × (R′ ≡ sets R at (rowOf n (s .who) w v)) × (length (rowOf n (s .who) w v) ≤ 40)
-    → (r ≡ at + length (rowIs n s)) × (R′ ≡ sets R at (rowIs n s)) × (length (rowIs n s) ≤ 40)
+pub row-put : (who : ℕ) (a : Answered) (number n at : ℕ) (R : List ℕ) {R′ : List ℕ} {r : ℕ} {w : Word} {v : Value} → w ≡ wordOf a → v ≡ valueOf a number
+    → (r ≡ at + length (rowOf n who w v)) × (R′ ≡ sets R at (rowOf n who w v)) × (length (rowOf n who w v) ≤ 40)
+    → (r ≡ at + length (rowIs n who a number)) × (R′ ≡ sets R at (rowIs n who a number)) × (length (rowIs n who a number) ≤ 40)
 unfolding rowIs
-row-put s n at R {R′} {r} {w} {v} e f h =
-    let q : rowOf n (s .who) w v ≡ rowOf n (s .who) (wordOf (s .answer)) (valueOf (s .answer) (s .number)) = ap₂ (rowOf n (s .who)) e f in
+row-put who a number n at R {R′} {r} {w} {v} e f h =
+    let q : rowOf n who w v ≡ rowOf n who (wordOf a) (valueOf a number) = ap₂ (rowOf n who) e f in
     subst (λ t. (r ≡ at + length t) × (R′ ≡ sets R at t) × (length t ≤ 40)) q h

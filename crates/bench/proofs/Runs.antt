@@ -1,6 +1,7 @@
 -- A schedule's run, line by line.
 -- Assumes nothing.
 use mathlib.Core.Path.{_≡_, refl, sym, ap, ap₂, subst, _∙_}
+use mathlib.Core.Logic.{_⊎_, inl, inr}
 use mathlib.Core.Bool.{Bool, true, false, not, _||_}
 use mathlib.Core.List.{List, [], _∷_, _++_, append-assoc, append-nil}
 use mathlib.Core.Option.{Option, some, none}
@@ -11,7 +12,7 @@ use native.Mathlib.Omega.{arith}
 use lib.Dec.{T, eqb, ltb, ltb→lt}
 use Rattle.protocol.proofs.Rules.{and-first, and-second}
 use lib.ListN.{length, getD, set, take, drop, replicate, length-replicate, getD-replicate, length-set, length-drop, length-append, drop-of-length-le}
-use lib.Seq.{sets, length-sets, getD-set-same, getD-set-other, ext-getD, drop-drop, take-all}
+use lib.Seq.{sets, length-sets, getD-set-same, getD-set-other, set-getD, ext-getD, drop-drop, take-all}
 use borrow.Author.Tests.{lt-ltb, le-ltb, eq-eqb, ne-eqb}
 use Rattle.protocol.specs.Lists.{if_then_else_}
 use Rattle.protocol.specs.View.{controllers}
@@ -60,7 +61,7 @@ shows W Left n = (refl, refl)
 shows W Quiet n = (refl, refl)
 shows W (Refused r) n = (refl, refl)
 
-row-is : (W : List ℕ) (n : ℕ) (s : Stepped) → rowIs n s ≡ rowText n (replyIs W s)
+row-is : (W : List ℕ) (n : ℕ) (s : Stepped) → rowIs n (s .who) (s .answer) (s .number) ≡ rowText n (replyIs W s)
 unfolding rowIs
 row-is W n s = shown n (record { named = refl; word = shows W (s .answer) (s .number) .0; value = shows W (s .answer) (s .number) .1 })
 
@@ -130,6 +131,10 @@ pick-false b x y e = rw e
 pick-true : {A : Type 0} (b : Bool) (x y : A) → b ≡ true → (if b then x else y) ≡ x
 pick-true b x y e = rw e
 
+-- the controllers after a line that starts none: the one that it names is stored where it changed
+abbrev pub Stored : List Controller → ℕ → Stepped → List Controller → Type 0
+Stored cs k s cs′ = ((s .changed ≡ true) × (cs′ ≡ set cs k (s .controller))) ⊎ ((s .changed ≡ false) × (cs′ ≡ cs))
+
 -- what a line leaves is the bench in memory
 module _ (W W′ : List ℕ) (g : Setting) (cs : List Controller) (k : ℕ) (l : Option Line) (s : Stepped) (h : k < 16) (m : Kept W cs) (a : Advanced W g (getD cs k blank) k l s W′) where
   abbrev Left′ : List Controller → Type 0
@@ -138,18 +143,33 @@ module _ (W W′ : List ℕ) (g : Setting) (cs : List Controller) (k : ℕ) (l :
   went : step (benchIs g W cs) l ≡ record { reply = replyIs W′ s; bench = benchOf (s .setting .ready) (s .setting .faulty) (seatsAfter s W′ k (seatsIs W cs)) W′ }
   went = a .steps (seatsIs W cs) (seat-there W cs k h)
 
-  pub left-one : s .fresh ≡ false → Left′ (set cs k (s .controller))
-  left-one e = went ∙ ap (λ X. record { reply = replyIs W′ s; bench = benchOf (s .setting .ready) (s .setting .faulty) X W′ })
+  abbrev was : Controller
+  was = getD cs k blank
+
+  -- a seat that is not stored
+  seats-same : s .fresh ≡ false → s .changed ≡ false → set (seatsIs W cs) k (seatIs W′ (s .controller)) ≡ seatsIs W′ cs
+  seats-same e q =
+      ap (λ t. set (seatsIs W cs) k t) (a .same e q ∙ sym (seat-kept (a .grows e) was (m .whole k h)))
+      ∙ seats-set W W′ cs k was h m (a .grows e) ∙ ap (seatsIs W′) (set-getD cs k blank)
+
+  seats-after : s .fresh ≡ false → (cs′ : List Controller) → Stored cs k s cs′ → set (seatsIs W cs) k (seatIs W′ (s .controller)) ≡ seatsIs W′ cs′
+  seats-after e cs′ (inl (q, z)) = seats-set W W′ cs k (s .controller) h m (a .grows e) ∙ ap (seatsIs W′) (sym z)
+  seats-after e cs′ (inr (q, z)) = seats-same e q ∙ ap (seatsIs W′) (sym z)
+
+  pub left-one : s .fresh ≡ false → (cs′ : List Controller) → Stored cs k s cs′ → Left′ cs′
+  left-one e cs′ t = went ∙ ap (λ X. record { reply = replyIs W′ s; bench = benchOf (s .setting .ready) (s .setting .faulty) X W′ })
       (pick-false (s .fresh) (table controllers (λ j. record { controller = started j (s .setting .members) (s .setting .sender); statements = [] })) (set (seatsIs W cs) k (seatIs W′ (s .controller))) e
-      ∙ seats-set W W′ cs k (s .controller) h m (a .grows e))
+      ∙ seats-after e cs′ t)
 
   pub left-all : s .fresh ≡ true → (cs′ : List Controller) → Started (s .setting .members) (s .setting .sender) cs′ → Left′ cs′
   left-all e cs′ t = went ∙ ap (λ X. record { reply = replyIs W′ s; bench = benchOf (s .setting .ready) (s .setting .faulty) X W′ })
       (pick-true (s .fresh) (table controllers (λ j. record { controller = started j (s .setting .members) (s .setting .sender); statements = [] })) (set (seatsIs W cs) k (seatIs W′ (s .controller))) e
       ∙ seats-started W′ cs′ (s .setting .members) (s .setting .sender) t)
 
-  pub kept-one : s .fresh ≡ false → Kept W′ (set cs k (s .controller))
-  kept-one e = kept-set W W′ cs k (s .controller) h m (a .grows e) (a .sound e)
+  pub kept-one : s .fresh ≡ false → (cs′ : List Controller) → Stored cs k s cs′ → Kept W′ cs′
+  kept-one e cs′ (inl (q, z)) = subst (Kept W′) (sym z) (kept-set W W′ cs k (s .controller) h m (a .grows e) (a .sound e))
+  kept-one e cs′ (inr (q, z)) = subst (Kept W′) (set-getD cs k blank ∙ sym z)
+      (kept-set W W′ cs k was h m (a .grows e) (record { distinct = a .sound e .distinct; whole = whole-kept (a .grows e) was (m .whole k h) }))
 
   pub kept-all : s .fresh ≡ true → (cs′ : List Controller) → Started (s .setting .members) (s .setting .sender) cs′ → Kept W′ cs′
   kept-all e cs′ t = kept-start W′ cs′ (s .setting .members) (s .setting .sender) (a .begun e .0) t
@@ -211,9 +231,9 @@ module _ (S : List ℕ) (at : ℕ) (r : ReadLine) (of : LineOf (take (length S -
     line-seat q = omega (arith, q, line-fits .seat)
 
     pub line-on : {n : ℕ} {b b′ : Bench} {R R′ : List ℕ} {out : ℕ} → Going S at n b R R′ out → at < length S → (W′ : List ℕ) (s : Stepped) → step b (lineIs (Readable l) (stmtOf (r .statement))) ≡ record { reply = replyIs W′ s; bench = b′ }
-        → {R″ : List ℕ} {out′ : ℕ} → (out′ ≡ out + length (rowIs n s)) × (R″ ≡ sets R′ out (rowIs n s)) × (length (rowIs n s) ≤ 40) → Going S (at + r .next) (n + 1) b′ R R″ out′
+        → {R″ : List ℕ} {out′ : ℕ} → (out′ ≡ out + length (rowIs n (s .who) (s .answer) (s .number))) × (R″ ≡ sets R′ out (rowIs n (s .who) (s .answer) (s .number))) × (length (rowIs n (s .who) (s .answer) (s .number)) ≤ 40) → Going S (at + r .next) (n + 1) b′ R R″ out′
     line-on {n} {b} {b′} {R} {R′} {out} going more W′ s left {R″} {out′} put =
-        goes-on S at n b b′ R R′ out going r (part-read S at r of) more (lineIs (Readable l) (stmtOf (r .statement))) (ap (λ p. lineIs p (stmtOf (r .statement))) e) (replyIs W′ s) left (rowIs n s) (row-is W′ n s) R″ out′ put
+        goes-on S at n b b′ R R′ out going r (part-read S at r of) more (lineIs (Readable l) (stmtOf (r .statement))) (ap (λ p. lineIs p (stmtOf (r .statement))) e) (replyIs W′ s) left (rowIs n (s .who) (s .answer) (s .number)) (row-is W′ n s) R″ out′ put
 
   -- one that does not
   pub unread-on : r .parsed ≡ Unreadable → {n : ℕ} {b : Bench} {R R′ : List ℕ} {out : ℕ} → Going S at n b R R′ out → at < length S

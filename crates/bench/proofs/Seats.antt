@@ -1,7 +1,7 @@
 -- What a line on one controller comes to.
 -- Assumes nothing.
 use mathlib.Core.Path.{_≡_, refl, sym, ap, ap₂, subst, _∙_}
-use mathlib.Core.Bool.{Bool, true, false, not, _&&_, _||_}
+use mathlib.Core.Bool.{Bool, true, false, not, _&&_, _||_, true≢false}
 use mathlib.Core.List.{List, [], _∷_, _++_, append-assoc, append-nil}
 use mathlib.Core.Option.{Option, some, none}
 use Prim.Native.Nat.{ℕ, zero, suc, _+_, _-_, _≤_, _<_, min}
@@ -40,7 +40,8 @@ use Rattle.bench.specs.declared.seat.Missing.{Missing}
 use Rattle.bench.specs.Line.{Line, join, leave, send, give, all, turn}
 use Rattle.bench.specs.Bench as bench
 use Rattle.bench.specs.Bench.{Seat, emptySeat, Bench, Stepped, step}
-use Rattle.bench.specs.Seats.{seatIs, benchOf, Distinct, Sound, Grows, listed, Numbered, Marks, Marked, lacking, Filled, Seated, numberIs}
+use Rattle.bench.specs.Seats.{seatIs, benchOf, Distinct, Sound, Grows, listed, Numbered, Marks, Marked, lacking, Filled, Seated, numberIs, changesIs}
+use Rattle.bench.proofs.Unchanged.{Idle, idle-answer, Stays, join-stays, leave-stays, send-stays, turn-stays}
 
 -- ---- a record's numbers
 
@@ -260,17 +261,19 @@ module _ (W : List ℕ) (ready : Bool) (c : Controller) (k : ℕ) (l : Line) (r 
     steps = λ faulty X x. h faulty X x ∙ replied k ready faulty (sym (ap (answerIs W) (e .0))) (sym (e .1)) (sym (ap (λ t. set X k (seatIs W t)) (e .2) ∙ ap (λ t. set X k t) (sym x) ∙ set-getD X k emptySeat)) refl;
     sound = subst (Sound W) (sym (e .2)) s;
     grows = grows-same W;
+    same = λ q. ap (seatIs W) (e .2);
   }
 
-  pub seat-taken : (n : ℕ) (d : Controller) → (r .answer ≡ Taken) × (r .number ≡ n) × (r .controller ≡ d) → Sound W d
+  pub seat-taken : (n : ℕ) (d : Controller) (b : Bool) → (r .answer ≡ Taken) × (r .number ≡ n) × (r .controller ≡ d) × (r .changed ≡ b) → (b ≡ false → d ≡ c) → Sound W d
       → ((faulty : ℕ) (X : List Seat) → getD X k emptySeat ≡ seatIs W c
       → step (benchOf ready faulty X W) (some l) ≡ record { reply = record { who = k; answer = controller.taken; number = n }; bench = benchOf ready faulty (set X k (seatIs W d)) W })
       → Seated W ready c k l r W
   unfolding answerIs
-  seat-taken n d e s h = record {
+  seat-taken n d b e o s h = record {
     steps = λ faulty X x. h faulty X x ∙ replied k ready faulty (sym (ap (answerIs W) (e .0))) (sym (e .1)) (sym (ap (λ t. set X k (seatIs W t)) (e .2))) refl;
     sound = subst (Sound W) (sym (e .2)) s;
     grows = grows-same W;
+    same = λ q. ap (seatIs W) (e .2 ∙ o (sym (e .3) ∙ q));
   }
 
 -- ---- requests
@@ -279,8 +282,15 @@ seat-of : {W W′ : List ℕ} {c : Controller} {o : controller.Outcome} {p : Opt
     → record { controller = o .controller; statements = o .statements } ≡ seatIs W′ (ro .controller)
 seat-of m w = ap₂ (λ x y. record { controller = x; statements = y }) (sym (m .controller)) (sym (m .statements w .0))
 
-module _ (W : List ℕ) (ready : Bool) (c : Controller) (k : ℕ) (l : Line) (ro : Outcome) (r : Replied) (e : (r .answer ≡ ro .answer) × (r .number ≡ 0) × (r .controller ≡ ro .controller)) (s : Sound W c)
-    (f : controller.Controller → List Stmt → controller.Outcome) (m : Calls (f (controllerIs c)) c ro)
+-- a call that changed nothing
+seat-stays : {W W′ : List ℕ} {c : Controller} {o : controller.Outcome} {p : Option Stmt} {ro : Outcome} → Meets W c o p ro W′ → Whole W c → Stays (controllerIs c) (recordIs W c) o → changesIs (ro .answer) ≡ false
+    → seatIs W′ (ro .controller) ≡ seatIs W c
+seat-stays {W} {W′} {c} {o} {p} {ro} m w s e =
+    let h = s .stays (subst Idle (m .answer) (idle-answer W′ (ro .answer) e)) in
+    sym (seat-of m w) ∙ ap₂ (λ x y. record { controller = x; statements = y }) (h .0) (h .1)
+
+module _ (W : List ℕ) (ready : Bool) (c : Controller) (k : ℕ) (l : Line) (ro : Outcome) (r : Replied) (e : (r .answer ≡ ro .answer) × (r .number ≡ 0) × (r .controller ≡ ro .controller) × (r .changed ≡ changesIs (ro .answer))) (s : Sound W c)
+    (f : controller.Controller → List Stmt → controller.Outcome) (st : (d : controller.Controller) (X : List Stmt) → Stays d X (f d X)) (m : Calls (f (controllerIs c)) c ro)
     (h : (b : Bench) → step b (some l) ≡ bench.at b k (f (bench.seat b k .controller) (bench.seat b k .statements)) (b .pool) 0) where
   pub seat-asked : Seated W ready c k l r W
   unfolding Calls
@@ -291,20 +301,21 @@ module _ (W : List ℕ) (ready : Bool) (c : Controller) (k : ℕ) (l : Line) (ro
         ∙ replied k ready faulty (sym (m W .answer) ∙ sym (ap (answerIs W) (e .0))) (sym (e .1)) (ap (λ t. set X k t) (seat-of (m W) (s .whole) ∙ sym (ap (seatIs W) (e .2)))) refl;
     sound = record { distinct = s .distinct; whole = subst (Whole W) (sym (e .2)) (m W .statements (s .whole) .1) };
     grows = grows-same W;
+    same = λ q. ap (seatIs W) (e .2) ∙ seat-stays (m W) (s .whole) (st (controllerIs c) (recordIs W c)) (sym (e .3) ∙ q);
   }
 
-module _ (W : List ℕ) (ready : Bool) (c : Controller) (k : ℕ) (ro : Outcome) (r : Replied) (e : (r .answer ≡ ro .answer) × (r .number ≡ 0) × (r .controller ≡ ro .controller)) (s : Sound W c) where
+module _ (W : List ℕ) (ready : Bool) (c : Controller) (k : ℕ) (ro : Outcome) (r : Replied) (e : (r .answer ≡ ro .answer) × (r .number ≡ 0) × (r .controller ≡ ro .controller) × (r .changed ≡ changesIs (ro .answer))) (s : Sound W c) where
   pub seat-joins : Calls (requestJoin (controllerIs c)) c ro → Seated W ready c k (join k) r W
   unfolding step
-  seat-joins m = seat-asked W ready c k (join k) ro r e s requestJoin m (λ b. refl)
+  seat-joins m = seat-asked W ready c k (join k) ro r e s requestJoin join-stays m (λ b. refl)
 
   pub seat-leaves : Calls (requestLeave (controllerIs c)) c ro → Seated W ready c k (leave k) r W
   unfolding step
-  seat-leaves m = seat-asked W ready c k (leave k) ro r e s requestLeave m (λ b. refl)
+  seat-leaves m = seat-asked W ready c k (leave k) ro r e s requestLeave leave-stays m (λ b. refl)
 
   pub seat-sends : (payload : ℕ) → Calls (λ X. requestSend (controllerIs c) X payload) c ro → Seated W ready c k (send k payload) r W
   unfolding step
-  seat-sends payload m = seat-asked W ready c k (send k payload) ro r e s (λ d X. requestSend d X payload) m (λ b. refl)
+  seat-sends payload m = seat-asked W ready c k (send k payload) ro r e s (λ d X. requestSend d X payload) (λ d X. send-stays d X payload) m (λ b. refl)
 
 pub marks-first : (f : ℕ → ℕ) (m : ℕ) → m ≡ 512 → MarksTo f 0 (replicate m false)
 marks-first f m e = record { long = length-replicate m false ∙ e; tells = λ n h. getD-replicate m n false false (omega arith) ∙ sym (any-zero (eqb n) f) }
@@ -402,9 +413,9 @@ module _ (W : List ℕ) (ready : Bool) (c : Controller) (k n : ℕ) (r : Replied
     give-full e l h f = seat-refused W ready c k (give k n) r refusal.Full e s (λ faulty X x. opened faulty X x (known l) (in-record false l h) (le-leb 512 (length (recordIs W c)) (omega (arith, record-long))))
 
     module _ (more : Record) where
-      pub give-taken : (r .answer ≡ Taken) × (r .number ≡ 0) × (r .controller ≡ withStatements c more) → n < poolLen W → listed (c .statements) n ≡ false → c .statements .len < 512 → Pushed (c .statements) n more → Seated W ready c k (give k n) r W
+      pub give-taken : (r .answer ≡ Taken) × (r .number ≡ 0) × (r .controller ≡ withStatements c more) × (r .changed ≡ true) → n < poolLen W → listed (c .statements) n ≡ false → c .statements .len < 512 → Pushed (c .statements) n more → Seated W ready c k (give k n) r W
       unfolding recordIs Whole controllerIs
-      give-taken e l h f p = seat-taken W ready c k (give k n) r 0 (withStatements c more) e
+      give-taken e l h f p = seat-taken W ready c k (give k n) r 0 (withStatements c more) true e (λ q. absurd (true≢false q))
           (record {
             distinct = s .distinct;
             whole = λ j b. elim (decLt j (c .statements .len)) [
@@ -454,9 +465,9 @@ module _ (W : List ℕ) (ready : Bool) (c : Controller) (k : ℕ) (r : Replied) 
     pub all-full : (r .answer ≡ Refused refusal.Full) × (r .number ≡ 0) × (r .controller ≡ c) → 512 < min (c .statements .len) 512 + m .count → Seated W ready c k (all k) r W
     all-full e l = seat-refused W ready c k (all k) r refusal.Full e s (λ faulty X x. spreads faulty X x (lt-ltb 512 (min (c .statements .len) 512 + m .count) l))
 
-    pub all-taken : (r .answer ≡ Taken) × (r .number ≡ m .count) × (r .controller ≡ withStatements c (m .statements)) → min (c .statements .len) 512 + m .count ≤ 512 → Seated W ready c k (all k) r W
+    pub all-taken : (r .answer ≡ Taken) × (r .number ≡ m .count) × (r .controller ≡ withStatements c (m .statements)) × (r .changed ≡ true) → min (c .statements .len) 512 + m .count ≤ 512 → Seated W ready c k (all k) r W
     unfolding recordIs Whole controllerIs
-    all-taken e l = seat-taken W ready c k (all k) r (m .count) (withStatements c (m .statements)) e (record { distinct = s .distinct; whole = f .within })
+    all-taken e l = seat-taken W ready c k (all k) r (m .count) (withStatements c (m .statements)) true e (λ q. absurd (true≢false q)) (record { distinct = s .distinct; whole = f .within })
         (λ faulty X x. spreads faulty X x (le-ltb 512 (min (c .statements .len) 512 + m .count) l)
         ∙ replied k ready faulty refl (sym (f .count)) (ap (λ t. set X k (record { controller = controllerIs c; statements = t })) (sym (f .means l))) refl)
 
@@ -596,7 +607,7 @@ turn-keeps W W′ controller.left e d = (same-distinct e d, same-grows e)
 turn-keeps W W′ controller.quiet e d = (same-distinct e d, same-grows e)
 turn-keeps W W′ (controller.refused r) e d = (same-distinct e d, same-grows e)
 
-module _ (W W′ : List ℕ) (ready : Bool) (c : Controller) (k : ℕ) (ro : Outcome) (r : Replied) (e : (r .answer ≡ ro .answer) × (r .number ≡ numberIs (ro .answer)) × (r .controller ≡ ro .controller)) (s : Sound W c) where
+module _ (W W′ : List ℕ) (ready : Bool) (c : Controller) (k : ℕ) (ro : Outcome) (r : Replied) (e : (r .answer ≡ ro .answer) × (r .number ≡ numberIs (ro .answer)) × (r .controller ≡ ro .controller) × (r .changed ≡ changesIs (ro .answer))) (s : Sound W c) where
   abbrev outcome : controller.Outcome
   outcome = turnOf (controllerIs c) (recordIs W c) (hasRoom (poolIs W))
 
@@ -610,4 +621,5 @@ module _ (W W′ : List ℕ) (ready : Bool) (c : Controller) (k : ℕ) (ro : Out
         (ap (λ t. set X k t) (seat-of m (s .whole) ∙ sym (ap (seatIs W′) (e .2)))) (sym (pool-then W W′ (outcome .answer) (m .pool)));
     sound = record { distinct = turn-keeps W W′ (outcome .answer) (pool-then W W′ (outcome .answer) (m .pool)) (s .distinct) .0; whole = subst (Whole W′) (sym (e .2)) (m .statements (s .whole) .1) };
     grows = turn-keeps W W′ (outcome .answer) (pool-then W W′ (outcome .answer) (m .pool)) (s .distinct) .1;
+    same = λ q. ap (seatIs W′) (e .2) ∙ seat-stays m (s .whole) (turn-stays (controllerIs c) (recordIs W c) (hasRoom (poolIs W))) (sym (e .3) ∙ q);
   }

@@ -66,6 +66,7 @@ advance-seated {W} {W′} {g} {c} {k} {l} {r} {s} b m e = record {
   who = omega (arith, e .who);
   sound = λ h. subst (Sound W′) (sym (e .controller)) (m .sound);
   grows = λ h. m .grows;
+  same = λ h q. ap (seatIs W′) (e .controller) ∙ m .same (sym (e .changed) ∙ q);
   begun = λ h. absurd (subst T (sym h ∙ e .fresh) tt);
 }
 
@@ -79,6 +80,7 @@ advance-refused {W} {g} {c} {k} {o} who q {s} b m e h = record {
   who = omega (arith, e .who-is);
   sound = λ t. subst (Sound W) (sym (e .controller)) m;
   grows = λ t. grows-same W;
+  same = λ t q. ap (seatIs W) (e .controller);
   begun = λ t. absurd (subst T (sym t ∙ e .fresh) tt);
 }
 
@@ -160,13 +162,14 @@ module _ (members sender faulty : ℕ) where
 
   pub setup-taken : (W : List ℕ) (g : Setting) (c : Controller) → length W ≡ 10241 → sender < 16 → g .ready ≡ false → (members ≡ 0 → ⊥) → members < 65536
       → Advanced W g c 0 (some (setup members sender faulty))
-      (record { who = sender; answer = Taken; number = 0; controller = c; setting = record { ready = true; faulty = faulty; members = members; sender = sender }; fresh = true }) (set W 10240 0)
+      (record { who = sender; answer = Taken; number = 0; controller = c; setting = record { ready = true; faulty = faulty; members = members; sender = sender }; fresh = true; changed = false }) (set W 10240 0)
   unfolding answerIs
   setup-taken W g c n l q a b = record {
     steps = λ X x. setup-is (benchOf (g .ready) (g .faulty) X W) q (allowed-is a b l) refl ∙ stepped refl refl refl refl refl refl (no-pool (set W 10240 0) (emptied W n));
     who = omega arith;
     sound = λ t. absurd (subst T t tt);
     grows = λ t. absurd (subst T t tt);
+    same = λ t. absurd (subst T t tt);
     begun = λ t. (emptied W n, allowed-is a b l);
   }
 
@@ -274,7 +277,7 @@ module _ (W W′ : List ℕ) (g : Setting) (c : Controller) (st : Statement) (m 
   longer : poolIs W′ ≡ poolIs W ++ (stmtOf st ∷ [])
   longer = grown-pool W W′ st short (a .new z room) room
 
-  pub lie-taken : Advanced W g c 0 (some (lie (stmtOf st))) (record { who = st .origin; answer = Taken; number = n; controller = c; setting = g; fresh = false }) W′
+  pub lie-taken : Advanced W g c 0 (some (lie (stmtOf st))) (record { who = st .origin; answer = Taken; number = n; controller = c; setting = g; fresh = false; changed = false }) W′
   unfolding stmtOf answerIs
   lie-taken = record {
     steps = λ X x. lie-is (benchOf (g .ready) (g .faulty) X W) (stmtOf st) q b (absent-in W (stmtOf st) z) (lt-leb 512 (length (poolIs W)) (omega (arith, pool-size W, room)))
@@ -282,6 +285,7 @@ module _ (W W′ : List ℕ) (g : Setting) (c : Controller) (st : Statement) (m 
     who = omega arith;
     sound = λ t. record { distinct = one-distinct W W′ (stmtOf st) longer (absent-in W (stmtOf st) z) (m .distinct); whole = whole-kept (one-grows W W′ (stmtOf st) longer) c (m .whole) };
     grows = λ t. one-grows W W′ (stmtOf st) longer;
+    same = λ t q. seat-kept (one-grows W W′ (stmtOf st) longer) c (m .whole);
     begun = λ t. absurd (subst T (sym t) tt);
   }
 

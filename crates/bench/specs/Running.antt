@@ -10,9 +10,9 @@ use lib.Seq.{sets}
 use Rattle.protocol.specs.Call.{started}
 use Rattle.views.specs.Table.{table}
 use Rattle.engine.specs.declared.Controller.{Controller}
+use Rattle.engine.specs.declared.Answer.{Answer}
 use Rattle.engine.specs.Meaning.{Whole}
 use Rattle.bench.specs.declared.state.Setting.{Setting}
-use Rattle.bench.specs.declared.state.Stepped.{Stepped}
 use Rattle.bench.specs.Line.{Line, lines, ReadAll}
 use Rattle.bench.specs.Bench.{Seat, Bench, newBench}
 use Rattle.bench.specs.Rows.{rowsFrom, Printed}
@@ -20,8 +20,8 @@ use Rattle.bench.specs.Writing.{rowOf}
 use Rattle.bench.specs.Seats.{blank, seatIs, benchOf, Distinct, wordOf, valueOf}
 
 -- The row of a line.
-unfoldable pub rowIs : ℕ → Stepped → List ℕ
-rowIs n s = rowOf n (s .who) (wordOf (s .answer)) (valueOf (s .answer) (s .number))
+unfoldable pub rowIs : ℕ → ℕ → Answer → ℕ → List ℕ
+rowIs n who a number = rowOf n who (wordOf a) (valueOf a number)
 
 -- The sixteen seats.
 unfoldable pub seatsIs : List ℕ → List Controller → List Seat

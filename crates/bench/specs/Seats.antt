@@ -121,6 +121,8 @@ pub record Seated (W : List ℕ) (ready : Bool) (c : Controller) (k : ℕ) (l : 
       ≡ record { reply = record { who = k; answer = answerIs W′ (r .answer); number = r .number }; bench = benchOf ready faulty (set X k (seatIs W′ (r .controller))) W′ }
   pub sound : Sound W′ (r .controller)
   pub grows : Grows W W′
+  -- What is not stored is as it was.
+  pub same : r .changed ≡ false → seatIs W′ (r .controller) ≡ seatIs W c
 
 -- A turn of c over the pool W answered a and left d and W′.
 abbrev pub TurnedTo : List ℕ → Controller → Answer → Controller → List ℕ → Type 0
@@ -135,6 +137,16 @@ numberIs (Delivered m) = 0
 numberIs Left = 0
 numberIs Quiet = 0
 numberIs (Refused r) = 0
+
+-- Whether a call that answers so may have changed its controller.
+abbrev pub changesIs : Answer → Bool
+changesIs Taken = true
+changesIs (Signed n) = true
+changesIs (Entered v) = true
+changesIs (Delivered m) = true
+changesIs Left = false
+changesIs Quiet = false
+changesIs (Refused r) = false
 
 -- ---- any line
 
@@ -167,7 +179,7 @@ abbrev pub replyIs : List ℕ → Stepped → Reply
 replyIs W r = record { who = r .who; answer = answerIs W (r .answer); number = r .number }
 
 abbrev pub replied : Answer → ℕ → Controller → Replied
-replied a n c = record { answer = a; number = n; controller = c }
+replied a n c = record { answer = a; number = n; controller = c; changed = changesIs a }
 
 -- What is told of a line on controller k that was answered by r, and of one that was refused.
 pub record SeatedAs (g : Setting) (k : ℕ) (r : Replied) (s : Stepped) : Type 0 where
@@ -177,6 +189,7 @@ pub record SeatedAs (g : Setting) (k : ℕ) (r : Replied) (s : Stepped) : Type 0
   pub controller : s .controller ≡ r .controller
   pub setting : s .setting ≡ g
   pub fresh : s .fresh ≡ false
+  pub changed : s .changed ≡ r .changed
 
 pub record RefusedAs (c : Controller) (g : Setting) (who : ℕ) (q : Refusal) (s : Stepped) : Type 0 where
   pub who-is : s .who ≡ who
@@ -193,6 +206,8 @@ pub record Advanced (W : List ℕ) (g : Setting) (c : Controller) (k : ℕ) (l :
   pub who : r .who ≤ 16
   pub sound : r .fresh ≡ false → Sound W′ (r .controller)
   pub grows : r .fresh ≡ false → Grows W W′
+  -- A seat that is not stored is as it was.
+  pub same : r .fresh ≡ false → r .changed ≡ false → seatIs W′ (r .controller) ≡ seatIs W c
   pub begun : r .fresh ≡ true → (poolLen W′ ≡ 0) × (setupAllowed 0 (r .setting .members) (r .setting .sender) ≡ true)
 
 -- ---- rows

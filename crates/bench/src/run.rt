@@ -19,7 +19,6 @@ use crate::row::Value;
 use crate::row::Word;
 use crate::state;
 use crate::state::Setting;
-use crate::state::Stepped;
 use engine::Answer;
 use engine::Controller;
 use engine::Refusal;
@@ -71,13 +70,12 @@ fn value_of(a: Answer, n: u64) -> Value
     }
 }
 
-// The row of line n.
-fn put_step(rows: &mut [u8], at: usize, n: u64, s: Stepped) -> usize
-    requires { ⌜ (at ≤ 2621504) × (n < 100000) × (s .who ≤ 16) ⌝ }
-    ensures { λ r. ⌜ (r ≡ at + length (rowIs n s)) × (now (rows .exit) ≡ sets (now (rows .entry)) at (rowIs n s)) × (length (rowIs n s) ≤ 40) ⌝ }
+// The row of line n. It takes what the row names alone, so that no controller is passed.
+fn put_step(rows: &mut [u8], at: usize, n: u64, who: u64, a: Answer, number: u64) -> usize
+    requires { ⌜ (at ≤ 2621504) × (n < 100000) × (who ≤ 16) ⌝ }
+    ensures { λ r. ⌜ (r ≡ at + length (rowIs n who a number)) × (now (rows .exit) ≡ sets (now (rows .entry)) at (rowIs n who a number)) × (length (rowIs n who a number) ≤ 40) ⌝ }
 {
-    let a = s.answer;
-    row::put_row_within(rows, at, n, s.who, word_of(a), value_of(a, s.number))
+    row::put_row_within(rows, at, n, who, word_of(a), value_of(a, number))
 }
 
 // The seat of the controller that a line names; the first where it names none.
@@ -145,7 +143,13 @@ fn run_lines(schedule: &[u8], rows: &mut [u8]) -> usize
         let k = seat_of(line);
         let named = seats[k];
         let s = state::step(named, &mut words, setting, line, st);
-        out = put_step(rows, out, n, s);
+        let a = s.answer;
+        // Before the row is put, so that a line which changes nothing copies no controller.
+        if s.changed {
+            let d = s.controller;
+            seats[k] = d;
+        }
+        out = put_step(rows, out, n, s.who, a, s.number);
         let g = s.setting;
         setting = g;
         at += read.next;
@@ -153,10 +157,7 @@ fn run_lines(schedule: &[u8], rows: &mut [u8]) -> usize
         if s.fresh {
             let all = start_all(g.members, g.sender);
             seats = all;
-            continue;
         }
-        let d = s.controller;
-        seats[k] = d;
     }
     out
 }

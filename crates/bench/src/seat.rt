@@ -12,11 +12,12 @@ use engine::Refusal;
 use pool::POOL_WORDS;
 use pool::Record;
 
-// The answer, the number that its row may need, and the controller after it.
+// The answer, the number that its row may need, the controller after it, and whether that is to be stored.
 pub struct Replied {
     pub answer: Answer,
     pub number: u64,
     pub controller: Controller,
+    pub changed: bool,
 }
 
 // A record with what it lacked of the pool, and how many statements that were.
@@ -32,16 +33,18 @@ pub fn refused(c: Controller, r: Refusal) -> Replied
         answer: Answer::Refused(r),
         number: 0,
         controller: c,
+        changed: false,
     }
 }
 
-pub fn taken(c: Controller, n: u64) -> Replied
-    ensures { λ o. ⌜ (o .answer ≡ Answer.Taken) × (o .number ≡ n) × (o .controller ≡ c) ⌝ }
+pub fn taken(c: Controller, n: u64, changed: bool) -> Replied
+    ensures { λ o. ⌜ (o .answer ≡ Answer.Taken) × (o .number ≡ n) × (o .controller ≡ c) × (o .changed ≡ changed) ⌝ }
 {
     Replied {
         answer: Answer::Taken,
         number: n,
         controller: c,
+        changed: changed,
     }
 }
 
@@ -168,6 +171,7 @@ pub fn give(c: Controller, words: &[u64; POOL_WORDS], ready: bool, k: u8, n: u64
             ..c
         },
         0,
+        true,
     )
 }
 
@@ -193,5 +197,6 @@ pub fn all(c: Controller, words: &[u64; POOL_WORDS], ready: bool, k: u8) -> Repl
             ..c
         },
         m.count as u64,
+        true,
     )
 }

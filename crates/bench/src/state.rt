@@ -8,7 +8,7 @@ ghost use Rattle.statements.specs.Meaning.{stmtOf};
 ghost use Rattle.bench.specs.declared.line.Parsed.the-variants.{Readable};
 ghost use Rattle.bench.specs.Line as lines;
 ghost use Rattle.bench.specs.Reading.{lineIs};
-ghost use Rattle.bench.specs.Seats.{Sound, Fit, seatOf, numberIs, replied, SeatedAs, RefusedAs, Advanced};
+ghost use Rattle.bench.specs.Seats.{Sound, Fit, seatOf, numberIs, changesIs, replied, SeatedAs, RefusedAs, Advanced};
 use crate::lent;
 use crate::line::Line;
 use crate::seat;
@@ -31,7 +31,7 @@ pub struct Setting {
     pub sender: u8,
 }
 
-// What a line answers, and what it leaves; `fresh` where every controller is to start.
+// What a line answers, and what it leaves; `fresh` where every controller is to start, and else `changed` where this one is to be stored.
 pub struct Stepped {
     pub who: u64,
     pub answer: Answer,
@@ -39,6 +39,22 @@ pub struct Stepped {
     pub controller: Controller,
     pub setting: Setting,
     pub fresh: bool,
+    pub changed: bool,
+}
+
+// Whether a call that answers so may have changed its controller.
+fn changes(a: Answer) -> bool
+    ensures { λ r. ⌜ r ≡ changesIs a ⌝ }
+{
+    match a {
+        Answer::Taken => true,
+        Answer::Signed(_) => true,
+        Answer::Entered(_) => true,
+        Answer::Delivered(_) => true,
+        Answer::Left => false,
+        Answer::Quiet => false,
+        Answer::Refused(_) => false,
+    }
 }
 
 // What a request did. Its row has no number of its own.
@@ -54,6 +70,7 @@ fn noted(g: Setting, k: u8, o: Outcome) -> Stepped
         controller: c,
         setting: g,
         fresh: false,
+        changed: changes(a),
     }
 }
 
@@ -84,6 +101,7 @@ fn turned(g: Setting, k: u8, o: Outcome) -> Stepped
         controller: c,
         setting: g,
         fresh: false,
+        changed: changes(a),
     }
 }
 
@@ -100,6 +118,7 @@ fn seated(g: Setting, k: u8, r: Replied) -> Stepped
         controller: c,
         setting: g,
         fresh: false,
+        changed: r.changed,
     }
 }
 
@@ -114,6 +133,7 @@ fn refused(c: Controller, g: Setting, who: u64, r: Refusal) -> Stepped
         controller: c,
         setting: g,
         fresh: false,
+        changed: false,
     }
 }
 
@@ -161,6 +181,7 @@ fn set_up(
             sender: sender,
         },
         fresh: true,
+        changed: false,
     }
 }
 
@@ -195,6 +216,7 @@ fn lie(c: Controller, words: &mut [u64; POOL_WORDS], g: Setting, st: Statement) 
         controller: c,
         setting: g,
         fresh: false,
+        changed: false,
     }
 }
 

@@ -21,7 +21,7 @@ same-length c = search needs
 
 -- src/run.rt:71:1
 returns : tie.Need-returns
-returns c = row-put (c .before .before .before .before .before .before .before .args .s) (c .before .before .before .before .before .before .before .args .n) (c .before .before .before .before .before .before .before .args .at) (c .before .before .before .before .before .before .before .args .rows .now) (c .before .before .before .before .word-of .ensures) (c .before .before .before .value-of .ensures) (c .before .before .put-row-within .ensures)
+returns c = row-put (c .before .before .before .before .before .before .before .args .who) (c .before .before .before .before .before .before .before .args .a) (c .before .before .before .before .before .before .before .args .number) (c .before .before .before .before .before .before .before .args .n) (c .before .before .before .before .before .before .before .args .at) (c .before .before .before .before .before .before .before .args .rows .now) (c .before .before .before .before .word-of .ensures) (c .before .before .before .value-of .ensures) (c .before .before .put-row-within .ensures)
 
 pub put-step-spec : {M : Type 1} → statement M
 put-step-spec =

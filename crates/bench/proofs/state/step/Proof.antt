@@ -109,15 +109,15 @@ returns c = at-line (c .before .before .before .before .before .args .st) (ap Re
 
 -- src/state.rt:213:1
 returns-2 : tie.Need-returns-2
-returns-2 c = at-line (c .before .before .before .before .before .args .st) (ap Readable (c .before .before .before .line2 .given .1)) (advance-seated (fit-at (c .before .before .before .before .before .pre .1) (ap Readable (c .before .before .before .line2 .given .1))) (seat-joins _ _ _ _ _ (replied (c .before .join .result .answer) 0 (c .before .join .result .controller)) (refl, refl, refl) (c .before .before .before .before .before .pre .0) (c .before .join .ensures)) (c .noted .ensures))
+returns-2 c = at-line (c .before .before .before .before .before .args .st) (ap Readable (c .before .before .before .line2 .given .1)) (advance-seated (fit-at (c .before .before .before .before .before .pre .1) (ap Readable (c .before .before .before .line2 .given .1))) (seat-joins _ _ _ _ _ (replied (c .before .join .result .answer) 0 (c .before .join .result .controller)) (refl, refl, refl, refl) (c .before .before .before .before .before .pre .0) (c .before .join .ensures)) (c .noted .ensures))
 
 -- src/state.rt:213:1
 returns-3 : tie.Need-returns-3
-returns-3 c = at-line (c .before .before .before .before .before .args .st) (ap Readable (c .before .before .before .line3 .given .1)) (advance-seated (fit-at (c .before .before .before .before .before .pre .1) (ap Readable (c .before .before .before .line3 .given .1))) (seat-leaves _ _ _ _ _ (replied (c .before .leave .result .answer) 0 (c .before .leave .result .controller)) (refl, refl, refl) (c .before .before .before .before .before .pre .0) (c .before .leave .ensures)) (c .noted2 .ensures))
+returns-3 c = at-line (c .before .before .before .before .before .args .st) (ap Readable (c .before .before .before .line3 .given .1)) (advance-seated (fit-at (c .before .before .before .before .before .pre .1) (ap Readable (c .before .before .before .line3 .given .1))) (seat-leaves _ _ _ _ _ (replied (c .before .leave .result .answer) 0 (c .before .leave .result .controller)) (refl, refl, refl, refl) (c .before .before .before .before .before .pre .0) (c .before .leave .ensures)) (c .noted2 .ensures))
 
 -- src/state.rt:213:1
 returns-4 : tie.Need-returns-4
-returns-4 c = at-line (c .before .before .before .before .before .args .st) (ap Readable (c .before .before .before .line4 .given .1)) (advance-seated (fit-at (c .before .before .before .before .before .pre .1) (ap Readable (c .before .before .before .line4 .given .1))) (seat-sends _ _ _ _ _ (replied (c .before .send .result .answer) 0 (c .before .send .result .controller)) (refl, refl, refl) (c .before .before .before .before .before .pre .0) _ (c .before .send .ensures)) (c .noted3 .ensures))
+returns-4 c = at-line (c .before .before .before .before .before .args .st) (ap Readable (c .before .before .before .line4 .given .1)) (advance-seated (fit-at (c .before .before .before .before .before .pre .1) (ap Readable (c .before .before .before .line4 .given .1))) (seat-sends _ _ _ _ _ (replied (c .before .send .result .answer) 0 (c .before .send .result .controller)) (refl, refl, refl, refl) (c .before .before .before .before .before .pre .0) _ (c .before .send .ensures)) (c .noted3 .ensures))
 
 -- src/state.rt:213:1
 returns-5 : tie.Need-returns-5
@@ -129,7 +129,7 @@ returns-6 c = at-line (c .before .before .before .before .before .before .args .
 
 -- src/state.rt:213:1
 returns-7 : tie.Need-returns-7
-returns-7 c = at-line (c .before .before .before .before .before .before .args .st) (ap Readable (c .before .before .before .before .line7 .given .1)) (advance-seated (fit-at (c .before .before .before .before .before .before .pre .1) (ap Readable (c .before .before .before .before .line7 .given .1))) (seat-turns _ _ _ _ _ _ (replied (c .before .lend-turn .result .answer) (numberIs (c .before .lend-turn .result .answer)) (c .before .lend-turn .result .controller)) (refl, refl, refl) (c .before .before .before .before .before .before .pre .0) (c .before .lend-turn .ensures)) (c .turned .ensures))
+returns-7 c = at-line (c .before .before .before .before .before .before .args .st) (ap Readable (c .before .before .before .before .line7 .given .1)) (advance-seated (fit-at (c .before .before .before .before .before .before .pre .1) (ap Readable (c .before .before .before .before .line7 .given .1))) (seat-turns _ _ _ _ _ _ (replied (c .before .lend-turn .result .answer) (numberIs (c .before .lend-turn .result .answer)) (c .before .lend-turn .result .controller)) (refl, refl, refl, refl) (c .before .before .before .before .before .before .pre .0) (c .before .lend-turn .ensures)) (c .turned .ensures))
 
 -- src/state.rt:213:1
 returns-8 : tie.Need-returns-8
