@@ -40,7 +40,7 @@ use Rattle.bench.specs.declared.seat.Missing.{Missing}
 use Rattle.bench.specs.Line.{Line, join, leave, send, give, all, turn}
 use Rattle.bench.specs.Bench as bench
 use Rattle.bench.specs.Bench.{Seat, emptySeat, Bench, Stepped, step}
-use Rattle.bench.specs.Seats.{seatIs, benchOf, Distinct, Sound, Grows, listed, Numbered, Marks, Marked, lacking, Filled, Seated, numberIs, changesIs}
+use Rattle.bench.specs.Seats.{seatIs, benchOf, Distinct, Sound, Grows, listed, Numbered, Marks, Marked, FirstFree, lacking, Filled, Seated, numberIs, changesIs}
 use Rattle.bench.proofs.Unchanged.{Idle, idle-answer, Stays, join-stays, leave-stays, send-stays, turn-stays}
 
 -- ---- a record's numbers
@@ -338,6 +338,10 @@ fill-over W from d w marks m i j count more l h p f = subst (λ k. Filled W from
         let k : i + n < j = omega arith in
         subst (λ x. Filled W from x (made more count)) (omega arith) (fill-skip W from d w marks m (i + n) count more (omega arith) (omega (arith, pool-most W)) (go n (omega arith)) (p (i + n) (omega arith) k))
 
+-- a record that lacks nothing
+pub fill-none : (W : List ℕ) (from : Record) → Distinct W → AllIn W from → (marks : List Bool) → Marks from marks → (n r : ℕ) → n ≡ poolLen W → FirstFree marks 0 n r → r ≡ n → Filled W from n (made from 0)
+fill-none W from d w marks m n r z g e = fill-over W from d w marks m 0 n 0 from (omega arith) (omega arith) (subst (Marked marks 0) e (g .passed)) (fill-first W from w)
+
 filter-most : {A : Type 0} (p : A → Bool) (l : List A) → length (filter p l) ≤ length l
 unfolding filter
 filter-most p [] = omega arith
@@ -470,6 +474,12 @@ module _ (W : List ℕ) (ready : Bool) (c : Controller) (k : ℕ) (r : Replied) 
     all-taken e l = seat-taken W ready c k (all k) r (m .count) (withStatements c (m .statements)) true e (λ q. absurd (true≢false q)) (record { distinct = s .distinct; whole = f .within })
         (λ faulty X x. spreads faulty X x (le-ltb 512 (min (c .statements .len) 512 + m .count) l)
         ∙ replied k ready faulty refl (sym (f .count)) (ap (λ t. set X k (record { controller = controllerIs c; statements = t })) (sym (f .means l))) refl)
+
+  pub all-none : ready ≡ true → (n : ℕ) → n ≡ poolLen W → Filled W (c .statements) n (made (c .statements) 0) → (r .answer ≡ Taken) × (r .number ≡ 0) × (r .controller ≡ c) × (r .changed ≡ false) → Seated W ready c k (all k) r W
+  unfolding recordIs Whole controllerIs
+  all-none q n z f e = seat-taken W ready c k (all k) r 0 c false e (λ t. refl) s
+      (λ faulty X x. spreads q n (made (c .statements) 0) z f faulty X x (le-ltb 512 (min (c .statements .len) 512 + 0) (omega arith))
+      ∙ replied k ready faulty refl (sym (f .count)) (ap (λ t. set X k (record { controller = controllerIs c; statements = t })) (sym (f .means (omega arith)))) refl)
 
 -- ---- a pool with one statement more
 

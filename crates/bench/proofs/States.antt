@@ -39,12 +39,12 @@ use Rattle.bench.specs.declared.seat.Replied.{Replied}
 use Rattle.bench.specs.declared.line.Parsed.{Parsed}
 use Rattle.bench.specs.declared.state.Setting.{Setting}
 use Rattle.bench.specs.declared.state.Stepped.{Stepped}
-use Rattle.bench.specs.Line.{Line, setup, lie, noStatement}
+use Rattle.bench.specs.Line.{Line, setup, all, lie, noStatement}
 use Rattle.bench.specs.Reading.{lineIs}
 use Rattle.bench.specs.Bench as bench
 use Rattle.bench.specs.Bench.{Seat, emptySeat, Bench, step}
 use Rattle.bench.specs.Seats.{seatIs, benchOf, Distinct, Sound, Grows, Seated, SeatedAs, RefusedAs, Advanced, Fit, seatOf}
-use Rattle.bench.proofs.Seats.{grows-same, one-grows, one-distinct, pool-size}
+use Rattle.bench.proofs.Seats.{grows-same, one-grows, one-distinct, pool-size, fill-first, all-unready, all-none}
 
 -- the parts of what a line leaves
 stepped : {w w′ : ℕ} {a a′ : controller.Answer} {n n′ : ℕ} {g g′ : Bool} {f f′ : ℕ} {X X′ : List Seat} {P P′ : List Stmt} → w ≡ w′ → a ≡ a′ → n ≡ n′ → g ≡ g′ → f ≡ f′ → X ≡ X′ → P ≡ P′
@@ -291,6 +291,18 @@ module _ (W W′ : List ℕ) (g : Setting) (c : Controller) (st : Statement) (m 
 
 pub appended : {W W′ : List ℕ} {st : Statement} {p q : Answered} → memory.Appended W W′ st p → p ≡ q → memory.Appended W W′ st q
 appended {W} {W′} {st} a e = subst (memory.Appended W W′ st) e a
+
+-- ---- all
+
+module _ (W : List ℕ) (g : Setting) (c : Controller) (k : ℕ) (m : Sound W c) (b : k < 16) where
+  pub all-early : {s : Stepped} → RefusedAs c g k refusal.OutOfPlace s → g .ready ≡ false → Advanced W g c k (some (all k)) s W
+  all-early {s} e q = advance-seated b (all-unready W (g .ready) c k (record { answer = Refused refusal.OutOfPlace; number = 0; controller = c; changed = false }) m (refl, refl, refl) q)
+      (record { who = e .who-is; answer = e .answer; number = e .number; controller = e .controller; setting = e .setting; fresh = e .fresh; changed = e .changed })
+
+  pub all-empty : g .ready ≡ true → poolLen W ≡ 0 → Advanced W g c k (some (all k)) (record { who = k; answer = Taken; number = 0; controller = c; setting = g; fresh = false; changed = false }) W
+  unfolding Whole
+  all-empty q z = advance-seated b (all-none W (g .ready) c k (record { answer = Taken; number = 0; controller = c; changed = false }) m q 0 (sym z) (fill-first W (c .statements) (m .whole)) (refl, refl, refl, refl))
+      (record { who = refl; answer = refl; number = refl; controller = refl; setting = refl; fresh = refl; changed = refl })
 
 -- ---- the line that was read
 

@@ -81,6 +81,10 @@ pub record Grows (W W′ : List ℕ) : Type 0 where
   pub len : poolLen W ≤ poolLen W′
   pub same : (n : ℕ) → n < poolLen W → stmtAt W′ n ≡ stmtAt W n
 
+-- The record of these numbers.
+abbrev pub recordWith : List ℕ → ℕ → Record
+recordWith ids len = record { ids = ids; len = len }
+
 -- Whether n is one of the record's numbers.
 unfoldable pub listed : Record → ℕ → Bool
 listed r n = any (eqb n) (table (min (r .len) 512) (λ i. getD (r .ids) i 0))
@@ -198,6 +202,7 @@ pub record RefusedAs (c : Controller) (g : Setting) (who : ℕ) (q : Refusal) (s
   pub controller : s .controller ≡ c
   pub setting : s .setting ≡ g
   pub fresh : s .fresh ≡ false
+  pub changed : s .changed ≡ false
 
 -- The line l on a bench that has c at seat k.
 pub record Advanced (W : List ℕ) (g : Setting) (c : Controller) (k : ℕ) (l : Option Line) (r : Stepped) (W′ : List ℕ) : Type 0 where

@@ -5,7 +5,7 @@ ghost use Prim.Native.Nat.{_+_, _≤_};
 ghost use Rattle.engine.specs.Meaning.{AllIn};
 ghost use Rattle.pool.specs.Pool.{poolLen};
 ghost use Rattle.bench.specs.Line.{Line};
-ghost use Rattle.bench.specs.Seats.{Distinct, Sound, listed, Numbered, Marks, Marked, FirstFree, Filled, Seated};
+ghost use Rattle.bench.specs.Seats.{Distinct, Sound, recordWith, listed, Numbered, Marks, Marked, FirstFree, Filled, Seated};
 use engine::Answer;
 use engine::Controller;
 use engine::Refusal;
@@ -70,13 +70,12 @@ fn index(id: u16) -> usize
     id as usize
 }
 
-// Which numbers a record has.
-fn marks_of(rec: Record) -> [bool; 512]
-    requires { ⌜ Numbered rec ⌝ }
-    ensures { λ r. ⌜ Marks rec r ⌝ }
+// Which numbers a record has. They are lent, so that no record is copied.
+fn marks_of(ids: &[u16; 512], len: usize) -> [bool; 512]
+    requires { ⌜ Numbered (recordWith (now ids) len) ⌝ }
+    ensures { λ r. ⌜ Marks (recordWith (now (ids .entry)) len) r ⌝ }
 {
-    let end = pool::limit(rec.len);
-    let ids = rec.ids;
+    let end = pool::limit(len);
     let mut marks = [false; 512];
     let mut i = 0usize;
     while i < end {
@@ -185,8 +184,15 @@ pub fn all(c: Controller, words: &[u64; POOL_WORDS], ready: bool, k: u8) -> Repl
     }
     let statements = c.statements;
     let had = pool::limit(statements.len);
-    let marks = marks_of(statements);
-    let m = fill(words, statements, marks, pool::pool_len(words));
+    let ids = statements.ids;
+    let marks = marks_of(&ids, statements.len);
+    let n = pool::pool_len(words);
+    let first = unmarked(&marks, 0, n);
+    // Nothing is missing: the controller is as it was.
+    if first == n {
+        return taken(c, 0, false);
+    }
+    let m = fill(words, statements, marks, n);
     if had + m.count > 512 {
         return refused(c, Refusal::Full);
     }

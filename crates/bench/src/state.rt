@@ -231,6 +231,28 @@ fn no_statement(c: Controller, words: &[u64; POOL_WORDS], g: Setting) -> Stepped
     refused(c, g, 16, Refusal::BadStatement)
 }
 
+// Every statement that k's record lacks goes to its end. An empty pool has nothing to give, so that the record is not read.
+fn give_all(c: Controller, words: &[u64; POOL_WORDS], g: Setting, k: u8) -> Stepped
+    requires { ⌜ Sound (now words) c × (k < 16) ⌝ }
+    ensures { λ r. ⌜ Advanced (now (words .entry)) g c k (some (lines.all k)) r (now (words .entry)) ⌝ }
+{
+    if !g.ready {
+        return refused(c, g, k as u64, Refusal::OutOfPlace);
+    }
+    if pool::pool_len(words) == 0 {
+        return Stepped {
+            who: k as u64,
+            answer: Answer::Taken,
+            number: 0,
+            controller: c,
+            setting: g,
+            fresh: false,
+            changed: false,
+        };
+    }
+    seated(g, k, seat::all(c, words, g.ready, k))
+}
+
 // What a line does; c is the controller that it names, or any other where it names none.
 pub fn step(
     c: Controller,
@@ -248,7 +270,7 @@ pub fn step(
         Line::Leave(k) => noted(g, k, c.leave()),
         Line::Send(k, m) => noted(g, k, c.send(m)),
         Line::Give(k, n) => seated(g, k, seat::give(c, words, g.ready, k, n)),
-        Line::All(k) => seated(g, k, seat::all(c, words, g.ready, k)),
+        Line::All(k) => give_all(c, words, g, k),
         Line::Turn(k) => turned(g, k, lent::lend_turn(c, words)),
         Line::Lie => lie(c, words, g, st),
         Line::NoStatement => no_statement(c, words, g),

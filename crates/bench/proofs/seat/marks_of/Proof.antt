@@ -3,15 +3,16 @@ use native.Mathlib.Omega.{arith}
 use mathlib.Core.Path.{refl}
 use Prim.Native.Nat.{_-_, _≤_}
 use lib.ListN.{getD}
+use Rattle.bench.specs.Seats.{recordWith}
 use Rattle.bench.proofs.Seats.{MarksTo, marks-first, marks-stored, marks-are}
 use Rattle.bench.proofs.seat.marks_of.Statement.{statement}
 use Rattle.bench.proofs.seat.marks_of.Tie as tie
 
 abbrev Inv-loop : tie.InvT-loop
-Inv-loop end ids marks₀ i₀ marks i = (i ≤ end) × MarksTo (λ j. getD ids j 0) i marks
+Inv-loop ids len end marks₀ i₀ marks i = (i ≤ end) × MarksTo (λ j. getD ids j 0) i marks
 
 abbrev μ-loop : tie.MeasureT-loop
-μ-loop end ids marks₀ i₀ marks i = end - i
+μ-loop ids len end marks₀ i₀ marks i = end - i
 
 pub marks-of-spec : {M : Type 1} → statement M
 marks-of-spec =
@@ -21,11 +22,11 @@ marks-of-spec =
     μ-loop
     (λ c κs. search needs)
     (λ c. (omega arith, marks-first _ 512 refl))
-    (λ c. omega (arith, c .before .before .before .limit .ensures .1))
-    (λ c. omega (arith, c .before .before .before .limit .ensures .1))
+    (λ c. omega (arith, c .before .before .limit .ensures .1))
+    (λ c. omega (arith, c .before .before .limit .ensures .1))
     (λ c κs. search needs)
-    (λ c. omega (arith, c .index .ensures, c .before .before .before .before .before .pre .below (c .before .before .loop .i) (omega (arith, c .before .before .before .before .limit .ensures .0)), c .before .before .loop .inv .1 .long))
+    (λ c. omega (arith, c .index .ensures, c .before .before .before .before .before .pre .below (c .before .before .before .loop .i) (omega (arith, c .before .before .before .before .limit .ensures .0)), c .before .before .before .loop .inv .1 .long))
     (λ c. omega (arith, c .before .before .before .before .limit .ensures .1))
     (λ c. search needs)
-    (λ c. (omega arith, marks-stored _ _ _ _ (c .index .ensures) (omega (arith, c .index .ensures, c .before .before .before .before .before .pre .below (c .before .before .loop .i) (omega (arith, c .before .before .before .before .limit .ensures .0)))) (c .before .before .loop .inv .1)))
-    (λ c. marks-are (c .before .before .before .before .args .rec) _ _ (omega (arith, c .before .before .before .limit .ensures .0)) (c .before .loop .inv .1)))
+    (λ c. (omega arith, marks-stored _ _ _ _ (c .index .ensures) (omega (arith, c .index .ensures, c .before .before .before .before .before .pre .below (c .before .before .before .loop .i) (omega (arith, c .before .before .before .before .limit .ensures .0)))) (c .before .before .before .loop .inv .1)))
+    (λ c. marks-are (recordWith (c .before .before .before .args .ids .now) (c .before .before .before .args .len)) _ _ (omega (arith, c .before .before .limit .ensures .0)) (c .before .loop .inv .1)))

@@ -67,13 +67,9 @@ seated-requires c κs = search needs
 enum-known-line-6 : tie.Need-enum-known-line-6
 enum-known-line-6 c = search needs
 
--- src/state.rt:229:38
-all-requires : tie.Need-all-requires
-all-requires c κs = c .before .before .before .before .pre .0
-
--- src/state.rt:229:25
-seated-requires-2 : tie.Need-seated-requires-2
-seated-requires-2 c κs = search needs
+-- src/state.rt:273:25
+give-all-requires : tie.Need-give-all-requires
+give-all-requires c κs = (c .before .before .before .before .pre .0, fit-at (c .before .before .before .before .pre .1) (ap Readable (c .before .before .line6 .given .1)))
 
 -- src/state.rt:230:20
 enum-known-line-7 : tie.Need-enum-known-line-7
@@ -125,7 +121,7 @@ returns-5 c = at-line (c .before .before .before .before .before .before .args .
 
 -- src/state.rt:213:1
 returns-6 : tie.Need-returns-6
-returns-6 c = at-line (c .before .before .before .before .before .before .args .st) (ap Readable (c .before .before .before .before .line6 .given .1)) (advance-seated (fit-at (c .before .before .before .before .before .before .pre .1) (ap Readable (c .before .before .before .before .line6 .given .1))) (c .before .all .ensures) (c .seated2 .ensures))
+returns-6 c = at-line (c .before .before .before .before .before .args .st) (ap Readable (c .before .before .before .line6 .given .1)) (c .give-all .ensures)
 
 -- src/state.rt:213:1
 returns-7 : tie.Need-returns-7
@@ -158,8 +154,7 @@ step-spec =
     give-requires
     seated-requires
     enum-known-line-6
-    all-requires
-    seated-requires-2
+    give-all-requires
     enum-known-line-7
     lend-turn-requires
     turned-requires
