@@ -4,7 +4,6 @@ use mathlib.Core.Path.{_≡_, refl, sym, ap, _∙_}
 use mathlib.Core.Bool.{true, false, true≢false, false≢true}
 use mathlib.Core.List.{List, [], _∷_, map}
 use mathlib.Core.Option.{Option, some, none}
-use Prim.Native.Nat.{ℕ}
 use Rattle.protocol.specs.Lists.{firstOf}
 use Rattle.protocol.specs.View.{Ring}
 use Rattle.protocol.specs.Statement.{Stmt}

@@ -3,7 +3,6 @@
 use mathlib.Core.Path.{_≡_, refl, sym, ap, ap₂, _∙_}
 use mathlib.Core.Bool.{Bool, true, false, not, _&&_}
 use mathlib.Core.List.{List, [], _∷_, List·Memᴰ·not-nil}
-use mathlib.Core.Option.{Option}
 use Prim.Native.Nat.{ℕ, _-_, _≤_, _<_, min}
 use native.Mathlib.Omega.{arith}
 use lib.Dec.{ltb}
@@ -13,17 +12,15 @@ use Rattle.protocol.specs.Lists.{_∈_, any, all, when}
 use Rattle.protocol.specs.View.{View, Ring, sameView, below}
 use Rattle.protocol.specs.History.{top}
 use Rattle.protocol.specs.Statement.{Stmt}
-use Rattle.protocol.specs.Evidence.{Shown, initial, start, agreed, Sealed, candidates, greatest}
+use Rattle.protocol.specs.Evidence.{initial, start, agreed, Sealed, candidates, greatest}
 use Rattle.protocol.specs.Controller as protocol
 use Rattle.protocol.specs.Turn.{G, T, hasEntered, stands, certificate}
 use Rattle.protocol.proofs.Asked.{candidates-exact, greatest-holds}
 use Rattle.views.specs.declared.View as held
 use Rattle.views.specs.declared.History.{History}
-use Rattle.views.specs.Table.{table}
 use Rattle.views.specs.View.{viewOf}
 use Rattle.views.specs.Held.{viewIs, viewsIs, heldAt}
 use Rattle.views.proofs.Tables.{table-length}
-use Rattle.views.proofs.Held.{views-of}
 use Rattle.views.proofs.Histories.{top-some}
 use Rattle.evidence.specs.declared.Evidence.{Evidence}
 use Rattle.evidence.specs.Evidence.{EvidenceOf, Settled}

@@ -1,14 +1,13 @@
 -- What a turn comes to, from the evidence of the record.
 -- Assumes nothing.
-use mathlib.Core.Path.{_≡_, refl, sym, ap, ap₂, subst, _∙_}
-use mathlib.Core.Bool.{Bool, true, false, not}
+use mathlib.Core.Path.{_≡_, sym, ap, subst, _∙_}
+use mathlib.Core.Bool.{Bool, true, false}
 use mathlib.Core.List.{List}
-use mathlib.Core.Option.{Option, none}
+use mathlib.Core.Option.{Option}
 use Prim.Native.Nat.{ℕ, _≤_, _<_}
 use lib.Dec.{T, ltb}
 use lib.ListN.{length}
 use Rattle.protocol.specs.Sets.{bit}
-use Rattle.protocol.specs.View.{View, Ring}
 use Rattle.protocol.specs.Statement.{Stmt}
 use Rattle.protocol.specs.Evidence.{candidates, isConflict}
 use Rattle.protocol.specs.Controller as controller
@@ -27,7 +26,7 @@ use Rattle.engine.specs.declared.Answer.the-variants.{Refused}
 use Rattle.engine.specs.declared.Step.{Step}
 use Rattle.engine.specs.declared.rules.Sight.{Sight}
 use Rattle.engine.specs.Meaning.{controllerIs, recordIs, poolIs, refusalIs, actionIs}
-use Rattle.engine.specs.Promise.{Meets, Turns}
+use Rattle.engine.specs.Promise.{Turns}
 use Rattle.engine.specs.Rules.{Looks, Seen, Chosen}
 use Rattle.engine.proofs.Performs.{refused-turn}
 use Rattle.engine.proofs.Looked.{some-view, few-views}
