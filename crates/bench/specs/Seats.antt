@@ -20,7 +20,7 @@ use Rattle.statements.specs.Meaning.{stmtOf}
 use Rattle.pool.specs.declared.Record.{Record}
 use Rattle.pool.specs.Pool.{stmtAt, poolLen, recordOf}
 use Rattle.engine.specs.declared.Controller.{Controller}
-use Rattle.engine.specs.declared.Send.the-variants.{Nothing}
+use Rattle.rules.specs.declared.Send.the-variants.{Nothing}
 use Rattle.engine.specs.declared.Answer.{Answer}
 use Rattle.engine.specs.declared.Answer.the-variants.{Taken, Signed, Entered, Delivered, Left, Quiet, Refused}
 use Rattle.engine.specs.declared.Refusal.{Refusal}

@@ -10,12 +10,12 @@ use Rattle.protocol.specs.Statement.{Stmt}
 use Rattle.protocol.specs.Controller.{Controller}
 use Rattle.protocol.specs.Turn.{Action, rule1, rule2, rule3, rule4, rule5, rule6, rule7, rule8, rule9, rule10, firstRule}
 use Rattle.statements.specs.Meaning.{stmtOf}
-use Rattle.engine.specs.declared.Deed.{Deed}
-use Rattle.engine.specs.declared.Deed.the-variants.{Rest, Sign, Bind, Enter, Deliver}
-use Rattle.engine.specs.declared.Step.{Step}
-use Rattle.engine.specs.declared.rules.Sight.{Sight}
-use Rattle.engine.specs.Meaning.{stepIs, actionIs}
-use Rattle.engine.specs.Rules.{Owns, SightOf, Rule, Does, Owned, Firsts, OwnedFirsts, Entering, Chosen, acts}
+use Rattle.rules.specs.declared.Deed.{Deed}
+use Rattle.rules.specs.declared.Deed.the-variants.{Rest, Sign, Bind, Enter, Deliver}
+use Rattle.rules.specs.declared.Step.{Step}
+use Rattle.rules.specs.declared.Sight.{Sight}
+use Rattle.rules.specs.Deeds.{stepIs, actionIs}
+use Rattle.rules.specs.Rules.{Owns, SightOf, Rule, Does, Owned, Firsts, OwnedFirsts, Entering, Chosen, acts}
 
 acted : (a : Deed) (s : Stmt) (l : List (Option Action)) → acts a ≡ true → stepIs a s ≡ firstOf (stepIs a s ∷ l)
 unfolding stepIs firstOf

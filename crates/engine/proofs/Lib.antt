@@ -2,9 +2,7 @@ pub mod Requests
 pub mod Pools
 pub mod Keeps
 pub mod Performs
-pub mod Applied
 pub mod Chosen
 pub mod Looked
-pub mod Scans
 pub mod Turned
 pub mod Runs

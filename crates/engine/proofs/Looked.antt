@@ -26,9 +26,10 @@ use Rattle.evidence.specs.declared.Evidence.{Evidence}
 use Rattle.evidence.specs.Evidence.{EvidenceOf, Settled}
 use Rattle.evidence.specs.Slots.{viewsOf}
 use Rattle.engine.specs.declared.Controller.{Controller}
-use Rattle.engine.specs.declared.rules.Sight.{Sight}
+use Rattle.rules.specs.declared.Sight.{Sight}
 use Rattle.engine.specs.Meaning.{controllerIs}
-use Rattle.engine.specs.Rules.{SightOf, notAbove, Looks, Seen}
+use Rattle.rules.specs.Rules.{SightOf, Seen}
+use Rattle.engine.specs.Looks.{notAbove, Looks}
 
 some-in : {A : Type 0} {a : A} (l : List A) → a ∈ l → 0 < length l
 some-in [] m = absurd (List·Memᴰ·not-nil m)

@@ -31,12 +31,13 @@ use Rattle.pool.specs.Pool.{recordOf}
 use Rattle.pool.specs.Changes.{Pushed}
 use Rattle.engine.specs.declared.Controller.{Controller}
 use Rattle.engine.specs.declared.Outcome.{Outcome}
-use Rattle.engine.specs.declared.Deed.{Deed}
-use Rattle.engine.specs.declared.Deed.the-variants.{Rest, Sign, Bind, Enter, Deliver}
+use Rattle.rules.specs.declared.Deed.{Deed}
+use Rattle.rules.specs.declared.Deed.the-variants.{Rest, Sign, Bind, Enter, Deliver}
 use Rattle.engine.specs.declared.Answer.the-variants.{Taken, Signed, Entered, Delivered, Refused}
 use Rattle.engine.specs.declared.Refusal.{Refusal}
 use Rattle.engine.specs.declared.Refusal.the-variants as refused
-use Rattle.engine.specs.Meaning.{controllerIs, withStatements, recordIs, poolIs, AllIn, Whole, answerIs, refusalIs, stepIs}
+use Rattle.engine.specs.Meaning.{controllerIs, withStatements, recordIs, poolIs, AllIn, Whole, answerIs, refusalIs}
+use Rattle.rules.specs.Deeds.{stepIs}
 use Rattle.engine.specs.Promise.{Meets, IsRefused, Turns, Adds, Placed, Numbered, restIs}
 use Rattle.engine.proofs.Keeps.{is-full, not-full, all-in, record-more}
 

@@ -27,11 +27,12 @@ use Rattle.statements.specs.declared.Binding.the-variants.{Unbound}
 use Rattle.engine.specs.declared.Controller.{Controller}
 use Rattle.engine.specs.declared.Outcome.{Outcome}
 use Rattle.engine.specs.declared.Refusal.{Refusal}
-use Rattle.engine.specs.declared.Send.{Send}
-use Rattle.engine.specs.declared.Send.the-variants.{Nothing, Payload}
+use Rattle.rules.specs.declared.Send.{Send}
+use Rattle.rules.specs.declared.Send.the-variants.{Nothing, Payload}
 use Rattle.engine.specs.declared.Answer.{Answer}
 use Rattle.engine.specs.declared.Answer.the-variants.{Taken, Refused}
-use Rattle.engine.specs.Meaning.{initialIs, controllerIs, recordIs, AllIn, Whole, refusalIs, answerIs, sendIs}
+use Rattle.engine.specs.Meaning.{initialIs, controllerIs, recordIs, AllIn, Whole, refusalIs, answerIs}
+use Rattle.rules.specs.Deeds.{sendIs}
 use Rattle.engine.specs.Promise.{Meets, IsRefused, Calls}
 
 -- ---- the two ways in which such a call ends

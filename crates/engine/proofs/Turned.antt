@@ -23,11 +23,13 @@ use Rattle.engine.specs.declared.Controller.{Controller}
 use Rattle.engine.specs.declared.Outcome.{Outcome}
 use Rattle.engine.specs.declared.Refusal.{Refusal}
 use Rattle.engine.specs.declared.Answer.the-variants.{Refused}
-use Rattle.engine.specs.declared.Step.{Step}
-use Rattle.engine.specs.declared.rules.Sight.{Sight}
-use Rattle.engine.specs.Meaning.{controllerIs, recordIs, poolIs, refusalIs, actionIs}
+use Rattle.rules.specs.declared.Step.{Step}
+use Rattle.rules.specs.declared.Sight.{Sight}
+use Rattle.engine.specs.Meaning.{controllerIs, recordIs, poolIs, refusalIs}
+use Rattle.rules.specs.Deeds.{actionIs}
 use Rattle.engine.specs.Promise.{Turns}
-use Rattle.engine.specs.Rules.{Looks, Seen, Chosen}
+use Rattle.rules.specs.Rules.{Seen, Chosen}
+use Rattle.engine.specs.Looks.{Looks}
 use Rattle.engine.proofs.Performs.{refused-turn}
 use Rattle.engine.proofs.Looked.{some-view, few-views}
 

@@ -1,5 +1,5 @@
 -- What the engine's values mean, and what its calls promise.
 pub mod Meaning
 pub mod Promise
-pub mod Rules
+pub mod Looks
 pub mod Runs

@@ -16,19 +16,15 @@ use Rattle.statements.specs.Meaning.{stmtOf, bindingIs}
 use Rattle.pool.specs.declared.Record.{Record}
 use Rattle.pool.specs.Pool.{stmtAt, poolLen, recordOf}
 use Rattle.engine.specs.declared.Controller.{Controller}
-use Rattle.engine.specs.declared.Send.{Send}
-use Rattle.engine.specs.declared.Send.the-variants.{Nothing, Payload}
+use Rattle.rules.specs.declared.Send.{Send}
+use Rattle.rules.specs.declared.Send.the-variants.{Nothing, Payload}
 use Rattle.engine.specs.declared.Refusal.{Refusal}
 use Rattle.engine.specs.declared.Refusal.the-variants.{BadSetup, BadStatement, Repeated, Full, BadRequest, ManyCandidates, Conflict, OutOfPlace}
 use Rattle.engine.specs.declared.Answer.{Answer}
 use Rattle.engine.specs.declared.Answer.the-variants.{Taken, Signed, Entered, Delivered, Left, Quiet, Refused}
-use Rattle.engine.specs.declared.Step.{Step}
-use Rattle.engine.specs.declared.Deed.{Deed}
-use Rattle.engine.specs.declared.Deed.the-variants.{Rest, Sign, Bind, Enter, Deliver}
-
-abbrev pub sendIs : Send → Option ℕ
-sendIs Nothing = none
-sendIs (Payload m) = some m
+use Rattle.rules.specs.declared.Step.{Step}
+use Rattle.rules.specs.declared.Deed.{Deed}
+use Rattle.rules.specs.declared.Deed.the-variants.{Rest, Sign, Bind, Enter, Deliver}
 
 -- The views that controller k has entered at first: "Initial members start entered".
 unfoldable pub initialIs : held.View → ℕ → List View
@@ -99,14 +95,3 @@ answerIs W (Delivered m) = controller.delivered m
 answerIs W Left = controller.left
 answerIs W Quiet = controller.quiet
 answerIs W (Refused r) = controller.refused (refusalIs r)
-
--- What a rule has the controller do. The statement stands beside it.
-unfoldable pub stepIs : Deed → Stmt → Option turn.Action
-stepIs Rest s = none
-stepIs Sign s = some (turn.sign s)
-stepIs (Bind m) s = some (turn.bindAndSign m s)
-stepIs (Enter v b) s = some (turn.enter (viewIs v) (bindingIs b))
-stepIs (Deliver m) s = some (turn.deliver m)
-
-abbrev pub actionIs : Step → Option turn.Action
-actionIs a = stepIs (a .deed) (stmtOf (a .statement))

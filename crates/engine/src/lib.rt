@@ -2,22 +2,17 @@
 mod add;
 mod calls;
 mod keep;
+mod look;
+mod order;
 mod perform;
-mod rules;
 mod turn;
 
 pub use calls::refuse;
 use pool::Record;
+use rules::Send;
 use statements::Binding;
-use statements::Statement;
 use views::History;
 use views::View;
-
-// A payload that is to be sent, or none.
-pub enum Send {
-    Nothing,
-    Payload(u64),
-}
 
 pub struct Controller {
     pub ready: bool,
@@ -59,19 +54,4 @@ pub enum Answer {
 pub struct Outcome {
     pub answer: Answer,
     pub controller: Controller,
-}
-
-// What a rule has the controller do.
-pub enum Deed {
-    Rest,
-    Sign,
-    Bind(u64),
-    Enter(View, Binding),
-    Deliver(u64),
-}
-
-// A deed with the statement that it signs.
-pub struct Step {
-    pub deed: Deed,
-    pub statement: Statement,
 }

@@ -7,8 +7,9 @@ use crate::Controller;
 use crate::Outcome;
 use crate::Refusal;
 use crate::calls;
+use crate::look;
+use crate::order;
 use crate::perform;
-use crate::rules;
 use pool::POOL_WORDS;
 
 impl Controller {
@@ -30,8 +31,8 @@ impl Controller {
         if e.many {
             return calls::refuse(self, Refusal::ManyCandidates);
         }
-        let s = rules::look(self, e);
-        let a = rules::first_rule(words, &ids, len, init, e, s);
+        let s = look::look(self, e);
+        let a = order::first_rule(words, &ids, len, init, e, s);
         let top = s.top;
         let gone = rules::has_left(top, self.number);
         perform::perform(self, words, a, gone)

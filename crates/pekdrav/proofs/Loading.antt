@@ -16,8 +16,8 @@ use Rattle.views.specs.declared.History.{History}
 use Rattle.statements.specs.declared.Binding.{Binding}
 use Rattle.statements.specs.declared.Binding.the-variants.{Unbound, Bound, Barred}
 use Rattle.statements.specs.Meaning.{bindingNumber}
-use Rattle.engine.specs.declared.Send.{Send}
-use Rattle.engine.specs.declared.Send.the-variants.{Nothing, Payload}
+use Rattle.rules.specs.declared.Send.{Send}
+use Rattle.rules.specs.declared.Send.the-variants.{Nothing, Payload}
 use Rattle.engine.specs.declared.Controller.{Controller}
 use Rattle.pekdrav.specs.Memory.{noView, viewIn, wordOf, says, bindingIn, bindingPayload, sendIn, sendNumber, sendPayload, enteredIn, controllerAt, Worded}
 

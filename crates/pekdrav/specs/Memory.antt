@@ -16,8 +16,8 @@ use Rattle.views.specs.declared.View.{View}
 use Rattle.views.specs.declared.History.{History}
 use Rattle.statements.specs.declared.Binding.{Binding}
 use Rattle.statements.specs.declared.Binding.the-variants.{Unbound, Bound, Barred}
-use Rattle.engine.specs.declared.Send.{Send}
-use Rattle.engine.specs.declared.Send.the-variants.{Nothing, Payload}
+use Rattle.rules.specs.declared.Send.{Send}
+use Rattle.rules.specs.declared.Send.the-variants.{Nothing, Payload}
 use Rattle.engine.specs.declared.Controller.{Controller}
 
 abbrev pub noView : View

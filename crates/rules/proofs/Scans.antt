@@ -1,0 +1,245 @@
+-- What a scan of the record finds, and the views of words as a history.
+-- Assumes nothing.
+use mathlib.Core.Path.{_≡_, refl, sym, ap, ap₂, _∙_}
+use mathlib.Core.Bool.{Bool, true, false, _&&_, _||_, and-comm, and-assoc, true≢false}
+use mathlib.Core.List.{List, [], _∷_, _++_, append-nil}
+use mathlib.Core.Option.{Option, some, none}
+use Prim.Native.Nat.{ℕ, zero, suc, _+_, _^_, _≤_, _<_, min}
+use native.Mathlib.Decide.{decLt}
+use native.Mathlib.Numerals.{add-one}
+use native.Mathlib.Omega.{arith}
+use mir.Val.{boolByte}
+use lib.Dec.{T, eqb}
+use lib.ListN.{length, getD, set, length-set}
+use lib.Seq.{getD-set-same, getD-set-other}
+use borrow.Author.Tests.{eq-eqb, ne-eqb, eqb-true, eqb-false}
+use Rattle.protocol.specs.Lists.{if_then_else_, any, find}
+use Rattle.protocol.specs.View.{View, sameView}
+use Rattle.protocol.specs.Statement.{Stmt, sameStmt, isKind}
+use Rattle.protocol.specs.Evidence.{prepares}
+use Rattle.protocol.proofs.Found.{none≢some}
+use Rattle.protocol.proofs.Asked.{says-same-stmt}
+use Rattle.views.specs.declared.View as held
+use Rattle.views.specs.declared.History.{History}
+use Rattle.views.specs.Table.{table}
+use Rattle.views.specs.View.{viewOf}
+use Rattle.views.specs.Held.{viewIs, heldAt, viewsIs}
+use Rattle.views.proofs.Tables.{any-zero, any-more, table-cong}
+use Rattle.views.proofs.Held.{views-of, cut-is}
+use Rattle.pool.specs.Pool.{stmtAt, recordOf}
+use Rattle.pool.proofs.Records as records
+use Rattle.evidence.specs.Slots.{viewsOf}
+use Rattle.rules.specs.Rules.{ownKind, ownAt, Owns, firstPrepare}
+
+-- ---- one statement
+
+module _ (s : Stmt) (k kind : ℕ) where
+  pub own-not : (o : ℕ) → o ≡ s .origin → (o ≡ k → ⊥) → false ≡ ownKind k kind s
+  unfolding ownKind
+  own-not o e d = rw (sym e, ne-eqb o k d)
+
+  pub own-is : (o x : ℕ) → o ≡ s .origin → o ≡ k → x ≡ s .kind → eqb x kind ≡ ownKind k kind s
+  unfolding ownKind
+  own-is o x e d f = rw (sym e, sym f, eq-eqb o k d)
+
+  module _ (t : View) (b : Bool) (is : b ≡ ownKind k kind s) where
+    at-both : (b && sameView (s .at) t) ≡ ownAt k kind t s
+    unfolding ownKind ownAt
+    at-both = ap (λ x. x && sameView (s .at) t) is ∙ and-assoc (eqb (s .origin) k) (eqb (s .kind) kind) (sameView (s .at) t)
+
+    pub at-not : b ≡ false → false ≡ ownAt k kind t s
+    at-not f = ap (λ x. x && sameView (s .at) t) (sym f) ∙ at-both
+
+    pub at-is : (r : Bool) → b ≡ true → r ≡ sameView (s .at) t → r ≡ ownAt k kind t s
+    at-is r f e = e ∙ ap (λ x. x && sameView (s .at) t) (sym f) ∙ at-both
+
+and-left : (a b : Bool) → (a && b) ≡ true → a ≡ true
+and-left true b e = refl
+and-left false b e = e
+
+kind-own : (s : Stmt) (k kind : ℕ) → ownKind k kind s ≡ true → s .origin ≡ k
+unfolding ownKind
+kind-own s k kind e = eqb-true (s .origin) k (and-left (eqb (s .origin) k) (eqb (s .kind) kind) e)
+
+at-own : (s : Stmt) (k kind : ℕ) (t : View) → ownAt k kind t s ≡ true → s .origin ≡ k
+unfolding ownAt
+at-own s k kind t e = eqb-true (s .origin) k (and-left (eqb (s .origin) k) (eqb (s .kind) kind && sameView (s .at) t) e)
+
+-- ---- the statements of one controller
+
+to-true : {b : Bool} → b ≡ true → T b
+to-true e = rw e tt
+
+module _ {X Y : List Stmt} {k : ℕ} (y : Owns X Y k) where
+  pub owns-same : (a : Stmt) → a .origin ≡ k → any (sameStmt a) Y ≡ any (sameStmt a) X
+  owns-same a e = y .asked (sameStmt a) (λ s t. ap (λ x. x .origin) (sym (says-same-stmt .sound (to-true t))) ∙ e)
+
+  pub owns-kind : (kind : ℕ) → any (ownKind k kind) Y ≡ any (ownKind k kind) X
+  owns-kind kind = y .asked (ownKind k kind) (λ s t. kind-own s k kind t)
+
+  pub owns-at : (kind : ℕ) (t : View) → any (ownAt k kind t) Y ≡ any (ownAt k kind t) X
+  owns-at kind t = y .asked (ownAt k kind t) (λ s e. at-own s k kind t e)
+
+or-none : (b : Bool) → (b || false) ≡ b
+or-none true = refl
+or-none false = refl
+
+-- the first m numbers of J are the statements of k among the first i numbers of ids
+pub record Gathered (W ids J : List ℕ) (k i m : ℕ) : Type 0 where
+  pub size : length J ≡ 512
+  pub owns : Owns (recordOf W ids i) (recordOf W J m) k
+
+pub gathered-none : {W ids J : List ℕ} {k : ℕ} → length J ≡ 512 → Gathered W ids J k 0 0
+gathered-none {W} {ids} {J} e = record { size = e; owns = record { asked = λ p h. records.none-first W J p ∙ sym (records.none-first W ids p) } }
+
+-- a test that only statements of k pass
+not-own : (p : Stmt → Bool) (s : Stmt) (k : ℕ) → (p s ≡ true → s .origin ≡ k) → (s .origin ≡ k → ⊥) → p s ≡ false
+not-own p s k h d = go (p s) refl
+  where
+    go : (b : Bool) → p s ≡ b → p s ≡ false
+    go true e = absurd (d (h e))
+    go false e = e
+
+-- one more, where the test passes
+
+pub byte-one : (b : Bool) → boolByte b ≤ 1
+byte-one true = omega arith
+byte-one false = omega arith
+
+pub more-fits : (m : ℕ) (b : Bool) → m ≤ 512 → m + boolByte b < 2 ^ 64
+more-fits m b h = omega (arith, byte-one b)
+
+module _ {W ids J : List ℕ} {k i m : ℕ} (l : i < 512) (h : m ≤ i) (g : Gathered W ids J k i m) where
+  abbrev more : List ℕ
+  more = set J m (getD ids i 0)
+
+  before : recordOf W more m ≡ recordOf W J m
+  before =
+      records.so-far W more m (omega arith) ∙ table-cong m (records.entry W more) (records.entry W J) (λ j b. ap (stmtAt W) (getD-set-other J m j (getD ids i 0) 0 (λ q. omega arith)))
+      ∙ sym (records.so-far W J m (omega arith))
+
+  same-first : (p : Stmt → Bool) → ((s : Stmt) → p s ≡ true → s .origin ≡ k) → any p (recordOf W more m) ≡ any p (recordOf W ids i)
+  same-first p q = ap (any p) before ∙ g .owns .asked p q
+
+  passed : (records.entry W ids i .origin ≡ k → ⊥) → Owns (recordOf W ids (i + 1)) (recordOf W more (m + 0)) k
+  passed d = record {
+    asked = λ p q. let e : m + 0 ≡ m = omega arith in
+        ap (λ x. any p (recordOf W more x)) e ∙ same-first p q ∙ sym (or-none (any p (recordOf W ids i)))
+        ∙ ap (λ b. any p (recordOf W ids i) || b) (sym (not-own p (records.entry W ids i) k (q (records.entry W ids i)) d)) ∙ sym (records.any-next W ids p i l);
+  }
+
+  taken : Owns (recordOf W ids (i + 1)) (recordOf W more (m + 1)) k
+  taken = record {
+    asked = λ p q.
+        records.any-next W more p m (omega arith) ∙ ap₂ _||_ (same-first p q) (ap (λ x. p (stmtAt W x)) (getD-set-same J m (getD ids i 0) 0 (omega (arith, g .size))))
+        ∙ sym (records.any-next W ids p i l);
+  }
+
+  either : (b : Bool) → eqb (records.entry W ids i .origin) k ≡ b → Owns (recordOf W ids (i + 1)) (recordOf W more (m + boolByte b)) k
+  either true e = taken
+  either false e = passed (eqb-false (records.entry W ids i .origin) k e)
+
+  pub gathered-next : (o : ℕ) → o ≡ records.entry W ids i .origin → Gathered W ids (set J m (getD ids i 0)) k (i + 1) (m + boolByte (eqb o k))
+  gathered-next o e = record { size = length-set J m (getD ids i 0) ∙ g .size; owns = either (eqb o k) (ap (λ x. eqb x k) (sym e)) }
+
+pub gathered-whole : {W ids J : List ℕ} {k i m end : ℕ} (len : ℕ) → i ≡ end → end ≡ min len 512 → Gathered W ids J k i m → Owns (recordOf W ids len) (recordOf W J m) k
+gathered-whole {W} {ids} {i = i} len d e g = rw (records.whole W ids len i (d ∙ e)) at (g .owns)
+
+-- ---- the first that is found
+
+module _ {A : Type 0} (p : A → Bool) where
+  find-join : (k l : List A) → any p k ≡ false → find p (k ++ l) ≡ find p l
+  unfolding any find
+  find-join [] l e = refl
+  find-join (a ∷ k) l e = go (p a) e (λ f. find-join k l f)
+    where
+      go : (b : Bool) → (b || any p k) ≡ false → (any p k ≡ false → find p (k ++ l) ≡ find p l) → (if b then some a else find p (k ++ l)) ≡ find p l
+      go true e ih = absurd (true≢false e)
+      go false e ih = ih e
+
+  find-before : (k l : List A) (a : A) → find p k ≡ some a → find p (k ++ l) ≡ some a
+  unfolding find
+  find-before [] l a e = absurd (none≢some e)
+  find-before (x ∷ k) l a e = go (p x) e (λ f. find-before k l a f)
+    where
+      go : (b : Bool) → (if b then some x else find p k) ≡ some a → (find p k ≡ some a → find p (k ++ l) ≡ some a) → (if b then some x else find p (k ++ l)) ≡ some a
+      go true e ih = e
+      go false e ih = ih e
+
+  pub find-nothing : (l : List A) → any p l ≡ false → find p l ≡ none
+  unfolding any find
+  find-nothing l e = ap (find p) (sym (append-nil l)) ∙ find-join l [] e
+
+  find-last : (l : List A) (a : A) → any p l ≡ false → p a ≡ true → find p (l ++ (a ∷ [])) ≡ some a
+  unfolding find
+  find-last l a e g = find-join l (a ∷ []) e ∙ ap (λ b. if b then some a else none) g
+
+  pub find-at : (f : ℕ → A) (n i : ℕ) → i < n → any p (table i f) ≡ false → p (f i) ≡ true → find p (table n f) ≡ some (f i)
+  unfolding table
+  find-at f zero i l e g = absurd (omega arith)
+  find-at f (suc n) i l e g = elim (decLt i n) [
+    | yes m ↦ find-before (table n f) (f n ∷ []) (f i) (find-at f n i m e g)
+    | no m ↦ (let q : i ≡ n = omega arith in find-last (table n f) (f n) (rw q at e) (rw q at g) ∙ ap (λ j. some (f j)) (sym q))
+  ]
+
+-- ---- the sender's first prepare
+
+pub prepare-own : (sender : ℕ) (s : Stmt) (b r : Bool) → b ≡ ownKind sender 6 s → b ≡ r → prepares sender s ≡ r
+unfolding prepares isKind ownKind
+prepare-own sender s b r e f = and-comm (eqb (s .kind) 6) (eqb (s .origin) sender) ∙ sym e ∙ f
+
+module _ (W ids : List ℕ) (sender len i : ℕ) (so-far : any (prepares sender) (recordOf W ids i) ≡ false) where
+  pub prepare-first : (m : ℕ) → i < min len 512 → prepares sender (records.entry W ids i) ≡ true → m ≡ records.entry W ids i .payload
+      → some m ≡ firstPrepare sender (recordOf W ids len)
+  unfolding firstPrepare recordOf
+  prepare-first m l e q = rw (find-at (prepares sender) (records.entry W ids) (min len 512) i l (rw (records.so-far W ids i (omega arith)) at so-far) e) (ap some q)
+
+  pub prepare-none : i ≡ min len 512 → none ≡ firstPrepare sender (recordOf W ids len)
+  unfolding firstPrepare
+  prepare-none l = rw (find-nothing (prepares sender) (recordOf W ids len) (records.none W ids (prepares sender) len i l so-far))
+
+-- ---- words as a history
+
+-- the first i places of l hold the views of the first i words of W
+pub record Slots (l : List held.View) (W : List ℕ) (i : ℕ) : Type 0 where
+  pub size : length l ≡ 16
+  pub same : table i (heldAt l) ≡ viewsOf W i
+
+slots-grown : (W : List ℕ) (i : ℕ) → viewsOf W (i + 1) ≡ viewsOf W i ++ (viewOf (getD W i 0) ∷ [])
+unfolding viewsOf table
+slots-grown W i = rw add-one
+
+module _ {l : List held.View} {W : List ℕ} where
+  pub slots-none : length l ≡ 16 → Slots l W 0
+  unfolding table viewsOf
+  slots-none s = record { size = s; same = refl }
+
+  pub slots-next : {i : ℕ} (v : held.View) → i < 16 → viewIs v ≡ viewOf (getD W i 0) → Slots l W i → Slots (set l i v) W (i + 1)
+  slots-next {i} v h e s = record {
+    size = length-set l i v ∙ s .size;
+    same = views-of made (i + 1) (omega arith) ∙ cut-is l i v made (s .size) h refl refl ∙ ap₂ (λ k u. k ++ (u ∷ [])) (s .same) e ∙ sym (slots-grown W i);
+  }
+    where
+      made : History
+      made = record { views = set l i v; len = i + 1 }
+
+  pub slots-whole : (n i : ℕ) → i ≡ n → n ≤ 16 → Slots l W i → viewsIs (record { views = l; len = n }) ≡ viewsOf W n
+  slots-whole n i e h s = sym (views-of (record { views = l; len = n }) n (omega arith)) ∙ (rw e at (s .same))
+
+-- ---- the first of the views of words that has p
+
+module _ (p : View → Bool) (W : List ℕ) where
+  pub slots-any-none : any p (viewsOf W 0) ≡ false
+  unfolding viewsOf
+  slots-any-none = any-zero p _
+
+  pub slots-any-more : (i : ℕ) → any p (viewsOf W i) ≡ false → p (viewOf (getD W i 0)) ≡ false → any p (viewsOf W (i + 1)) ≡ false
+  unfolding viewsOf
+  slots-any-more i e g = any-more p _ i e g
+
+  pub slots-found : (n i : ℕ) (v : held.View) → i < n → any p (viewsOf W i) ≡ false → p (viewOf (getD W i 0)) ≡ true → viewIs v ≡ viewOf (getD W i 0) → some (viewIs v) ≡ find p (viewsOf W n)
+  unfolding viewsOf
+  slots-found n i v l e g q = ap some q ∙ sym (find-at p (λ j. viewOf (getD W j 0)) n i l e g)
+
+  pub slots-nothing : (n i : ℕ) → i ≡ n → any p (viewsOf W i) ≡ false → none ≡ find p (viewsOf W n)
+  slots-nothing n i q e = sym (find-nothing p (viewsOf W n) (rw q at e))
