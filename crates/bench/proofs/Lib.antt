@@ -1,9 +1,3 @@
-pub mod Scan
-pub mod Words
-pub mod Fields
-pub mod Commands
-pub mod Lies
-pub mod Whole
 pub mod Rows
 pub mod Unchanged
 pub mod Seats

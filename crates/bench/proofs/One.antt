@@ -18,13 +18,13 @@ use Rattle.text.specs.Text.{decText, hexText}
 use Rattle.text.proofs.Laws.{dec-same, hex-same}
 use Rattle.statements.specs.Text.{parted, text}
 use Rattle.statements.proofs.One.{text-same}
-use Rattle.bench.specs.Line.{Line, setup, join, leave, send, give, all, turn, lie, noStatement, setupWord, joinWord, leaveWord, sendWord, giveWord, allWord, turnWord, lieWord, ended, Written, Reads, lines, ReadAll}
+use Rattle.schedule.specs.Line.{Line, setup, join, leave, send, give, all, turn, lie, noStatement, setupWord, joinWord, leaveWord, sendWord, giveWord, allWord, turnWord, lieWord, ended, Written, Reads, lines, ReadAll}
 use Rattle.bench.specs.Bench.{newBench}
 use Rattle.bench.specs.Rows.{headerText, refusedRow, rowsFrom, Printed}
-use Rattle.bench.proofs.Words.{verbIs, written-verb, OfVerb, of-verb}
-use Rattle.bench.proofs.Commands.{follows}
+use Rattle.schedule.proofs.Words.{verbIs, written-verb, OfVerb, of-verb}
+use Rattle.schedule.proofs.Commands.{follows}
 use Rattle.statements.proofs.Fits.{keeps-fits}
-use Rattle.bench.proofs.Whole.{written-ended}
+use Rattle.schedule.proofs.Whole.{written-ended}
 
 module _ (T′ : List ℕ) where
   -- what follows a word and its comma

@@ -29,17 +29,17 @@ use Rattle.engine.specs.declared.Controller.{Controller}
 use Rattle.engine.specs.declared.Answer.{Answer}
 use Rattle.engine.specs.declared.Answer.the-variants.{Taken, Signed, Entered, Delivered, Left, Quiet, Refused}
 use Rattle.engine.specs.Meaning.{controllerIs, recordIs, poolIs, Whole, AllIn, answerIs}
-use Rattle.bench.specs.declared.line.Line.{Line as Held}
-use Rattle.bench.specs.declared.line.Line.the-variants as is
-use Rattle.bench.specs.declared.line.Parsed.{Parsed}
-use Rattle.bench.specs.declared.line.Parsed.the-variants.{Readable, Unreadable}
-use Rattle.bench.specs.declared.line.ReadLine.{ReadLine}
+use Rattle.schedule.specs.declared.line.Line.{Line as Held}
+use Rattle.schedule.specs.declared.line.Line.the-variants as is
+use Rattle.schedule.specs.declared.line.Parsed.{Parsed}
+use Rattle.schedule.specs.declared.line.Parsed.the-variants.{Readable, Unreadable}
+use Rattle.schedule.specs.declared.line.ReadLine.{ReadLine}
 use Rattle.bench.specs.declared.row.Word.the-variants as word
 use Rattle.bench.specs.declared.row.Value.the-variants as value
 use Rattle.bench.specs.declared.state.Setting.{Setting}
 use Rattle.bench.specs.declared.state.Stepped.{Stepped}
-use Rattle.bench.specs.Line.{Line, lines, Reads, ReadAll}
-use Rattle.bench.specs.Reading.{lineIs, LineOf}
+use Rattle.schedule.specs.Line.{Line, lines, Reads, ReadAll}
+use Rattle.schedule.specs.Reading.{lineIs, LineOf}
 use Rattle.bench.specs.Bench as bench
 use Rattle.bench.specs.Bench.{Seat, emptySeat, Bench, Reply, newBench, step}
 use Rattle.bench.specs.Rows.{rowText, headerText, rowsFrom, refusedRow, Printed}

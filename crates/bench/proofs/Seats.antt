@@ -37,7 +37,7 @@ use Rattle.engine.specs.Meaning.{controllerIs, withStatements, recordIs, poolIs
 use Rattle.engine.specs.Promise.{Meets, Calls, Turns, PoolAfter, signedOf}
 use Rattle.bench.specs.declared.seat.Replied.{Replied}
 use Rattle.bench.specs.declared.seat.Missing.{Missing}
-use Rattle.bench.specs.Line.{Line, join, leave, send, give, all, turn}
+use Rattle.schedule.specs.Line.{Line, join, leave, send, give, all, turn}
 use Rattle.bench.specs.Bench as bench
 use Rattle.bench.specs.Bench.{Seat, emptySeat, Bench, Stepped, step}
 use Rattle.bench.specs.Seats.{seatIs, benchOf, Distinct, Sound, Grows, listed, Numbered, Marks, Marked, FirstFree, lacking, Filled, Seated, numberIs, changesIs}

@@ -36,11 +36,11 @@ use Rattle.engine.specs.declared.Answer.the-variants.{Taken, Refused}
 use Rattle.engine.specs.Meaning.{controllerIs, recordIs, poolIs, Whole, AllIn, answerIs, refusalIs}
 use Rattle.engine.proofs.Pools.{Located, there, absent, in-pool, grown-pool}
 use Rattle.bench.specs.declared.seat.Replied.{Replied}
-use Rattle.bench.specs.declared.line.Parsed.{Parsed}
+use Rattle.schedule.specs.declared.line.Parsed.{Parsed}
 use Rattle.bench.specs.declared.state.Setting.{Setting}
 use Rattle.bench.specs.declared.state.Stepped.{Stepped}
-use Rattle.bench.specs.Line.{Line, setup, all, lie, noStatement}
-use Rattle.bench.specs.Reading.{lineIs}
+use Rattle.schedule.specs.Line.{Line, setup, all, lie, noStatement}
+use Rattle.schedule.specs.Reading.{lineIs}
 use Rattle.bench.specs.Bench as bench
 use Rattle.bench.specs.Bench.{Seat, emptySeat, Bench, step}
 use Rattle.bench.specs.Seats.{seatIs, benchOf, Distinct, Sound, Grows, Seated, SeatedAs, RefusedAs, Advanced, Fit, seatOf}

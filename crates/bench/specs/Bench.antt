@@ -15,7 +15,7 @@ use Rattle.protocol.specs.Call.{setupAllowed, started, requestJoin, requestLeav
 use Rattle.protocol.specs.Pool.{numberOf, pooled, hasRoom}
 use Rattle.protocol.specs.Turn.{turn as turnOf}
 use Rattle.views.specs.Table.{table}
-use Rattle.bench.specs.Line.{Line, setup, join, leave, send, give, all, turn, lie, noStatement}
+use Rattle.schedule.specs.Line.{Line, setup, join, leave, send, give, all, turn, lie, noStatement}
 
 -- A controller and its record.
 pub record Seat : Type 0 where

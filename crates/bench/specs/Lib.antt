@@ -1,8 +1,6 @@
--- The schedule's lines, what each does to the bench, and the rows that are printed; and what reading and writing them promises.
-pub mod Line
+-- What each line of a schedule does to the bench, and the rows that are printed; and what writing them promises.
 pub mod Bench
 pub mod Rows
-pub mod Reading
 pub mod Writing
 pub mod Seats
 pub mod Running

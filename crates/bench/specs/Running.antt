@@ -13,7 +13,7 @@ use Rattle.engine.specs.declared.Controller.{Controller}
 use Rattle.engine.specs.declared.Answer.{Answer}
 use Rattle.engine.specs.Meaning.{Whole}
 use Rattle.bench.specs.declared.state.Setting.{Setting}
-use Rattle.bench.specs.Line.{Line, lines, ReadAll}
+use Rattle.schedule.specs.Line.{Line, lines, ReadAll}
 use Rattle.bench.specs.Bench.{Seat, Bench, newBench}
 use Rattle.bench.specs.Rows.{rowsFrom, Printed}
 use Rattle.bench.specs.Writing.{rowOf}

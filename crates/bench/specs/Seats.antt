@@ -27,9 +27,9 @@ use Rattle.engine.specs.declared.Refusal.{Refusal}
 use Rattle.engine.specs.Meaning.{controllerIs, recordIs, poolIs, AllIn, Whole, answerIs, refusalIs}
 use Rattle.engine.specs.Promise.{Turns}
 use Rattle.protocol.specs.Controller.{refusalNumber}
-use Rattle.bench.specs.declared.line.Line.the-variants as is
-use Rattle.bench.specs.declared.line.Parsed.{Parsed}
-use Rattle.bench.specs.declared.line.Parsed.the-variants.{Readable, Unreadable}
+use Rattle.schedule.specs.declared.line.Line.the-variants as is
+use Rattle.schedule.specs.declared.line.Parsed.{Parsed}
+use Rattle.schedule.specs.declared.line.Parsed.the-variants.{Readable, Unreadable}
 use Rattle.bench.specs.declared.row.Word.{Word}
 use Rattle.bench.specs.declared.row.Word.the-variants as word
 use Rattle.bench.specs.declared.row.Value.{Value}
@@ -38,7 +38,7 @@ use Rattle.bench.specs.declared.seat.Replied.{Replied}
 use Rattle.bench.specs.declared.seat.Missing.{Missing}
 use Rattle.bench.specs.declared.state.Setting.{Setting}
 use Rattle.bench.specs.declared.state.Stepped.{Stepped}
-use Rattle.bench.specs.Line.{Line}
+use Rattle.schedule.specs.Line.{Line}
 use Rattle.bench.specs.Bench.{Seat, emptySeat, Bench, Reply, step}
 use Rattle.bench.specs.Bench as bench
 use Rattle.bench.specs.Writing.{rowOf}

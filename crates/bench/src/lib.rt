@@ -1,6 +1,5 @@
 // The bench: a schedule to its rows.
 pub mod lent;
-pub mod line;
 pub mod row;
 pub mod run;
 pub mod seat;

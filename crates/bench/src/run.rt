@@ -7,13 +7,10 @@ ghost use lib.Seq.{sets};
 ghost use Rattle.protocol.specs.Controller.{refusalNumber};
 ghost use Rattle.protocol.specs.Call.{setupAllowed};
 ghost use Rattle.engine.specs.Meaning.{refusalIs};
-ghost use Rattle.bench.specs.declared.line.Parsed.the-variants.{Readable};
+ghost use Rattle.schedule.specs.declared.line.Parsed.the-variants.{Readable};
 ghost use Rattle.bench.specs.Rows.{Answered};
 ghost use Rattle.bench.specs.Seats.{seatOf, wordOf, valueOf};
 ghost use Rattle.bench.specs.Running.{rowIs, Started, Ran, Wrote, Long};
-use crate::line;
-use crate::line::Line;
-use crate::line::Parsed;
 use crate::row;
 use crate::row::Value;
 use crate::row::Word;
@@ -23,6 +20,9 @@ use engine::Answer;
 use engine::Controller;
 use engine::Refusal;
 use pool::POOL_WORDS;
+use schedule::line;
+use schedule::line::Line;
+use schedule::line::Parsed;
 
 // Enough for the rows of any schedule.
 pub const ROWS_MAX: usize = 2621504;

@@ -4,7 +4,7 @@ ghost use mathlib.Core.Bool.{true};
 ghost use Prim.Native.Nat.{_+_, _≤_};
 ghost use Rattle.engine.specs.Meaning.{AllIn};
 ghost use Rattle.pool.specs.Pool.{poolLen};
-ghost use Rattle.bench.specs.Line.{Line};
+ghost use Rattle.schedule.specs.Line.{Line};
 ghost use Rattle.bench.specs.Seats.{Distinct, Sound, recordWith, listed, Numbered, Marks, Marked, FirstFree, Filled, Seated};
 use engine::Answer;
 use engine::Controller;

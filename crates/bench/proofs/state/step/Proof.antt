@@ -1,5 +1,5 @@
 use mathlib.Core.Path.{refl, ap}
-use Rattle.bench.specs.declared.line.Parsed.the-variants.{Readable}
+use Rattle.schedule.specs.declared.line.Parsed.the-variants.{Readable}
 use Rattle.bench.specs.Seats.{replied, numberIs}
 use Rattle.bench.proofs.Seats.{seat-joins, seat-leaves, seat-sends, seat-turns}
 use Rattle.bench.proofs.States.{at-line, fit-at, advance-seated}

@@ -1,0 +1,6 @@
+pub mod Scan
+pub mod Words
+pub mod Fields
+pub mod Commands
+pub mod Lies
+pub mod Whole

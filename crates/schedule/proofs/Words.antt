@@ -1,0 +1,105 @@
+-- The word that a line begins with, and that it tells which lines the text can be.
+-- Assumes nothing.
+use Prim.Native.Nat.{ℕ, _+_}
+use native.Mathlib.Omega.{arith}
+use mathlib.Core.Path.{_≡_, refl, sym, ap, subst, _∙_}
+use mathlib.Core.Bool.{Bool, true, false, cond, false≢true}
+use mathlib.Core.List.{List, [], _∷_, _++_}
+use mathlib.Core.Option.{none}
+use lib.Dec.{eqb}
+use lib.ListN.{length, take, drop, length-append}
+use lib.Seq.{take-append-seam}
+use borrow.Author.Tests.{eqb-true}
+use Rattle.protocol.specs.Statement.{Stmt}
+use Rattle.text.specs.Text.{decText, hexText}
+use Rattle.statements.specs.Text.{parted, text}
+use Rattle.schedule.specs.declared.line.Verb.{Verb}
+use Rattle.schedule.specs.declared.line.Verb.the-variants.{Setup, Join, Leave, Send, Give, All, Turn, Lie, Unknown}
+use Rattle.schedule.specs.Line.{Line, setup, join, leave, send, give, all, turn, lie, noStatement, setupWord, joinWord, leaveWord, sendWord, giveWord, allWord, turnWord, lieWord, ended, Written, Reads}
+use Rattle.schedule.specs.Reading.{startsWith, wordOf, verbOf}
+
+-- ---- a text begins with its word
+starts-only : (T w : List ℕ) → startsWith T w ≡ true → T ≡ w ++ drop (length w) T
+unfolding startsWith
+starts-only T [] e = refl
+starts-only [] (c ∷ w) e = absurd (false≢true e)
+starts-only (a ∷ T) (c ∷ w) e = go (eqb a c) refl (starts-only T w)
+  where
+    go : (t : Bool) → eqb a c ≡ t → (startsWith T w ≡ true → T ≡ w ++ drop (length w) T) → a ∷ T ≡ c ∷ (w ++ drop (length w) T)
+    go true p ih = ap (λ (x : ℕ). x ∷ T) (eqb-true a c p) ∙ ap (λ (l : List ℕ). c ∷ l) (ih (simp p at e))
+    go false p ih = absurd (false≢true (simp p at e))
+
+abbrev Begins : List ℕ → Verb → Type 0
+Begins T v = T ≡ wordOf v ++ drop (length (wordOf v)) T
+
+begins-if : (T : List ℕ) (v u : Verb) → Begins T u → Begins T (cond (startsWith T (wordOf v)) v u)
+begins-if T v u b = go (startsWith T (wordOf v)) refl
+  where
+    go : (t : Bool) → startsWith T (wordOf v) ≡ t → Begins T (cond t v u)
+    go true e = starts-only T (wordOf v) e
+    go false e = b
+
+verb-begins : (T : List ℕ) → Begins T (verbOf T)
+unfolding verbOf
+verb-begins T =
+    begins-if T Setup _ (begins-if T Join _ (begins-if T Leave _ (begins-if T Send _ (begins-if T Give _ (begins-if T All _ (begins-if T Turn _ (begins-if T Lie _ refl)))))))
+
+pub begins : (T : List ℕ) (v : Verb) → v ≡ verbOf T → T ≡ wordOf v ++ drop (length (wordOf v)) T
+begins T v e = subst (Begins T) (sym e) (verb-begins T)
+
+-- ---- a line's newline
+pub ended-same : (a b : List ℕ) → ended a ≡ ended b → a ≡ b
+ended-same a b e =
+    let n : length a ≡ length b = omega (arith, ap length e, length-append a (10 ∷ []), length-append b (10 ∷ [])) in
+    sym (take-append-seam a (10 ∷ [])) ∙ ap (take (length a)) e ∙ ap (λ (k : ℕ). take k (ended b)) n ∙ take-append-seam b (10 ∷ [])
+
+-- ---- the word of a line
+abbrev pub verbIs : Line → Verb
+verbIs (setup members sender faulty) = Setup
+verbIs (join k) = Join
+verbIs (leave k) = Leave
+verbIs (send k payload) = Send
+verbIs (give k n) = Give
+verbIs (all k) = All
+verbIs (turn k) = Turn
+verbIs (lie s) = Lie
+verbIs noStatement = Lie
+
+pub written-verb : (T : List ℕ) (l : Line) → Written l (ended T) → verbOf T ≡ verbIs l
+unfolding verbOf startsWith parted
+written-verb T (setup m s f) w = ap verbOf (ended-same T (parted (setupWord ∷ hexText 4 m ∷ decText s ∷ hexText 4 f ∷ [])) (w .3))
+written-verb T (join k) w = ap verbOf (ended-same T (parted (joinWord ∷ decText k ∷ [])) (w .1))
+written-verb T (leave k) w = ap verbOf (ended-same T (parted (leaveWord ∷ decText k ∷ [])) (w .1))
+written-verb T (send k p) w = ap verbOf (ended-same T (parted (sendWord ∷ decText k ∷ decText p ∷ [])) (w .2))
+written-verb T (give k n) w = ap verbOf (ended-same T (parted (giveWord ∷ decText k ∷ decText n ∷ [])) (w .2))
+written-verb T (all k) w = ap verbOf (ended-same T (parted (allWord ∷ decText k ∷ [])) (w .1))
+written-verb T (turn k) w = ap verbOf (ended-same T (parted (turnWord ∷ decText k ∷ [])) (w .1))
+written-verb T (lie s) w = ap verbOf (ended-same T (parted (lieWord ∷ text s ∷ [])) (w .1))
+written-verb T noStatement w = ap verbOf (ended-same T (parted (lieWord ∷ w .0 ∷ [])) (w .1))
+
+-- P holds of every line with this word.
+abbrev pub OfVerb : Verb → (Line → Type 0) → Type 0
+OfVerb Setup P = (m s f : ℕ) → P (setup m s f)
+OfVerb Join P = (k : ℕ) → P (join k)
+OfVerb Leave P = (k : ℕ) → P (leave k)
+OfVerb Send P = (k n : ℕ) → P (send k n)
+OfVerb Give P = (k n : ℕ) → P (give k n)
+OfVerb All P = (k : ℕ) → P (all k)
+OfVerb Turn P = (k : ℕ) → P (turn k)
+OfVerb Lie P = ((s : Stmt) → P (lie s)) × P noStatement
+OfVerb Unknown P = Unit {0}
+
+pub of-verb : (l : Line) (P : Line → Type 0) → OfVerb (verbIs l) P → P l
+of-verb (setup m s f) P o = o m s f
+of-verb (join k) P o = o k
+of-verb (leave k) P o = o k
+of-verb (send k n) P o = o k n
+of-verb (give k n) P o = o k n
+of-verb (all k) P o = o k
+of-verb (turn k) P o = o k
+of-verb (lie s) P o = o .0 s
+of-verb noStatement P o = o .1
+
+-- A text whose word tells of no line that it is written so reads as none.
+pub reads-none : (T : List ℕ) (v : Verb) → v ≡ verbOf T → OfVerb v (λ l. ¬ Written l (ended T)) → Reads (ended T) none
+reads-none T v e o l w = of-verb l (λ l. ¬ Written l (ended T)) (subst (λ u. OfVerb u (λ l. ¬ Written l (ended T))) (e ∙ written-verb T l w) o) w

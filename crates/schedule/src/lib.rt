@@ -1,0 +1,2 @@
+// The text of a schedule: its lines, each read as what it asks for.
+pub mod line;

@@ -1,0 +1,299 @@
+// The lines of a schedule. A line is read from the part of the schedule that begins with it; its end is looked for once, and its fields
+// within it.
+ghost use mathlib.Core.Path.{_≡_};
+ghost use Prim.Native.Nat.{_≤_};
+ghost use Rattle.schedule.specs.Reading.{bodyLength, startsWith, verbOf, LastAt, SetAt, NamedBy, NumberedBy, SetBy, CommandBy, LieBy, Understood, BodyOf, LineOf};
+use statements::Binding;
+use statements::Part;
+use statements::Statement;
+use text::Read;
+use views::History;
+use views::View;
+
+// A lie's statement stands beside the line, since an enum holds no array.
+pub enum Line {
+    Setup(u16, u8, u16),
+    Join(u8),
+    Leave(u8),
+    Send(u8, u64),
+    Give(u8, u64),
+    All(u8),
+    Turn(u8),
+    Lie,
+    NoStatement,
+}
+
+pub enum Parsed {
+    Readable(Line),
+    Unreadable,
+}
+
+// What a line was read as, and where the next one begins.
+pub struct ReadLine {
+    pub parsed: Parsed,
+    pub statement: Statement,
+    pub next: usize,
+}
+
+// The word that a line begins with.
+pub enum Verb {
+    Setup,
+    Join,
+    Leave,
+    Send,
+    Give,
+    All,
+    Turn,
+    Lie,
+    Unknown,
+}
+
+// How many bytes stand before the newline, or before the end where there is none.
+fn line_end(s: &[u8]) -> usize
+    ensures { λ r. ⌜ r ≡ bodyLength (now (s .entry)) ⌝ }
+{
+    let mut i = 0usize;
+    while i < s.len() {
+        if s[i] == 10 {
+            return i;
+        }
+        i += 1;
+    }
+    i
+}
+
+fn starts_with(s: &[u8], word: &[u8]) -> bool
+    ensures { λ r. ⌜ r ≡ startsWith (now (s .entry)) (now (word .entry)) ⌝ }
+{
+    if s.len() < word.len() {
+        return false;
+    }
+    let mut i = 0usize;
+    while i < word.len() {
+        if s[i] != word[i] {
+            return false;
+        }
+        i += 1;
+    }
+    true
+}
+
+fn verb_of(line: &[u8]) -> Verb
+    ensures { λ r. ⌜ r ≡ verbOf (now (line .entry)) ⌝ }
+{
+    if starts_with(line, b"setup") {
+        return Verb::Setup;
+    }
+    if starts_with(line, b"join") {
+        return Verb::Join;
+    }
+    if starts_with(line, b"leave") {
+        return Verb::Leave;
+    }
+    if starts_with(line, b"send") {
+        return Verb::Send;
+    }
+    if starts_with(line, b"give") {
+        return Verb::Give;
+    }
+    if starts_with(line, b"all") {
+        return Verb::All;
+    }
+    if starts_with(line, b"turn") {
+        return Verb::Turn;
+    }
+    if starts_with(line, b"lie") {
+        return Verb::Lie;
+    }
+    Verb::Unknown
+}
+
+// A comma and a number, to the line's end.
+fn last_at(line: &[u8], at: usize, most: u64) -> Part
+    ensures { λ p. ⌜ LastAt (now (line .entry)) at most p ⌝ }
+{
+    let p = statements::number_at(line, at, most);
+    if p.next < line.len() {
+        return Part {
+            ok: false,
+            value: 0,
+            next: p.next,
+        };
+    }
+    p
+}
+
+// A comma and a set. As with a number, one that is refused ends where the line does.
+fn set_at(line: &[u8], at: usize) -> Part
+    ensures { λ p. ⌜ SetAt (now (line .entry)) at p ⌝ }
+{
+    let none = Part {
+        ok: false,
+        value: 0,
+        next: line.len(),
+    };
+    if text::comma_at(line, at) {
+        let r = text::read_hex(line, at + 1, 4);
+        let Read::Got { value, next } = r else {
+            return none;
+        };
+        return Part {
+            ok: true,
+            value: value,
+            next: next,
+        };
+    }
+    none
+}
+
+// A line that names a controller and nothing more.
+fn read_named(line: &[u8], verb: Verb, at: usize) -> Parsed
+    requires { ⌜ NamedBy (now line) verb at ⌝ }
+    ensures { λ r. ⌜ Understood (now (line .entry)) r ⌝ }
+{
+    let p = last_at(line, at, 15);
+    if !p.ok {
+        return Parsed::Unreadable;
+    }
+    let k = p.value as u8;
+    match verb {
+        Verb::Join => Parsed::Readable(Line::Join(k)),
+        Verb::Leave => Parsed::Readable(Line::Leave(k)),
+        Verb::All => Parsed::Readable(Line::All(k)),
+        _ => Parsed::Readable(Line::Turn(k)),
+    }
+}
+
+// A line that names a controller and a number.
+fn read_numbered(line: &[u8], verb: Verb) -> Parsed
+    requires { ⌜ NumberedBy (now line) verb ⌝ }
+    ensures { λ r. ⌜ Understood (now (line .entry)) r ⌝ }
+{
+    let p = statements::number_at(line, 4, 15);
+    let n = last_at(line, p.next, 18446744073709551615);
+    if !n.ok {
+        return Parsed::Unreadable;
+    }
+    let k = p.value as u8;
+    match verb {
+        Verb::Send => Parsed::Readable(Line::Send(k, n.value)),
+        _ => Parsed::Readable(Line::Give(k, n.value)),
+    }
+}
+
+fn read_setup(line: &[u8]) -> Parsed
+    requires { ⌜ SetBy (now line) ⌝ }
+    ensures { λ r. ⌜ Understood (now (line .entry)) r ⌝ }
+{
+    let members = set_at(line, 5);
+    let sender = statements::number_at(line, members.next, 255);
+    let faulty = set_at(line, sender.next);
+    if faulty.next < line.len() {
+        return Parsed::Unreadable;
+    }
+    if !faulty.ok {
+        return Parsed::Unreadable;
+    }
+    Parsed::Readable(Line::Setup(
+        members.value as u16,
+        sender.value as u8,
+        faulty.value as u16,
+    ))
+}
+
+// Every line but a lie.
+fn read_command(line: &[u8], verb: Verb) -> Parsed
+    requires { ⌜ CommandBy (now line) verb ⌝ }
+    ensures { λ r. ⌜ Understood (now (line .entry)) r ⌝ }
+{
+    match verb {
+        Verb::Setup => read_setup(line),
+        Verb::Join => read_named(line, verb, 4),
+        Verb::Leave => read_named(line, verb, 5),
+        Verb::Send => read_numbered(line, verb),
+        Verb::Give => read_numbered(line, verb),
+        Verb::All => read_named(line, verb, 3),
+        Verb::Turn => read_named(line, verb, 4),
+        Verb::Lie => Parsed::Unreadable,
+        Verb::Unknown => Parsed::Unreadable,
+    }
+}
+
+// What stands beside a line that is no lie.
+fn no_statement() -> Statement
+    ensures { λ r. ⌜ r .history .len ≤ 16 ⌝ }
+{
+    let none = View { joined: 0, left: 0 };
+    Statement {
+        kind: 0,
+        origin: 0,
+        at: none,
+        view: none,
+        binding: Binding::Unbound,
+        payload: 0,
+        stored: false,
+        kept: 0,
+        history: History {
+            views: [none; 16],
+            len: 0,
+        },
+    }
+}
+
+// All after the comma is to be the text of a statement that keeps the field rules.
+fn read_lie(line: &[u8], next: usize) -> ReadLine
+    requires { ⌜ LieBy (now line) ⌝ }
+    ensures { λ r. ⌜ BodyOf (now (line .entry)) next r ⌝ }
+{
+    if text::comma_at(line, 3) {
+        let r = statements::read(&line[4..]);
+        let st = r.statement;
+        if r.ok & statements::keeps_field_rules(st) {
+            return ReadLine {
+                parsed: Parsed::Readable(Line::Lie),
+                statement: st,
+                next: next,
+            };
+        }
+        return ReadLine {
+            parsed: Parsed::Readable(Line::NoStatement),
+            statement: st,
+            next: next,
+        };
+    }
+    ReadLine {
+        parsed: Parsed::Unreadable,
+        statement: no_statement(),
+        next: next,
+    }
+}
+
+// A line without its newline.
+fn read_body(line: &[u8], next: usize) -> ReadLine
+    ensures { λ r. ⌜ BodyOf (now (line .entry)) next r ⌝ }
+{
+    let verb = verb_of(line);
+    if let Verb::Lie = verb {
+        return read_lie(line, next);
+    }
+    ReadLine {
+        parsed: read_command(line, verb),
+        statement: no_statement(),
+        next: next,
+    }
+}
+
+// The line that s begins with. A last line without a newline is unreadable.
+pub fn read_line(s: &[u8]) -> ReadLine
+    ensures { λ r. ⌜ LineOf (now (s .entry)) r ⌝ }
+{
+    let end = line_end(s);
+    if end < s.len() {
+        return read_body(&s[..end], end + 1);
+    }
+    ReadLine {
+        parsed: Parsed::Unreadable,
+        statement: no_statement(),
+        next: s.len(),
+    }
+}
