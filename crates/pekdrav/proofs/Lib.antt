@@ -5,4 +5,3 @@ pub mod Placing
 pub mod Loading
 pub mod Hosting
 pub mod Calling
-pub mod ScreenLaws

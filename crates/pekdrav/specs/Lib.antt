@@ -5,5 +5,3 @@ pub mod Pooled
 pub mod Evidence
 pub mod Memory
 pub mod Host
-pub mod Screen
-pub mod ScreenParts

@@ -5,6 +5,5 @@ mod held;
 mod pooled;
 mod rows;
 mod scan;
-mod screen;
 mod shown;
 mod statement;

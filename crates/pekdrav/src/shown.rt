@@ -4,6 +4,7 @@ ghost use Prim.Native.Nat.{_+_, _≤_};
 ghost use lib.Seq.{sets};
 ghost use Rattle.views.specs.View.{ring};
 ghost use Rattle.pool.specs.Pool.{recordOf};
+ghost use Rattle.screen.specs.Screen.{Shows};
 ghost use Rattle.pekdrav.specs.Evidence.{wordsOf, Tells};
 use pool::POOL_WORDS;
 
@@ -55,4 +56,20 @@ pub extern "C" fn pekdrav_evidence(
     out[5] = e.certified as u64;
     out[6] = e.payload;
     out[7] = e.stored as u64;
+}
+
+// Writes what the record of the first `len` numbers shows from the start of `out`, in lines, and answers the text's length; 0, and `out` as
+// it was, where `out` has fewer than 512 bytes.
+#[no_mangle]
+pub extern "C" fn pekdrav_shown(
+    words: &[u64; POOL_WORDS],
+    ids: &[u16; 512],
+    len: usize,
+    init: u32,
+    sender: u8,
+    out: &mut [u8],
+) -> usize
+    ensures { λ r. ⌜ Shows (ring init) sender (recordOf (now (words .entry)) (now (ids .entry)) len) (now (out .entry)) r (now (out .exit)) ⌝ }
+{
+    screen::shown(words, ids, len, init, sender, out)
 }

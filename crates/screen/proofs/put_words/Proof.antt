@@ -6,9 +6,9 @@ use lib.ListN.{length}
 use lib.Seq.{sets, length-sets}
 use Rattle.statements.specs.Parts.{tailText}
 use Rattle.evidence.specs.Slots.{viewsOf}
-use Rattle.pekdrav.proofs.ScreenLaws.{words-first, words-next, words-long}
-use Rattle.pekdrav.proofs.screen.put_words.Statement.{statement}
-use Rattle.pekdrav.proofs.screen.put_words.Tie as tie
+use Rattle.screen.proofs.ScreenLaws.{words-first, words-next, words-long}
+use Rattle.screen.proofs.put_words.Statement.{statement}
+use Rattle.screen.proofs.put_words.Tie as tie
 
 abbrev Inv-loop : tie.InvT-loop
 Inv-loop out₀ from n words at₀ i₀ out at i = (i ≤ n) × (at ≡ from + 9 * i) × (out ≡ sets out₀ from (tailText (viewsOf words i)))

@@ -30,8 +30,8 @@ use Rattle.statements.proofs.Views.{tail-append, tail-one, tail-long}
 use Rattle.evidence.specs.declared.Evidence.{Evidence}
 use Rattle.evidence.specs.Slots.{viewsOf}
 use Rattle.evidence.specs.Evidence.{EvidenceOf}
-use Rattle.pekdrav.specs.Screen.{wishedWord, candidatesWord, greatestWord, certificateWord, storedWord, keptWord, line, viewsLine, wishedLine, conflictLine, candidatesLine, certificateLine, agreedText, shownText, Shows}
-use Rattle.pekdrav.specs.ScreenParts.{Wrote, certifiedLine, agreedLines, linesOf, Few}
+use Rattle.screen.specs.Screen.{wishedWord, candidatesWord, greatestWord, certificateWord, storedWord, keptWord, line, viewsLine, wishedLine, conflictLine, candidatesLine, certificateLine, agreedText, shownText, Shows}
+use Rattle.screen.specs.ScreenParts.{Wrote, certifiedLine, agreedLines, linesOf, Few}
 
 -- ---- one byte more of a text
 pub byte-next : (out₀ out t : List ℕ) (at i : ℕ) → i < length t → out ≡ sets out₀ at (take i t) → set out (at + i) (getD t i 0) ≡ sets out₀ at (take (i + 1) t)

@@ -1,11 +1,11 @@
 use borrow.Author.Needs.{needs}
 use native.Mathlib.Omega.{arith}
-use Rattle.pekdrav.proofs.ScreenLaws.{few-views, shows, shows-nothing}
-use Rattle.pekdrav.proofs.screen.pekdrav_shown.Statement.{statement}
-use Rattle.pekdrav.proofs.screen.pekdrav_shown.Tie as tie
+use Rattle.screen.proofs.ScreenLaws.{few-views, shows, shows-nothing}
+use Rattle.screen.proofs.shown.Statement.{statement}
+use Rattle.screen.proofs.shown.Tie as tie
 
-pub pekdrav-shown-spec : {M : Type 1} → statement M
-pekdrav-shown-spec =
+pub shown-spec : {M : Type 1} → statement M
+shown-spec =
     tie.close
     (tie.spec
     (λ c. shows-nothing _ _ _ _ (omega arith))

@@ -1,9 +1,9 @@
 use borrow.Author.Needs.{needs}
 use native.Mathlib.Omega.{arith}
 use mathlib.Core.Path.{_∙_}
-use Rattle.pekdrav.proofs.ScreenLaws.{words-long, count-most, both, number-wrote}
-use Rattle.pekdrav.proofs.screen.put_views.Statement.{statement}
-use Rattle.pekdrav.proofs.screen.put_views.Tie as tie
+use Rattle.screen.proofs.ScreenLaws.{words-long, count-most, both, number-wrote}
+use Rattle.screen.proofs.put_views.Statement.{statement}
+use Rattle.screen.proofs.put_views.Tie as tie
 
 put-words-requires : tie.Need-put-words-requires
 put-words-requires c κs = (c .before .before .before .before .before .before .pre .0, omega (arith, c .before .before .before .before .before .before .pre .0, c .before .before .before .before .before .before .pre .1, count-most (c .before .before .before .before .before .before .args .n) (c .before .before .before .before .before .before .pre .0), c .before .before .before .put-number .ensures .0, c .before .before .before .put-number .kept .0))

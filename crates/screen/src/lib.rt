@@ -9,8 +9,8 @@ ghost use Rattle.statements.specs.Parts.{tailText};
 ghost use Rattle.views.specs.View.{viewOf, ring};
 ghost use Rattle.pool.specs.Pool.{recordOf};
 ghost use Rattle.evidence.specs.Slots.{viewsOf};
-ghost use Rattle.pekdrav.specs.Screen.{wishedLine, candidatesLine, viewsLine, greatestWord, Shows};
-ghost use Rattle.pekdrav.specs.ScreenParts.{Wrote, certifiedLine, linesOf, Few};
+ghost use Rattle.screen.specs.Screen.{wishedLine, candidatesLine, viewsLine, greatestWord, Shows};
+ghost use Rattle.screen.specs.ScreenParts.{Wrote, certifiedLine, linesOf, Few};
 use evidence::Evidence;
 use pool::POOL_WORDS;
 use views::View;
@@ -116,8 +116,7 @@ fn put_evidence(out: &mut [u8], e: Evidence) -> usize
 
 // Writes what the record of the first `len` numbers shows from the start of `out`, in lines, and answers the text's length; 0, and `out` as
 // it was, where `out` has fewer than 512 bytes.
-#[no_mangle]
-pub extern "C" fn pekdrav_shown(
+pub fn shown(
     words: &[u64; POOL_WORDS],
     ids: &[u16; 512],
     len: usize,

@@ -1,9 +1,9 @@
 use borrow.Author.Needs.{needs}
 use native.Mathlib.Omega.{arith}
-use Rattle.pekdrav.specs.Screen.{greatestWord}
-use Rattle.pekdrav.proofs.ScreenLaws.{views-wrote}
-use Rattle.pekdrav.proofs.screen.put_greatest.Statement.{statement}
-use Rattle.pekdrav.proofs.screen.put_greatest.Tie as tie
+use Rattle.screen.specs.Screen.{greatestWord}
+use Rattle.screen.proofs.ScreenLaws.{views-wrote}
+use Rattle.screen.proofs.put_greatest.Statement.{statement}
+use Rattle.screen.proofs.put_greatest.Tie as tie
 
 pub put-greatest-spec : {M : Type 1} → statement M
 put-greatest-spec =

@@ -1,11 +1,11 @@
 use borrow.Author.Needs.{needs}
 use native.Mathlib.Omega.{arith}
-use Rattle.pekdrav.specs.Screen.{conflictLine, greatestWord, line}
+use Rattle.screen.specs.Screen.{conflictLine, greatestWord, line}
 use Rattle.statements.specs.Text.{parted}
-use Rattle.pekdrav.proofs.ScreenLaws.{wished-size, candidates-most, views-most, conflict-wrote, lines-wrote}
+use Rattle.screen.proofs.ScreenLaws.{wished-size, candidates-most, views-most, conflict-wrote, lines-wrote}
 use Rattle.views.specs.View.{viewOf}
-use Rattle.pekdrav.proofs.screen.put_evidence.Statement.{statement}
-use Rattle.pekdrav.proofs.screen.put_evidence.Tie as tie
+use Rattle.screen.proofs.put_evidence.Statement.{statement}
+use Rattle.screen.proofs.put_evidence.Tie as tie
 
 returns : tie.Need-returns
 unfolding conflictLine line parted

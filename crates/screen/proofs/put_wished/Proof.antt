@@ -1,7 +1,7 @@
 use borrow.Author.Needs.{needs}
-use Rattle.pekdrav.proofs.ScreenLaws.{view-wrote, wished-wrote}
-use Rattle.pekdrav.proofs.screen.put_wished.Statement.{statement}
-use Rattle.pekdrav.proofs.screen.put_wished.Tie as tie
+use Rattle.screen.proofs.ScreenLaws.{view-wrote, wished-wrote}
+use Rattle.screen.proofs.put_wished.Statement.{statement}
+use Rattle.screen.proofs.put_wished.Tie as tie
 
 returns : tie.Need-returns
 returns c = wished-wrote _ (c .before .before .before .before .before .before .before .before .before .before .before .before .put-text .ensures) (view-wrote _ _ _ _ _ _ (c .before .before .before .before .before .before .before .before .before .of-word .ensures) (c .before .before .before .before .before .before .before .put-view .ensures)) (c .before .before .put-text2 .ensures)

@@ -2,12 +2,12 @@ use borrow.Author.Needs.{needs}
 use native.Mathlib.Omega.{arith}
 use borrow.Author.Tests.{not-true, not-false}
 use Rattle.text.proofs.Decimal.{most-long}
-use Rattle.pekdrav.specs.Screen.{certificateLine, line}
+use Rattle.screen.specs.Screen.{certificateLine, line}
 use Rattle.statements.specs.Text.{parted}
-use Rattle.pekdrav.specs.ScreenParts.{certifiedLine}
-use Rattle.pekdrav.proofs.ScreenLaws.{number-wrote, stored-wrote, kept-wrote}
-use Rattle.pekdrav.proofs.screen.put_certificate.Statement.{statement}
-use Rattle.pekdrav.proofs.screen.put_certificate.Tie as tie
+use Rattle.screen.specs.ScreenParts.{certifiedLine}
+use Rattle.screen.proofs.ScreenLaws.{number-wrote, stored-wrote, kept-wrote}
+use Rattle.screen.proofs.put_certificate.Statement.{statement}
+use Rattle.screen.proofs.put_certificate.Tie as tie
 
 returns : tie.Need-returns
 unfolding certifiedLine certificateLine line parted

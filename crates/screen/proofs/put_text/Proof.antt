@@ -4,9 +4,9 @@ use Prim.Native.Nat.{_-_, _≤_}
 use mathlib.Core.Path.{_≡_, refl, ap, _∙_}
 use lib.ListN.{length, take}
 use lib.Seq.{sets, length-sets, take-all}
-use Rattle.pekdrav.proofs.ScreenLaws.{byte-next}
-use Rattle.pekdrav.proofs.screen.put_text.Statement.{statement}
-use Rattle.pekdrav.proofs.screen.put_text.Tie as tie
+use Rattle.screen.proofs.ScreenLaws.{byte-next}
+use Rattle.screen.proofs.put_text.Statement.{statement}
+use Rattle.screen.proofs.put_text.Tie as tie
 
 abbrev Inv-loop : tie.InvT-loop
 Inv-loop out₀ at t i₀ out i = (i ≤ length t) × (out ≡ sets out₀ at (take i t))

@@ -1,10 +1,10 @@
 use borrow.Author.Needs.{needs}
 use native.Mathlib.Omega.{arith}
-use Rattle.pekdrav.specs.Screen.{candidatesLine, candidatesWord, line}
+use Rattle.screen.specs.Screen.{candidatesLine, candidatesWord, line}
 use Rattle.statements.specs.Text.{parted}
-use Rattle.pekdrav.proofs.ScreenLaws.{views-wrote}
-use Rattle.pekdrav.proofs.screen.put_candidates.Statement.{statement}
-use Rattle.pekdrav.proofs.screen.put_candidates.Tie as tie
+use Rattle.screen.proofs.ScreenLaws.{views-wrote}
+use Rattle.screen.proofs.put_candidates.Statement.{statement}
+use Rattle.screen.proofs.put_candidates.Tie as tie
 
 returns : tie.Need-returns
 unfolding candidatesLine line parted

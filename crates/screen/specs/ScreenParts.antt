@@ -10,7 +10,7 @@ use Rattle.protocol.specs.Lists.{if_then_else_, when}
 use Rattle.views.specs.View.{viewOf}
 use Rattle.evidence.specs.declared.Evidence.{Evidence}
 use Rattle.evidence.specs.Slots.{viewsOf}
-use Rattle.pekdrav.specs.Screen.{wishedLine, conflictLine, candidatesLine, viewsLine, certificateLine, greatestWord}
+use Rattle.screen.specs.Screen.{wishedLine, conflictLine, candidatesLine, viewsLine, certificateLine, greatestWord}
 
 -- t was written over `out` from `at`, and n is the position after it.
 pub record Wrote (out : List ℕ) (at : ℕ) (t : List ℕ) (n : ℕ) (after : List ℕ) : Type 0 where

@@ -1,0 +1,3 @@
+-- The text of what a record shows, and what writing it promises.
+pub mod Screen
+pub mod ScreenParts
