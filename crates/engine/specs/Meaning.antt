@@ -1,30 +1,24 @@
--- What the engine's values mean: the protocol's controller, answer and actions.
+-- What the engine's values mean: the protocol's controller and answer.
 -- Assumes nothing.
 use mathlib.Core.List.{List, [], _∷_}
-use mathlib.Core.Option.{Option, some, none}
 use Prim.Native.Nat.{ℕ, _<_, min}
 use lib.ListN.{getD}
 use Rattle.protocol.specs.Lists.{if_then_else_}
 use Rattle.protocol.specs.View.{View, controllers, member}
 use Rattle.protocol.specs.Statement.{Stmt}
 use Rattle.protocol.specs.Controller as controller
-use Rattle.protocol.specs.Turn as turn
 use Rattle.views.specs.Table.{table}
 use Rattle.views.specs.Held.{viewIs, viewsIs}
 use Rattle.views.specs.declared.View as held
-use Rattle.statements.specs.Meaning.{stmtOf, bindingIs}
+use Rattle.statements.specs.Meaning.{bindingIs}
 use Rattle.pool.specs.declared.Record.{Record}
 use Rattle.pool.specs.Pool.{stmtAt, poolLen, recordOf}
 use Rattle.engine.specs.declared.Controller.{Controller}
-use Rattle.rules.specs.declared.Send.{Send}
-use Rattle.rules.specs.declared.Send.the-variants.{Nothing, Payload}
+use Rattle.rules.specs.Deeds.{sendIs}
 use Rattle.engine.specs.declared.Refusal.{Refusal}
 use Rattle.engine.specs.declared.Refusal.the-variants.{BadSetup, BadStatement, Repeated, Full, BadRequest, ManyCandidates, Conflict, OutOfPlace}
 use Rattle.engine.specs.declared.Answer.{Answer}
 use Rattle.engine.specs.declared.Answer.the-variants.{Taken, Signed, Entered, Delivered, Left, Quiet, Refused}
-use Rattle.rules.specs.declared.Step.{Step}
-use Rattle.rules.specs.declared.Deed.{Deed}
-use Rattle.rules.specs.declared.Deed.the-variants.{Rest, Sign, Bind, Enter, Deliver}
 
 -- The views that controller k has entered at first: "Initial members start entered".
 unfoldable pub initialIs : held.View → ℕ → List View
