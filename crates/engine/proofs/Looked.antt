@@ -24,7 +24,7 @@ use Rattle.views.proofs.Tables.{table-length}
 use Rattle.views.proofs.Histories.{top-some}
 use Rattle.evidence.specs.declared.Evidence.{Evidence}
 use Rattle.evidence.specs.Evidence.{EvidenceOf, Settled}
-use Rattle.evidence.specs.Slots.{viewsOf}
+use Rattle.ranking.specs.Slots.{viewsOf}
 use Rattle.engine.specs.declared.Controller.{Controller}
 use Rattle.rules.specs.declared.Sight.{Sight}
 use Rattle.engine.specs.Meaning.{controllerIs}

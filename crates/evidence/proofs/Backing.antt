@@ -32,7 +32,7 @@ use Rattle.pool.specs.Pool.{stmtAt, recordOf}
 use Rattle.votes.specs.Votes.{isVote, alike, entry, Groups}
 use Rattle.votes.proofs.Alike.{says-vote, Alike, says-alike, alike-both, alike-turned}
 use Rattle.evidence.specs.Shown.{isBacked, Backed, AckedOf, certifies, storesIt, CertificatesOf}
-use Rattle.evidence.proofs.Members.{table-out}
+use Rattle.ranking.proofs.Members.{table-out}
 
 -- ---- tests of one statement
 

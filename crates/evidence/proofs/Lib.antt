@@ -1,7 +1,3 @@
-pub mod Members
-pub mod Slots
-pub mod Ranks
-pub mod Summits
 pub mod Payloads
 pub mod Backing
 pub mod Reporting

@@ -22,7 +22,7 @@ use Rattle.views.proofs.Tables.{any-zero, any-suc, any-more, any-at, table-cong
 use Rattle.pool.specs.Pool.{recordOf}
 use Rattle.pool.proofs.Records.{entry, none-first, any-next, whole}
 use Rattle.evidence.specs.Shown.{preparesIt, listed, twofold, PreparedList}
-use Rattle.evidence.proofs.Members.{table-in, table-out}
+use Rattle.ranking.proofs.Members.{table-in, table-out}
 
 -- ---- one statement
 

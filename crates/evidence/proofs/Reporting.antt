@@ -29,9 +29,9 @@ use Rattle.views.proofs.Views.{passes, fails, view-parts, signed-by-set}
 use Rattle.pool.specs.Pool.{stmtAt, recordOf}
 use Rattle.votes.specs.Votes.{entry}
 use Rattle.evidence.specs.declared.Evidence.{Evidence}
-use Rattle.evidence.specs.Slots.{viewsOf}
+use Rattle.ranking.specs.Slots.{viewsOf}
 use Rattle.evidence.specs.Evidence.{Settled, bindingHolds, keptHolds, reportedOn, reportedAll, countsBelow}
-use Rattle.evidence.proofs.Members.{table-in}
+use Rattle.ranking.proofs.Members.{table-in}
 use Rattle.evidence.proofs.Backing.{placed}
 
 -- ---- one member

@@ -22,15 +22,16 @@ use Rattle.views.specs.View.{viewOf, ring}
 use Rattle.views.proofs.Views.{view-low}
 use Rattle.pool.specs.Pool.{word, stmtAt, recordOf}
 use Rattle.votes.specs.Tables.{low, high, upTo, gives, sealsAt, sealsAs, Tables, Verdicts}
-use Rattle.evidence.specs.declared.candidates.Ranked.{Ranked}
-use Rattle.evidence.specs.declared.histories.Summit.{Summit}
+use Rattle.ranking.specs.declared.Ranked.{Ranked}
+use Rattle.ranking.specs.declared.Summit.{Summit}
 use Rattle.evidence.specs.declared.certificates.Certified.{Certified}
-use Rattle.evidence.specs.Slots.{viewsOf}
-use Rattle.evidence.specs.Shown.{Choices, Agreements, CandidatesOf, HistoriesOf, CertificatesOf}
+use Rattle.ranking.specs.Slots.{viewsOf}
+use Rattle.ranking.specs.Ranking.{Choices, Agreements, CandidatesOf, HistoriesOf}
+use Rattle.evidence.specs.Shown.{CertificatesOf}
 use Rattle.evidence.specs.Evidence.{EvidenceOf}
-use Rattle.evidence.proofs.Members.{table-in, table-out}
+use Rattle.ranking.proofs.Members.{table-in, table-out}
 use Rattle.evidence.proofs.Backing.{placed}
-use Rattle.evidence.proofs.Summits.{held-same}
+use Rattle.ranking.proofs.Summits.{held-same}
 
 -- ---- the marks
 

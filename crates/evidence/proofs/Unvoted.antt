@@ -21,10 +21,11 @@ use Rattle.views.specs.View.{viewOf, ring}
 use Rattle.views.proofs.Views.{passes, fails}
 use Rattle.votes.specs.Votes.{isVote}
 use Rattle.votes.proofs.Alike.{Vote, says-vote}
-use Rattle.evidence.specs.Shown.{CandidatesOf, HistoriesOf, CertificatesOf}
+use Rattle.ranking.specs.Ranking.{CandidatesOf, HistoriesOf}
+use Rattle.evidence.specs.Shown.{CertificatesOf}
 use Rattle.evidence.specs.Evidence.{EvidenceOf}
-use Rattle.evidence.proofs.Ranks.{says-comparable}
-use Rattle.evidence.proofs.Summits.{alone-views, alone}
+use Rattle.ranking.proofs.Ranks.{says-comparable}
+use Rattle.ranking.proofs.Summits.{alone-views, alone}
 use Rattle.evidence.proofs.Tied.{tied}
 
 filter-none : {A : Type 0} (p : A → Bool) (l : List A) → ((a : A) → a ∈ l → p a ≡ false) → filter p l ≡ []

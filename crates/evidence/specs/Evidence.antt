@@ -13,7 +13,7 @@ use Rattle.protocol.specs.History.{top}
 use Rattle.protocol.specs.Statement.{Stmt}
 use Rattle.protocol.specs.Evidence.{wished, candidates, greatest, certificates, isConflict, isStored, signedByQuorum, isPrepared, twoPrepares, isCertified, isCountedOn}
 use Rattle.views.specs.View.{viewOf}
-use Rattle.evidence.specs.Slots.{viewsOf}
+use Rattle.ranking.specs.Slots.{viewsOf}
 use Rattle.evidence.specs.declared.Evidence.{Evidence}
 
 -- The payload of the certificate, if there is one.

@@ -1,61 +1,22 @@
--- What each part of the evidence is of.
+-- What the certificate is of, and the marks and lists that it is found by.
 -- Assumes nothing.
 use mathlib.Core.Path.{_≡_}
-use mathlib.Core.Logic.{_⊎_}
 use mathlib.Core.Bool.{Bool, true, false, not, _&&_, _||_}
-use mathlib.Core.List.{List, [], _∷_}
+use mathlib.Core.List.{List}
 use Prim.Native.Nat.{ℕ, _≤_, _<_, min}
-use lib.Dec.{T, eqb, ltb}
-use lib.ListN.{getD, length}
+use lib.Dec.{T, eqb}
+use lib.ListN.{getD}
 use Rattle.protocol.specs.Lists.{any, pairwise, first, when}
-use Rattle.protocol.specs.View.{View, comparable}
-use Rattle.protocol.specs.History.{holds, Holds}
 use Rattle.protocol.specs.Statement.{Stmt, isKind}
-use Rattle.protocol.specs.Evidence.{signedByQuorum, Candidate, candidates, Sealed, sealedHistories, prepares, isPrepared, certificates}
+use Rattle.protocol.specs.Evidence.{signedByQuorum, prepares, isPrepared, certificates}
 use Rattle.protocol.specs.Grounds.{isTop}
 use Rattle.views.specs.Table.{table}
-use Rattle.views.specs.View.{viewOf, ring}
-use Rattle.pool.specs.Pool.{stmtAt, recordOf}
+use Rattle.views.specs.View.{ring}
+use Rattle.pool.specs.Pool.{recordOf}
 use Rattle.votes.specs.Votes.{alike, entry}
-use Rattle.votes.specs.Tables.{high}
-use Rattle.evidence.specs.Slots.{historyScale, viewsOf, Broken, Chain}
-use Rattle.evidence.specs.declared.candidates.Ranked.{Ranked}
-use Rattle.evidence.specs.declared.histories.Summit.{Summit}
 use Rattle.evidence.specs.declared.certificates.Certified.{Certified}
 
--- r is the first of n that is marked, or n.
-pub record FirstMarked (M : List ℕ) (n r : ℕ) : Type 0 where
-  pub most : r ≤ n
-  pub none : (a : ℕ) → a < r → getD M a 0 ≡ 1 → ⊥
-  pub is : r < n → getD M r 0 ≡ 1
-
--- The histories in the slots are a chain that ends with that of statement `last`; or they are none.
-pub record ChainOf (W S : List ℕ) (whole : Bool) (last : ℕ) : Type 0 where
-  pub good : whole ≡ true → (some : Bool) × Chain (historyScale W) S 17 some last
-  pub bad : whole ≡ false → Broken (historyScale W) S 17
-
 module _ (init : ℕ) (X : List Stmt) where
-  -- The candidates are the initial view and the views of the choices before n that are marked.
-  pub record Choices (C M : List ℕ) (n : ℕ) : Type 0 where
-    pub sound : (c : ℕ) → c < n → getD M c 0 ≡ 1 → Candidate (ring init) X (viewOf (high (getD C c 0)))
-    pub complete : (v : View) → Candidate (ring init) X v
-        → (v ≡ viewOf init) ⊎ ((c : ℕ) × (c < n) × (getD M c 0 ≡ 1) × (viewOf (high (getD C c 0)) ≡ v))
-
-  pub record CandidatesOf (r : Ranked) : Type 0 where
-    pub conflict : r .conflict ≡ not (pairwise (comparable 16) (candidates (ring init) X))
-    pub many : r .conflict ≡ false → r .many ≡ ltb 16 (length (candidates (ring init) X))
-    pub views : r .conflict ≡ false → r .many ≡ false → viewsOf (r .views) (r .count) ≡ candidates (ring init) X
-
-  -- The sealed histories are that of the initial view and those of the agreements before n that are marked.
-  pub record Agreements (W E M : List ℕ) (n : ℕ) : Type 0 where
-    pub sound : (a : ℕ) → a < n → getD M a 0 ≡ 1 → Sealed (ring init) X (stmtAt W (getD E a 0) .views)
-    pub complete : (H : List View) → Sealed (ring init) X H → (H ≡ viewOf init ∷ []) ⊎ ((a : ℕ) × (a < n) × (getD M a 0 ≡ 1) × (stmtAt W (getD E a 0) .views ≡ H))
-
-  pub record HistoriesOf (r : Summit) : Type 0 where
-    pub conflict : r .conflict ≡ not (pairwise (λ H K. holds H K || holds K H) (sealedHistories (ring init) X))
-    pub sealed : r .conflict ≡ false → Sealed (ring init) X (viewsOf (r .views) (r .length))
-    pub holds : r .conflict ≡ false → (K : List View) → Sealed (ring init) X K → Holds (viewsOf (r .views) (r .length)) K
-
   -- An ack or a store, by a quorum of a sealed top.
   unfoldable pub isBacked : Stmt → Bool
   isBacked s = (isKind 7 s || isKind 8 s) && signedByQuorum 16 X (s .at) (alike s) && isTop (ring init) X (s .at)

@@ -1,20 +1,14 @@
 // What a record shows, once a turn: the candidates, the greatest sealed history, the certificate, and which reports count.
 mod binding;
-mod candidates;
 mod certificates;
-mod histories;
 mod prepares;
 mod reports;
 mod whole;
 
-pub use candidates::Ranked;
-pub use candidates::rank;
 pub use certificates::Certified;
 pub use certificates::certificate;
 pub use certificates::is_stored;
 pub use certificates::mark_backed;
-pub use histories::Summit;
-pub use histories::climb;
 pub use reports::merged;
 pub use reports::reported;
 pub use whole::of_record;

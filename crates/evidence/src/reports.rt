@@ -11,7 +11,7 @@ ghost use Rattle.protocol.specs.Turn.{mergeAll};
 ghost use Rattle.views.specs.Sets.{IsSet};
 ghost use Rattle.views.specs.View.{viewOf, ring};
 ghost use Rattle.pool.specs.Pool.{stmtAt, recordOf};
-ghost use Rattle.evidence.specs.Slots.{viewsOf};
+ghost use Rattle.ranking.specs.Slots.{viewsOf};
 ghost use Rattle.statements.specs.Meaning.{bindingIs};
 ghost use Rattle.evidence.specs.Shown.{PreparedList};
 ghost use Rattle.evidence.specs.Evidence.{Settled, bindingHolds, keptHolds, reportedOn, reportedAll, countsBelow, reportsBelow};

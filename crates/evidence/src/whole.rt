@@ -10,16 +10,15 @@ ghost use Rattle.views.specs.View.{viewOf, ring};
 ghost use Rattle.pool.specs.Pool.{recordOf};
 ghost use Rattle.votes.specs.Votes.{isVote, Groups};
 ghost use Rattle.votes.specs.Tables.{Tables, Verdicts};
-ghost use Rattle.evidence.specs.Shown.{Backed, CandidatesOf, HistoriesOf, CertificatesOf};
+ghost use Rattle.ranking.specs.Ranking.{CandidatesOf, HistoriesOf};
+ghost use Rattle.evidence.specs.Shown.{Backed, CertificatesOf};
 ghost use Rattle.evidence.specs.Evidence.{EvidenceOf};
 use crate::Evidence;
-use crate::candidates;
-use crate::candidates::Ranked;
 use crate::certificates;
 use crate::certificates::Certified;
-use crate::histories;
-use crate::histories::Summit;
 use pool::POOL_WORDS;
+use ranking::Ranked;
+use ranking::Summit;
 use sealing::INDEX;
 
 // Whether one of the three is true.
@@ -151,8 +150,8 @@ fn from_tables(
         &mut ma,
         &mut marks,
     );
-    let r = candidates::rank(chosen, nc, &mc, init);
-    let h = histories::climb(words, entry, na, &ma, init);
+    let r = ranking::rank(chosen, nc, &mc, init);
+    let h = ranking::climb(words, entry, na, &ma, init);
     let c = certificates::certificate(words, ids, len, init, sender, first, n, &marks);
     let stored = certificates::is_stored(words, ids, len, init, first, n, &marks, c.payload);
     tie(wish, r, h, c, stored)

@@ -27,7 +27,7 @@ use Rattle.statements.specs.declared.Binding.the-variants.{Unbound, Bound, Barr
 use Rattle.statements.specs.declared.Statement.{Statement}
 use Rattle.statements.specs.Meaning.{bindingIs, stmtOf}
 use Rattle.statements.specs.Made.{Made}
-use Rattle.evidence.specs.Slots.{viewsOf}
+use Rattle.ranking.specs.Slots.{viewsOf}
 use Rattle.evidence.specs.Evidence.{reportedAll, reportsBelow}
 use Rattle.evidence.proofs.Turns.{reported-turn, counted-turn}
 use Rattle.rules.specs.declared.Send.{Send}

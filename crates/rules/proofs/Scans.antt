@@ -28,7 +28,7 @@ use Rattle.views.proofs.Tables.{any-zero, any-more, table-cong}
 use Rattle.views.proofs.Held.{views-of, cut-is}
 use Rattle.pool.specs.Pool.{stmtAt, recordOf}
 use Rattle.pool.proofs.Records as records
-use Rattle.evidence.specs.Slots.{viewsOf}
+use Rattle.ranking.specs.Slots.{viewsOf}
 use Rattle.rules.specs.Rules.{ownKind, ownAt, Owns, firstPrepare}
 
 -- ---- one statement

@@ -18,7 +18,7 @@ use Rattle.statements.specs.declared.Binding.{Binding}
 use Rattle.statements.specs.Meaning.{bindingIs}
 use Rattle.evidence.specs.declared.Evidence.{Evidence}
 use Rattle.evidence.specs.Evidence.{Settled}
-use Rattle.evidence.specs.Slots.{viewsOf}
+use Rattle.ranking.specs.Slots.{viewsOf}
 use Rattle.rules.specs.declared.Send.{Send}
 use Rattle.rules.specs.declared.Deed.{Deed}
 use Rattle.rules.specs.declared.Deed.the-variants.{Rest, Sign, Bind, Enter, Deliver}

@@ -10,7 +10,7 @@ ghost use Rattle.views.specs.View.{viewOf, ring};
 ghost use Rattle.views.specs.Held.{viewIs};
 ghost use Rattle.pool.specs.Pool.{recordOf};
 ghost use Rattle.evidence.specs.Evidence.{Settled};
-ghost use Rattle.evidence.specs.Slots.{viewsOf};
+ghost use Rattle.ranking.specs.Slots.{viewsOf};
 ghost use Rattle.rules.specs.Rules.{reportDue, dueIs, Owned, Enters, Entering};
 use crate::Due;
 use crate::Sight;

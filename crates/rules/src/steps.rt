@@ -5,7 +5,7 @@ ghost use Prim.Native.Nat.{_≤_};
 ghost use Rattle.protocol.specs.Turn as turn;
 ghost use Rattle.views.specs.Held.{viewIs, viewsIs};
 ghost use Rattle.statements.specs.Meaning.{bindingIs, stmtOf};
-ghost use Rattle.evidence.specs.Slots.{viewsOf};
+ghost use Rattle.ranking.specs.Slots.{viewsOf};
 ghost use Rattle.rules.specs.Rules.{acts, Steps};
 use crate::Deed;
 use crate::Step;

@@ -28,7 +28,7 @@ use Rattle.statements.specs.Parts.{tailText}
 use Rattle.statements.proofs.Fields.{view-long}
 use Rattle.statements.proofs.Views.{tail-append, tail-one, tail-long}
 use Rattle.evidence.specs.declared.Evidence.{Evidence}
-use Rattle.evidence.specs.Slots.{viewsOf}
+use Rattle.ranking.specs.Slots.{viewsOf}
 use Rattle.evidence.specs.Evidence.{EvidenceOf}
 use Rattle.screen.specs.Screen.{wishedWord, candidatesWord, greatestWord, certificateWord, storedWord, keptWord, line, viewsLine, wishedLine, conflictLine, candidatesLine, certificateLine, agreedText, shownText, Shows}
 use Rattle.screen.specs.ScreenParts.{Wrote, certifiedLine, agreedLines, linesOf, Few}

@@ -8,7 +8,7 @@ ghost use Rattle.text.specs.Text.{decText};
 ghost use Rattle.statements.specs.Parts.{tailText};
 ghost use Rattle.views.specs.View.{viewOf, ring};
 ghost use Rattle.pool.specs.Pool.{recordOf};
-ghost use Rattle.evidence.specs.Slots.{viewsOf};
+ghost use Rattle.ranking.specs.Slots.{viewsOf};
 ghost use Rattle.screen.specs.Screen.{wishedLine, candidatesLine, viewsLine, greatestWord, Shows};
 ghost use Rattle.screen.specs.ScreenParts.{Wrote, certifiedLine, linesOf, Few};
 use evidence::Evidence;

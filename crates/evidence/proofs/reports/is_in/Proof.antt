@@ -8,7 +8,7 @@ use Rattle.protocol.specs.View.{sameView}
 use Rattle.views.specs.View.{viewOf}
 use Rattle.views.proofs.Tables.{any-zero, any-more, any-at}
 use Rattle.views.proofs.Views.{view-inj, same-yes, same-no}
-use Rattle.evidence.specs.Slots.{viewsOf}
+use Rattle.ranking.specs.Slots.{viewsOf}
 use Rattle.evidence.proofs.reports.is_in.Statement.{statement}
 use Rattle.evidence.proofs.reports.is_in.Tie as tie
 

@@ -7,7 +7,7 @@ use Rattle.protocol.specs.Lists.{all}
 use Rattle.views.specs.View.{viewOf, ring}
 use Rattle.views.proofs.Tables.{all-zero, all-more, all-miss}
 use Rattle.pool.specs.Pool.{recordOf}
-use Rattle.evidence.specs.Slots.{viewsOf}
+use Rattle.ranking.specs.Slots.{viewsOf}
 use Rattle.evidence.specs.Evidence.{reportedOn}
 use Rattle.evidence.proofs.Reporting as laws
 use borrow.Author.Needs.{needs}

@@ -1,7 +1,7 @@
 use mathlib.Core.Path.{ap, _∙_}
 use Rattle.views.specs.View.{viewOf, ring}
 use Rattle.views.proofs.Histories.{top-none, top-some}
-use Rattle.evidence.specs.Slots.{viewsOf}
+use Rattle.ranking.specs.Slots.{viewsOf}
 use borrow.Author.Needs.{needs}
 use Rattle.evidence.proofs.reports.top_of.Statement.{statement}
 use Rattle.evidence.proofs.reports.top_of.Tie as tie

@@ -6,7 +6,7 @@ use Prim.Native.Nat.{_-_, _≤_}
 use Rattle.protocol.specs.Lists.{any}
 use Rattle.views.specs.Held.{viewIs}
 use Rattle.pool.specs.Pool.{recordOf}
-use Rattle.evidence.specs.Slots.{viewsOf}
+use Rattle.ranking.specs.Slots.{viewsOf}
 use Rattle.rules.specs.Rules.{reportDue}
 use Rattle.rules.proofs.Scans.{slots-any-none, slots-any-more, slots-found, slots-nothing}
 use Rattle.rules.proofs.membership.next_due.Statement.{statement}

@@ -1,0 +1,195 @@
+-- The histories in the slots are the sealed ones.
+-- Assumes nothing.
+use mathlib.Core.Path.{_≡_, refl, sym, ap, ap₂, subst, _∙_}
+use mathlib.Core.Logic.{_⊎_, inl, inr}
+use mathlib.Core.Bool.{Bool, true, false, not, _||_}
+use mathlib.Core.List.{List, [], _∷_, _++_, List·Memᴰ·cases-cons, List·Memᴰ·not-nil}
+use Prim.Native.Nat.{ℕ, _+_, _≤_, _<_}
+use native.Mathlib.Numerals.{add-one}
+use native.Mathlib.Omega.{arith}
+use lib.Dec.{T}
+use lib.ListN.{length, getD, set, replicate}
+use Rattle.protocol.specs.Lists.{_∈_, _⊆_, any, pairwise}
+use Rattle.protocol.specs.View.{View, sameView, size}
+use Rattle.protocol.specs.History.{holds, Holds, Rising}
+use Rattle.protocol.specs.Statement.{Stmt}
+use Rattle.protocol.specs.Evidence.{Sealed, start, agreed, sealedHistories}
+use Rattle.protocol.proofs.Says.{Says, says-or}
+use Rattle.protocol.proofs.Decided.{says-in}
+use Rattle.protocol.proofs.Asked.{says-holds, says-pairwise, sealed-in, sealed-out}
+use Rattle.protocol.proofs.Different.{Different, ordered-map, different-length}
+use Rattle.protocol.proofs.Histories.{start-in}
+use Rattle.views.specs.Table.{table}
+use Rattle.views.specs.View.{viewOf, ring}
+use Rattle.views.proofs.Tables.{table-length}
+use Rattle.views.proofs.Views.{passes, fails}
+use Rattle.pool.specs.Pool.{countOf, viewAt, stmtAt}
+use Rattle.pool.proofs.Laws.{views-of}
+use Rattle.ranking.specs.Slots.{historyScale, entryIn, viewsOf, Stands, Slots, Clash, occupied, Broken, Chain}
+use Rattle.ranking.specs.Ranking.{FirstMarked, ChainOf, Agreements, HistoriesOf}
+use Rattle.ranking.proofs.Members.{Climbs, same-members}
+use Rattle.ranking.proofs.Slots.{views-put, occupied-in, occupied-out}
+
+-- ---- lengths
+
+pub views-length : (W : List ℕ) (n c : ℕ) → c ≡ countOf W n → c ≡ length (stmtAt W n .views)
+views-length W n c e = sym (table-length c (viewAt W n)) ∙ ap length (views-of W n c e)
+
+pub views-short : (W : List ℕ) (n : ℕ) → length (stmtAt W n .views) < 17
+unfolding countOf
+views-short W n = omega (arith, views-length W n (countOf W n) refl)
+
+-- ---- copying
+
+pub copy-first : (out : List ℕ) (f : ℕ → View) → viewsOf out 0 ≡ table 0 f
+unfolding viewsOf table
+copy-first out f = refl
+
+pub copy-more : (out : List ℕ) (p v : ℕ) (f : ℕ → View) → p < length out → viewsOf out p ≡ table p f → viewOf v ≡ f p → viewsOf (set out p v) (p + 1) ≡ table (p + 1) f
+unfolding table
+copy-more out p v f l e g = rw add-one (views-put out p v l ∙ ap₂ (λ l x. l ++ (x ∷ [])) e g)
+
+-- ---- a chain of histories
+
+pub same-held : (H : List View) → Holds H H
+same-held H v m = m
+
+pub held-trans : (K H G : List View) → Holds H K → Holds G H → Holds G K
+held-trans K H G p q v m = q v (p v m)
+
+pub links-stop : (W S : List ℕ) (last : ℕ) → Broken (historyScale W) S 17 → ChainOf W S false last
+links-stop W S last b = record { good = λ t. absurd (subst (λ b. T (not b)) t tt); bad = λ f. b }
+
+pub links-end : (W S : List ℕ) (k last : ℕ) (some : Bool) → k ≡ 17 → Chain (historyScale W) S k some last → ChainOf W S true last
+links-end W S k last some e c = record { good = λ t. (some, subst (λ k. Chain (historyScale W) S k some last) e c); bad = λ f. absurd (subst T f tt) }
+
+-- the history of the initial view
+pub alone-views : (init : ℕ) → viewsOf (replicate 16 init) 1 ≡ viewOf init ∷ []
+unfolding viewsOf table
+alone-views init = refl
+
+-- ---- sealed histories rise
+
+rising-climbs : (w : ℕ) (u : View) (H : List View) → Rising w u H → Climbs (size w) (u ∷ H)
+rising-climbs w u [] r = (λ v m. absurd (List·Memᴰ·not-nil m), tt)
+rising-climbs w u (x ∷ H) (b, r) =
+    let (f, c) = rising-climbs w x H r in
+    (λ v m. elim (List·Memᴰ·cases-cons m) [ inl e ↦ omega (arith, b .less, ap (size w) e) | inr i ↦ omega (arith, b .less, f v i) ], (f, c))
+
+different : (w : ℕ) (H : List View) → Climbs (size w) H → Different H
+different w H c = ordered-map (λ a b l e. omega (arith, ap (size w) e)) H c
+
+-- different views of H, as many as H has, are all of them
+full : (K H : List View) → Different K → K ⊆ H → length H ≤ length K → H ⊆ K
+full K H d s l v m = go (any (sameView v) K) refl
+  where
+    go : (b : Bool) → any (sameView v) K ≡ b → v ∈ K
+    go true e = says-in .sound (subst T (sym e) tt)
+    go false e = absurd (omega (
+      arith,
+      different-length (v ∷ K) H ((λ u i q. subst T e (says-in {v = v} .complete (subst (λ x. x ∈ K) (sym q) i))), d)
+          (λ u i. elim (List·Memᴰ·cases-cons i) [ inl q ↦ subst (λ x. x ∈ H) (sym q) m | inr j ↦ s u j ]),
+    ))
+
+module _ (init : ℕ) (X : List Stmt) where
+  sealed-climbs : {H : List View} → Sealed (ring init) X H → Climbs (size 16) H
+  sealed-climbs (start e) = subst (Climbs (size 16)) (sym e) (rising-climbs 16 (viewOf init) [] tt)
+  sealed-climbs (agreed g h i n c q) = subst (Climbs (size 16)) (sym (h .begins)) (rising-climbs 16 (viewOf init) (h .rest) (h .rising))
+
+  -- two that hold each other are one
+  pub held-same : {H K : List View} → Sealed (ring init) X H → Sealed (ring init) X K → Holds H K → Holds K H → H ≡ K
+  held-same {H} {K} h k p q = same-members (size 16) H K (sealed-climbs h) (sealed-climbs k) q p
+
+  -- so are two of one length of which one holds the other
+
+  held-shorter : {H K : List View} → Sealed (ring init) X K → Holds H K → length K ≤ length H
+  held-shorter {H} {K} k p = different-length K H (different 16 K (sealed-climbs k)) p
+
+  held-level : {H K : List View} → Sealed (ring init) X H → Sealed (ring init) X K → length H ≡ length K → Holds H K → H ≡ K
+  held-level {H} {K} h k e p = held-same h k p (full K H (different 16 K (sealed-climbs k)) p (omega arith))
+
+  says-held : (H K : List View) → Says (holds H K || holds K H) (Holds H K ⊎ Holds K H)
+  says-held H K = says-or (says-holds H K) (says-holds K H)
+
+  abbrev allHeld : Bool
+  allHeld = pairwise (λ H K. holds H K || holds K H) (sealedHistories (ring init) X)
+
+  -- two sealed ones are apart
+  conflict : {H K : List View} → Sealed (ring init) X H → Sealed (ring init) X K → (Holds H K → ⊥) → (Holds K H → ⊥) → (length : ℕ) (views : List ℕ)
+      → HistoriesOf init X (record { conflict = true; length = length; views = views })
+  conflict {H} {K} h k p q length views = record {
+    conflict = ap not (sym (fails (says-pairwise says-held (sealedHistories (ring init) X))
+        (λ f. elim (f H (sealed-in (ring init) X h) K (sealed-in (ring init) X k)) [ inl a ↦ p a | inr a ↦ q a ])));
+    sealed = λ e. absurd (subst T e tt);
+    holds = λ e. absurd (subst T e tt);
+  }
+
+  -- G is sealed and holds all, and every two are compared
+  greatest : (length : ℕ) (views : List ℕ) → Sealed (ring init) X (viewsOf views length) → ((K : List View) → Sealed (ring init) X K → Holds (viewsOf views length) K)
+      → ((H : List View) → Sealed (ring init) X H → (K : List View) → Sealed (ring init) X K → Holds H K ⊎ Holds K H)
+      → HistoriesOf init X (record { conflict = false; length = length; views = views })
+  greatest length views g f p = record {
+    conflict = ap not (sym (passes (says-pairwise says-held (sealedHistories (ring init) X)) (λ H i K j. p H (sealed-out (ring init) X i) K (sealed-out (ring init) X j))));
+    sealed = λ e. g;
+    holds = λ e. f;
+  }
+
+  -- ---- the agreements that are marked
+
+  module _ (W E M : List ℕ) (n : ℕ) (agreements : Agreements init X W E M n) where
+    -- none is marked
+    pub alone : (r : ℕ) → r ≡ n → FirstMarked M n r → HistoriesOf init X (record { conflict = false; length = 1; views = replicate 16 init })
+    alone r e f =
+        let g : Sealed (ring init) X (viewsOf (replicate 16 init) 1) = start (alone-views init) in
+        greatest 1 (replicate 16 init) g (λ K k. start-in (only K k) g) (λ H h K k. inr (start-in (only H h) k))
+      where
+        only : (K : List View) → Sealed (ring init) X K → K ≡ viewOf init ∷ []
+        only K k = elim (agreements .complete K k) [ inl q ↦ q | inr (a, l, m, _) ↦ absurd (f .none a (omega arith) m) ]
+
+    module _ (a base : ℕ) (l : a < n) (m : getD M a 0 ≡ 1) (is : base ≡ entryIn E a) where
+      stands-sealed : (w : ℕ) → Stands (historyScale W) base (entryIn E) M n w → Sealed (ring init) X (stmtAt W w .views)
+      stands-sealed w (inl e) = subst (λ x. Sealed (ring init) X (stmtAt W x .views)) (sym (e ∙ is)) (agreements .sound a l m)
+      stands-sealed w (inr (c, h, k, e)) = subst (λ x. Sealed (ring init) X (stmtAt W x .views)) e (agreements .sound c h k)
+
+      pub clash-conflict : Clash (historyScale W) base (entryIn E) M n → (length : ℕ) (views : List ℕ) → HistoriesOf init X (record { conflict = true; length = length; views = views })
+      clash-conflict k =
+          let h = stands-sealed (k .one) (k .stands) in
+          let g = stands-sealed (k .other) (k .besides) in
+          conflict h g (λ p. k .differ (held-level h g (k .level) p)) (λ p. k .differ (sym (held-level g h (sym (k .level)) p)))
+
+      module _ (S : List ℕ) (slots : Slots (historyScale W) base (entryIn E) M n S) where
+        abbrev shown : List (List View)
+        shown = occupied (historyScale W) S 17
+
+        slot-sealed : {H : List View} → H ∈ shown → Sealed (ring init) X H
+        slot-sealed i = let (j, h, e, f) = occupied-out (historyScale W) S 17 i in subst (Sealed (ring init) X) f (stands-sealed (getD S j 0) (slots .sound j h))
+
+        word : (w : ℕ) → Stands (historyScale W) base (entryIn E) M n w → stmtAt W w .views ∈ shown
+        word w s =
+            let e = slots .complete w s in
+            subst (λ H. H ∈ shown) e (occupied-in (historyScale W) S 17 (length (stmtAt W w .views)) (views-short W w) (ap length e))
+
+        in-slots : (H : List View) → Sealed (ring init) X H → (H ≡ viewOf init ∷ []) ⊎ (H ∈ shown)
+        in-slots H h = elim (agreements .complete H h) [ inl e ↦ inl e | inr (c, i, k, e) ↦ inr (subst (λ H. H ∈ shown) e (word (entryIn E c) (inr (c, i, k, refl)))) ]
+
+        pub broken-conflict : Broken (historyScale W) S 17 → (length : ℕ) (views : List ℕ) → HistoriesOf init X (record { conflict = true; length = length; views = views })
+        broken-conflict b =
+            let h = slot-sealed (b .lower-in) in
+            let k = slot-sealed (b .upper-in) in
+            conflict h k (λ p. omega (arith, held-shorter k p, b .less)) (b .apart)
+
+        pub summit : (some : Bool) (last : ℕ) → Chain (historyScale W) S 17 some last → (length : ℕ) (views : List ℕ) → viewsOf views length ≡ stmtAt W last .views
+            → HistoriesOf init X (record { conflict = false; length = length; views = views })
+        summit some last c length views e = greatest length views (subst (Sealed (ring init) X) (sym e) sealed) holds pairs
+          where
+            sealed : Sealed (ring init) X (stmtAt W last .views)
+            sealed = slot-sealed (c .ends (c .under _ (word base (inl refl)) .0))
+
+            holds : (K : List View) → Sealed (ring init) X K → Holds (viewsOf views length) K
+            holds K k = subst (λ H. Holds H K) (sym e) (elim (in-slots K k) [ inl q ↦ start-in q sealed | inr i ↦ c .under K i .1 ])
+
+            pairs : (H : List View) → Sealed (ring init) X H → (K : List View) → Sealed (ring init) X K → Holds H K ⊎ Holds K H
+            pairs H h K k = elim (in-slots H h) [
+              | inl q ↦ inr (start-in q k)
+              | inr i ↦ elim (in-slots K k) [ inl q ↦ inl (start-in q h) | inr j ↦ elim (c .pairs H i K j) [ inl p ↦ inr p | inr p ↦ inl p ] ]
+            ]

@@ -1,0 +1,185 @@
+// The sealed histories, of which the greatest. Those of which one holds the other differ in length, so a slot for each length holds them.
+ghost use mathlib.Core.Path.{_≡_};
+ghost use mathlib.Core.List.{List};
+ghost use Prim.Native.Nat.{_≤_, _<_};
+ghost use lib.ListN.{getD, length};
+ghost use Rattle.protocol.specs.History.{holds};
+ghost use Rattle.protocol.specs.Statement.{Stmt};
+ghost use Rattle.pool.specs.Pool.{stmtAt};
+ghost use Rattle.ranking.specs.Slots.{historyScale, entryIn, viewsOf, Slots, Filled};
+ghost use Rattle.ranking.specs.Ranking.{FirstMarked, ChainOf, Agreements, HistoriesOf};
+use crate::Summit;
+use pool::POOL_WORDS;
+
+// Whether the histories in the slots are a chain, and the pool number of the last.
+struct Links {
+    whole: bool,
+    last: u16,
+}
+
+// Whether statement i has every view of statement j.
+fn has_views(words: &[u64; POOL_WORDS], i: u16, j: u16) -> bool
+    ensures { λ r. ⌜ r ≡ holds (stmtAt (now (words .entry)) i .views) (stmtAt (now (words .entry)) j .views) ⌝ }
+{
+    let c = pool::count(words, j);
+    let mut p = 0usize;
+    while p < c {
+        if !pool::has_view(words, i, pool::nth(words, j, p)) {
+            return false;
+        }
+        p += 1;
+    }
+    true
+}
+
+// What slot k holds.
+fn number_at(slots: &[u16; 17], k: usize) -> u16
+    requires { ⌜ k < 17 ⌝ }
+    ensures { λ r. ⌜ r ≡ getD (now (slots .entry)) k 0 ⌝ }
+{
+    slots[k]
+}
+
+// The statement of agreement a.
+fn entry_at(entry: &[u16; 512], a: usize) -> u16
+    requires { ⌜ a < 512 ⌝ }
+    ensures { λ r. ⌜ r ≡ entryIn (now (entry .entry)) a ⌝ }
+{
+    entry[a]
+}
+
+// The first agreement that is marked, or na.
+fn first_marked(ma: &[u8; 512], na: usize) -> usize
+    requires { ⌜ na ≤ 512 ⌝ }
+    ensures { λ r. ⌜ FirstMarked (now (ma .entry)) na r ⌝ }
+{
+    let mut a = 0usize;
+    while a < na {
+        if ma[a] == 1 {
+            return a;
+        }
+        a += 1;
+    }
+    na
+}
+
+// Puts the histories of the marked agreements into the slots of their lengths; false where two of one length differ.
+fn fill_lengths(
+    words: &[u64; POOL_WORDS],
+    entry: &[u16; 512],
+    na: usize,
+    ma: &[u8; 512],
+    base: u16,
+    slots: &mut [u16; 17],
+) -> bool
+    requires { ⌜ (na ≤ 512) × Slots (historyScale (now words)) base (entryIn (now entry)) (now ma) 0 (now slots) ⌝ }
+    ensures { λ r. ⌜ Filled (historyScale (now (words .entry))) base (entryIn (now (entry .entry))) (now (ma .entry)) na (now (slots .exit)) r ⌝ }
+{
+    let mut a = 0usize;
+    while a < na {
+        if ma[a] != 1 {
+            a += 1;
+            continue;
+        }
+        let n = entry_at(entry, a);
+        let k = pool::count(words, n);
+        let m = number_at(slots, k);
+        if pool::count(words, m) != k {
+            slots[k] = n;
+            a += 1;
+            continue;
+        }
+        if !pool::same_views(words, m, n) {
+            return false;
+        }
+        a += 1;
+    }
+    true
+}
+
+// Whether every two histories in the slots hold one the other: it is enough that each is held by the next.
+fn link_lengths(words: &[u64; POOL_WORDS], slots: &[u16; 17]) -> Links
+    ensures { λ r. ⌜ ChainOf (now (words .entry)) (now (slots .entry)) (r .whole) (r .last) ⌝ }
+{
+    let mut some = false;
+    let mut last = 0u16;
+    let mut k = 0usize;
+    while k < 17 {
+        let n = number_at(slots, k);
+        if pool::count(words, n) != k {
+            k += 1;
+            continue;
+        }
+        if !some {
+            some = true;
+            last = n;
+            k += 1;
+            continue;
+        }
+        if !has_views(words, n, last) {
+            return Links { whole: false, last };
+        }
+        last = n;
+        k += 1;
+    }
+    Links { whole: true, last }
+}
+
+// Copies the views of statement n: how many.
+fn copy_views(words: &[u64; POOL_WORDS], n: u16, out: &mut [u32; 16]) -> usize
+    requires { ⌜ length (now out) ≡ 16 ⌝ }
+    ensures { λ r. ⌜ viewsOf (now (out .exit)) r ≡ stmtAt (now (words .entry)) n .views ⌝ }
+{
+    let c = pool::count(words, n);
+    let mut p = 0usize;
+    while p < c {
+        out[p] = pool::nth(words, n, p);
+        p += 1;
+    }
+    c
+}
+
+// The greatest sealed history of a record, of whose agreements `ma` marks those that seal theirs.
+pub fn climb(
+    words: &[u64; POOL_WORDS],
+    entry: &[u16; 512],
+    na: usize,
+    ma: &[u8; 512],
+    init: u32,
+) -> Summit
+    requires { ⌜ na ≤ 512 ⌝ }
+    ensures { λ r. ⌜ ((X : List Stmt) → Agreements init X (now (words .entry)) (now (entry .entry)) (now (ma .entry)) na → HistoriesOf init X r) ⌝ }
+{
+    let mut views = [init; 16];
+    let a = first_marked(ma, na);
+    if a == na {
+        return Summit {
+            conflict: false,
+            length: 1,
+            views,
+        };
+    }
+    let base = entry_at(entry, a);
+    let mut slots = [base; 17];
+    if !fill_lengths(words, entry, na, ma, base, &mut slots) {
+        return Summit {
+            conflict: true,
+            length: 0,
+            views,
+        };
+    }
+    let links = link_lengths(words, &slots);
+    if !links.whole {
+        return Summit {
+            conflict: true,
+            length: 0,
+            views,
+        };
+    }
+    let length = copy_views(words, links.last, &mut views);
+    Summit {
+        conflict: false,
+        length,
+        views,
+    }
+}
