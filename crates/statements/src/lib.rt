@@ -12,9 +12,12 @@ ghost use Rattle.statements.specs.Meaning.{firstViews, bindingNumber, pa
 ghost use Rattle.statements.specs.Promise.{ReadOf, writtenCount, written};
 ghost use Rattle.statements.specs.Parts.{Bounded, NumberAt, ViewAt, ViewsAt, bindingFrom, firstText, secondText, tailText};
 
+mod field_rules;
 mod make;
-mod rules;
 
+pub use field_rules::binding_number;
+pub use field_rules::keeps_field_rules;
+pub use field_rules::payload_of;
 pub use make::ack;
 pub use make::agree_history;
 pub use make::agree_view;
@@ -23,9 +26,6 @@ pub use make::leave;
 pub use make::prepare;
 pub use make::report;
 pub use make::store;
-pub use rules::binding_number;
-pub use rules::keeps_field_rules;
-pub use rules::payload_of;
 use text::Read;
 use views::History;
 use views::View;

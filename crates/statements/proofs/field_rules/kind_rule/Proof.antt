@@ -1,0 +1,44 @@
+use native.Mathlib.Omega.{arith}
+use mathlib.Core.Logic.{inl, inr}
+use Rattle.statements.specs.Meaning.{stmtOf}
+use Rattle.statements.proofs.FieldLaws.{no-kind}
+use borrow.Author.Needs.{needs}
+use Rattle.statements.proofs.field_rules.kind_rule.Statement.{statement}
+use Rattle.statements.proofs.field_rules.kind_rule.Tie as tie
+use Rattle.statements.proofs.field_rules.kind_rule.Reads as reads
+use Rattle.statements.proofs.field_rules.kind_rule.Lts as lts
+use Rattle.statements.proofs.field_rules.agree_history_rule.Reads as agree-history-rule-reads
+use Rattle.statements.proofs.field_rules.agree_view_rule.Reads as agree-view-rule-reads
+use Rattle.statements.proofs.field_rules.prepare_rule.Reads as prepare-rule-reads
+use Rattle.statements.proofs.field_rules.report_kind_rule.Reads as report-kind-rule-reads
+use Rattle.statements.proofs.field_rules.vote_rule.Reads as vote-rule-reads
+use Rattle.statements.proofs.field_rules.wish_rule.Reads as wish-rule-reads
+
+-- src/field_rules.rt:152:1
+returns-7 : tie.Need-returns-7
+unfolding stmtOf
+returns-7 c = no-kind (stmtOf (c .before .before .args .st)) (inl (omega arith))
+
+-- src/field_rules.rt:152:1
+returns-8 : tie.Need-returns-8
+unfolding stmtOf
+returns-8 c = no-kind (stmtOf (c .before .before .before .before .args .st)) (inr (omega arith))
+
+pub kind-rule-spec : {M : Type 1} → statement M
+kind-rule-spec =
+    tie.close
+    (tie.spec
+    (λ c κs. search needs)
+    (λ c κs. search needs)
+    (λ c κs. search needs)
+    (λ c κs. search needs)
+    (λ c κs. search needs)
+    (λ c κs. search needs)
+    (λ c. search needs)
+    (λ c. search needs)
+    (λ c. search needs)
+    (λ c. search needs)
+    (λ c. search needs)
+    (λ c. search needs)
+    returns-7
+    returns-8)
