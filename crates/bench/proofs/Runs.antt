@@ -44,9 +44,10 @@ use Rattle.bench.specs.Bench as bench
 use Rattle.bench.specs.Bench.{Seat, emptySeat, Bench, Reply, newBench, step}
 use Rattle.bench.specs.Rows.{rowText, headerText, rowsFrom, refusedRow, Printed}
 use Rattle.bench.specs.Writing.{wordFor, valueIs, rowOf, Shows}
-use Rattle.bench.specs.Seats.{blank, seatIs, benchOf, Distinct, Sound, Grows, Fit, seatOf, seatsAfter, replyIs, Advanced, wordOf, valueOf}
-use Rattle.bench.specs.Running.{rowIs, seatsIs, benchIs, Kept, Started, Reading, Going, Ran, Wrote}
+use Rattle.bench.specs.Seats.{blank, seatIs, benchOf, Distinct, Sound, Grows, Full, Fit, seatOf, seatsAfter, replyIs, Knows, Needless, Advanced, wordOf, valueOf}
+use Rattle.bench.specs.Running.{rowIs, seatsIs, benchIs, Kept, Fulls, Started, Reading, Going, Ran, Wrote}
 use Rattle.bench.proofs.Rows.{shown}
+use Rattle.bench.proofs.Seats.{full-none}
 use Rattle.bench.proofs.States.{seat-kept, whole-kept, no-pool}
 
 -- ---- a row is that of the reply
@@ -174,6 +175,29 @@ module _ (W W′ : List ℕ) (g : Setting) (cs : List Controller) (k : ℕ) (l :
   pub kept-all : s .fresh ≡ true → (cs′ : List Controller) → Started (s .setting .members) (s .setting .sender) cs′ → Kept W′ cs′
   kept-all e cs′ t = kept-start W′ cs′ (s .setting .members) (s .setting .sender) (a .begun e .0) t
 
+-- what the controllers are known to have
+
+pub fulls-none : (cs : List Controller) (m : ℕ) → m ≡ 16 → Fulls cs (replicate m 0)
+fulls-none cs m e = record {
+  long = length-replicate m 0 ∙ e;
+  each = λ k l. subst (Full (getD cs k blank .statements)) (sym (getD-replicate m k 0 0 (omega arith))) (full-none (getD cs k blank .statements));
+}
+
+module _ (cs : List Controller) (fs : List ℕ) (k : ℕ) (h : k < 16) (m : length cs ≡ 16) (w : Fulls cs fs) where
+  fulls-set : (d : Controller) (f : ℕ) → Full (d .statements) f → Fulls (set cs k d) (set fs k f)
+  fulls-set d f x = record {
+    long = length-set fs k f ∙ w .long;
+    each = λ i l. elim (ℕ-discrete i k) [
+      | yes e ↦ subst (λ j. Full (getD (set cs k d) j blank .statements) (getD (set fs k f) j 0)) (sym e)
+          (subst (λ (t : Controller). Full (t .statements) (getD (set fs k f) k 0)) (sym (getD-set-same cs k d blank (omega arith))) (subst (Full (d .statements)) (sym (getD-set-same fs k f 0 (omega (arith, w .long)))) x))
+      | no e ↦ subst (λ (t : Controller). Full (t .statements) (getD (set fs k f) i 0)) (sym (getD-set-other cs k i d blank e)) (subst (Full (getD cs i blank .statements)) (sym (getD-set-other fs k i f 0 e)) (w .each i l))
+    ];
+  }
+
+  pub fulls-one : (s : Stepped) → Knows (getD cs k blank) (getD fs k 0) s → (cs′ : List Controller) → Stored cs k s cs′ → Fulls cs′ (set fs k (s .full))
+  fulls-one s a cs′ (inl (q, z)) = subst (λ t. Fulls t (set fs k (s .full))) (sym z) (fulls-set (s .controller) (s .full) (a .stored (w .each k h) q))
+  fulls-one s a cs′ (inr (q, z)) = subst (λ t. Fulls t (set fs k (s .full))) (set-getD cs k blank ∙ sym z) (fulls-set (getD cs k blank) (s .full) (a .stays (w .each k h) q))
+
 -- ---- one line more
 
 module _ (S : List ℕ) (at n : ℕ) (b b′ : Bench) (R R′ : List ℕ) (out : ℕ) (going : Going S at n b R R′ out) (r : ReadLine) (of : LineOf (drop at S) r) (more : at < length S)
@@ -215,6 +239,9 @@ part-read S at r of = rw (take-all (length S - at) (drop at S) (omega (arith, le
 refused-row : (n : ℕ) → rowOf n 16 word.Refused (value.Number 8) ≡ rowText n (record { who = 16; answer = controller.refused controller.outOfPlace; number = 0 })
 refused-row n = shown n (record { named = refl; word = refl; value = refl })
 
+taken-row : (n who : ℕ) → rowOf n who word.Taken (value.Number 0) ≡ rowText n (record { who = who; answer = controller.taken; number = 0 })
+taken-row n who = shown n (record { named = refl; word = refl; value = refl })
+
 module _ (S : List ℕ) (at : ℕ) (r : ReadLine) (of : LineOf (take (length S - at) (drop at S)) r) where
   pub next-within : at ≤ length S → at + r .next ≤ length S
   next-within l = omega (arith, part-read S at r of .within, length-drop at S)
@@ -234,6 +261,21 @@ module _ (S : List ℕ) (at : ℕ) (r : ReadLine) (of : LineOf (take (length S -
         → {R″ : List ℕ} {out′ : ℕ} → (out′ ≡ out + length (rowIs n (s .who) (s .answer) (s .number))) × (R″ ≡ sets R′ out (rowIs n (s .who) (s .answer) (s .number))) × (length (rowIs n (s .who) (s .answer) (s .number)) ≤ 40) → Going S (at + r .next) (n + 1) b′ R R″ out′
     line-on {n} {b} {b′} {R} {R′} {out} going more W′ s left {R″} {out′} put =
         goes-on S at n b b′ R R′ out going r (part-read S at r of) more (lineIs (Readable l) (stmtOf (r .statement))) (ap (λ p. lineIs p (stmtOf (r .statement))) e) (replyIs W′ s) left (rowIs n (s .who) (s .answer) (s .number)) (row-is W′ n s) R″ out′ put
+
+    -- one that leaves the bench as it is
+    module _ (W : List ℕ) (g : Setting) (cs : List Controller) (fs : List ℕ) (k : ℕ) (q : k ≡ seatOf (Readable l)) (m : Kept W cs) (w : Fulls cs fs) (idle : Needless W g (getD fs k 0) l) where
+      stays : step (benchIs g W cs) (lineIs (Readable l) (stmtOf (r .statement))) ≡ record { reply = record { who = k; answer = controller.taken; number = 0 }; bench = benchIs g W cs }
+      stays =
+          idle .steps (getD cs k blank) (record { distinct = m .distinct; whole = m .whole k (line-seat q) }) (w .each k (line-seat q)) (seatsIs W cs)
+          (seat-there W cs (seatOf (Readable l)) (line-fits .seat) ∙ ap (λ j. seatIs W (getD cs j blank)) (sym q)) (stmtOf (r .statement))
+          ∙ ap (λ j. record { reply = record { who = j; answer = controller.taken; number = 0 }; bench = benchIs g W cs }) (sym q)
+
+      pub needless-on : {n : ℕ} {R R′ : List ℕ} {out : ℕ} → Going S at n (benchIs g W cs) R R′ out → at < length S
+          → {R″ : List ℕ} {out′ : ℕ} → (out′ ≡ out + length (rowOf n k word.Taken (value.Number 0))) × (R″ ≡ sets R′ out (rowOf n k word.Taken (value.Number 0))) × (length (rowOf n k word.Taken (value.Number 0)) ≤ 40)
+          → Going S (at + r .next) (n + 1) (benchIs g W cs) R R″ out′
+      needless-on {n} {R} {R′} {out} going more {R″} {out′} put =
+          goes-on S at n (benchIs g W cs) (benchIs g W cs) R R′ out going r (part-read S at r of) more (lineIs (Readable l) (stmtOf (r .statement))) (ap (λ p. lineIs p (stmtOf (r .statement))) e)
+          (record { who = k; answer = controller.taken; number = 0 }) stays (rowOf n k word.Taken (value.Number 0)) (taken-row n k) R″ out′ put
 
   -- one that does not
   pub unread-on : r .parsed ≡ Unreadable → {n : ℕ} {b : Bench} {R R′ : List ℕ} {out : ℕ} → Going S at n b R R′ out → at < length S

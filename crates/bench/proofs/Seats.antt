@@ -1,6 +1,7 @@
 -- What a line on one controller comes to.
 -- Assumes nothing.
 use mathlib.Core.Path.{_≡_, refl, sym, ap, ap₂, subst, _∙_}
+use mathlib.Core.Logic.{inl, inr}
 use mathlib.Core.Bool.{Bool, true, false, not, _&&_, _||_, true≢false}
 use mathlib.Core.List.{List, [], _∷_, _++_, append-assoc, append-nil}
 use mathlib.Core.Option.{Option, some, none}
@@ -22,7 +23,7 @@ use Rattle.protocol.specs.Turn.{turn as turnOf}
 use Rattle.protocol.proofs.Asked.{says-same-stmt}
 use Rattle.protocol.proofs.Found.{none≢some}
 use Rattle.views.specs.Table.{table}
-use Rattle.views.proofs.Tables.{table-length, table-at, any-zero, any-suc, any-at, any-more}
+use Rattle.views.proofs.Tables.{table-length, table-at, any-append, any-zero, any-suc, any-at, any-more}
 use Rattle.views.proofs.Views.{passes}
 use Rattle.pool.specs.declared.Record.{Record}
 use Rattle.pool.specs.Pool.{stmtAt, poolLen, recordOf}
@@ -40,7 +41,7 @@ use Rattle.bench.specs.declared.seat.Missing.{Missing}
 use Rattle.schedule.specs.Line.{Line, join, leave, send, give, all, turn}
 use Rattle.bench.specs.Bench as bench
 use Rattle.bench.specs.Bench.{Seat, emptySeat, Bench, Stepped, step}
-use Rattle.bench.specs.Seats.{seatIs, benchOf, Distinct, Sound, Grows, listed, Numbered, Marks, Marked, FirstFree, lacking, Filled, Seated, numberIs, changesIs}
+use Rattle.bench.specs.Seats.{seatIs, benchOf, Distinct, Sound, Grows, listed, Full, Numbered, Marks, Marked, FirstFree, lacking, Filled, Seated, Gives, numberIs, changesIs}
 use Rattle.bench.proofs.Unchanged.{Idle, idle-answer, Stays, join-stays, leave-stays, send-stays, turn-stays}
 
 -- ---- a record's numbers
@@ -338,9 +339,56 @@ fill-over W from d w marks m i j count more l h p f = subst (λ k. Filled W from
         let k : i + n < j = omega arith in
         subst (λ x. Filled W from x (made more count)) (omega arith) (fill-skip W from d w marks m (i + n) count more (omega arith) (omega (arith, pool-most W)) (go n (omega arith)) (p (i + n) (omega arith) k))
 
--- a record that lacks nothing
-pub fill-none : (W : List ℕ) (from : Record) → Distinct W → AllIn W from → (marks : List Bool) → Marks from marks → (n r : ℕ) → n ≡ poolLen W → FirstFree marks 0 n r → r ≡ n → Filled W from n (made from 0)
-fill-none W from d w marks m n r z g e = fill-over W from d w marks m 0 n 0 from (omega arith) (omega arith) (subst (Marked marks 0) e (g .passed)) (fill-first W from w)
+-- a record that has every number below n lacks nothing below it
+pub fill-whole : (W : List ℕ) (from : Record) → Distinct W → AllIn W from → (n : ℕ) → n ≤ poolLen W → Full from n → Filled W from n (made from 0)
+unfolding Full
+fill-whole W from d w n l f = record {
+  count = sym (ap length (none-lacks n l f));
+  means = λ h. sym (ap (λ t. had W from ++ t) (none-lacks n l f) ∙ append-nil (had W from));
+  within = w;
+}
+  where
+    none-lacks : (m : ℕ) → m ≤ poolLen W → ((i : ℕ) → i < m → listed from i ≡ true) → lacking W (had W from) m ≡ []
+    none-lacks zero q h = lacking-none W (had W from)
+    none-lacks (suc m) q h = subst (λ t. lacking W (had W from) t ≡ []) (add-one m)
+        (lacking-has W (had W from) m (by-number W d from w m (omega arith) ∙ h m (omega arith)) ∙ none-lacks m (omega arith) (λ i b. h i (omega arith)))
+
+pub full-none : (r : Record) → Full r 0
+unfolding Full
+full-none r i l = absurd (omega arith)
+
+-- a record whose marks have no gap
+pub full-marks : (from : Record) (marks : List Bool) → Marks from marks → (n r : ℕ) → n ≤ 512 → FirstFree marks 0 n r → r ≡ n → Full from n
+unfolding Full Marked
+full-marks from marks m n r l g e i h = sym (m .tells i (omega arith)) ∙ g .passed i (omega arith) (omega arith)
+
+-- every statement below n is in the list or among those that it lacks
+module _ (W : List ℕ) (X : List Stmt) where
+  any-lacking : (n i : ℕ) → i < n → any (sameStmt (stmtAt W i)) X ≡ false → any (sameStmt (stmtAt W i)) (lacking W X n) ≡ true
+  unfolding any
+  any-lacking zero i l e = absurd (omega arith)
+  any-lacking (suc n) i l e = subst (λ t. any (sameStmt (stmtAt W i)) (lacking W X t) ≡ true) (add-one n) (elim (decLt i n) [
+    | yes h ↦ ap (any (sameStmt (stmtAt W i))) (lacking-next W X n (any (sameStmt (stmtAt W n)) X) refl)
+        ∙ any-append (sameStmt (stmtAt W i)) (lacking W X n) (if not (any (sameStmt (stmtAt W n)) X) then stmtAt W n ∷ [] else [])
+        ∙ ap (λ b. b || any (sameStmt (stmtAt W i)) (if not (any (sameStmt (stmtAt W n)) X) then stmtAt W n ∷ [] else [])) (any-lacking n i h e)
+    | no h ↦ (let q : i ≡ n = omega arith in
+        ap (any (sameStmt (stmtAt W i))) (lacking-lacks W X n (subst (λ j. any (sameStmt (stmtAt W j)) X ≡ false) q e))
+        ∙ any-append (sameStmt (stmtAt W i)) (lacking W X n) (stmtAt W n ∷ [])
+        ∙ ap (λ b. any (sameStmt (stmtAt W i)) (lacking W X n) || (b || false)) (passes says-same-stmt (ap (stmtAt W) q))
+        ∙ or-true (any (sameStmt (stmtAt W i)) (lacking W X n)))
+  ])
+
+  in-both : (n i : ℕ) → i < n → any (sameStmt (stmtAt W i)) (X ++ lacking W X n) ≡ true
+  in-both n i l = any-append (sameStmt (stmtAt W i)) X (lacking W X n) ∙ go (any (sameStmt (stmtAt W i)) X) refl
+    where
+      go : (b : Bool) → any (sameStmt (stmtAt W i)) X ≡ b → (any (sameStmt (stmtAt W i)) X || any (sameStmt (stmtAt W i)) (lacking W X n)) ≡ true
+      go true e = ap (λ b. b || any (sameStmt (stmtAt W i)) (lacking W X n)) e
+      go false e = ap₂ _||_ e (any-lacking n i l e)
+
+-- so that a record has all of the pool once what it lacked is in it
+pub full-filled : (W : List ℕ) (from : Record) (n : ℕ) (m : Missing) → Distinct W → n ≡ poolLen W → Filled W from n m → min (from .len) 512 + m .count ≤ 512 → Full (m .statements) n
+unfolding Full
+full-filled W from n m d z f l i h = sym (by-number W d (m .statements) (f .within) i (omega arith)) ∙ ap (any (sameStmt (stmtAt W i))) (f .means l) ∙ in-both W (had W from) n i h
 
 filter-most : {A : Type 0} (p : A → Bool) (l : List A) → length (filter p l) ≤ length l
 unfolding filter
@@ -480,6 +528,21 @@ module _ (W : List ℕ) (ready : Bool) (c : Controller) (k : ℕ) (r : Replied) 
   all-none q n z f e = seat-taken W ready c k (all k) r 0 c false e (λ t. refl) s
       (λ faulty X x. spreads q n (made (c .statements) 0) z f faulty X x (le-ltb 512 (min (c .statements .len) 512 + 0) (omega arith))
       ∙ replied k ready faulty refl (sym (f .count)) (ap (λ t. set X k (record { controller = controllerIs c; statements = t })) (sym (f .means (omega arith)))) refl)
+
+module _ (W : List ℕ) (c : Controller) (r : Replied) where
+  pub gives-refused : (q : Refusal) → (r .answer ≡ Refused q) × (r .number ≡ 0) × (r .controller ≡ c) → Gives W c r
+  unfolding Gives
+  gives-refused q e = inl (e .2, λ t. absurd (true≢false (ap changesIs (sym t ∙ e .0))))
+
+  module _ (n : ℕ) (z : n ≡ poolLen W) where
+    pub gives-none : Full (c .statements) n → (r .answer ≡ Taken) × (r .number ≡ 0) × (r .controller ≡ c) × (r .changed ≡ false) → Gives W c r
+    unfolding Gives
+    gives-none f e = inl (e .2, λ t. subst (Full (c .statements)) z f)
+
+    pub gives-taken : (m : Missing) → Distinct W → Filled W (c .statements) n m → min (c .statements .len) 512 + m .count ≤ 512
+        → (r .answer ≡ Taken) × (r .number ≡ m .count) × (r .controller ≡ withStatements c (m .statements)) × (r .changed ≡ true) → Gives W c r
+    unfolding Gives
+    gives-taken m d f l e = inr (e .3, e .0, subst (λ (t : Controller). Full (t .statements) (poolLen W)) (sym (e .2)) (subst (Full (m .statements)) z (full-filled W (c .statements) n m d z f l)))
 
 -- ---- a pool with one statement more
 

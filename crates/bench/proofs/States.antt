@@ -1,7 +1,8 @@
 -- What a line comes to: on one controller, on the pool, or on all.
 -- Assumes nothing.
 use mathlib.Core.Path.{_≡_, refl, sym, ap, ap₂, subst, _∙_}
-use mathlib.Core.Bool.{Bool, true, false, not, _&&_, _||_}
+use mathlib.Core.Logic.{inl, inr}
+use mathlib.Core.Bool.{Bool, true, false, not, _&&_, _||_, true≢false}
 use mathlib.Core.List.{List, [], _∷_, _++_}
 use mathlib.Core.Option.{Option, some, none}
 use Prim.Native.Nat.{ℕ, zero, suc, _+_, _^_, _≤_, _<_, min}
@@ -26,16 +27,20 @@ use Rattle.statements.specs.Meaning.{stmtOf}
 use Rattle.pool.specs.declared.Found.the-variants as found
 use Rattle.pool.specs.declared.Placed.{Placed as Answered}
 use Rattle.pool.specs.declared.Placed.the-variants as placed
+use Rattle.pool.specs.declared.Record.{Record}
 use Rattle.pool.specs.Pool.{stmtAt, poolLen, recordOf}
 use Rattle.pool.specs.Changes as memory
 use Rattle.pool.proofs.Searches.{found-at, found-none, pool-grown}
 use Rattle.engine.specs.declared.Controller.{Controller}
 use Rattle.engine.specs.declared.Refusal.{Refusal}
 use Rattle.engine.specs.declared.Refusal.the-variants as refusal
-use Rattle.engine.specs.declared.Answer.the-variants.{Taken, Refused}
+use Rattle.engine.specs.declared.Answer.{Answer}
+use Rattle.engine.specs.declared.Answer.the-variants.{Taken, Signed, Entered, Delivered, Left, Quiet, Refused}
 use Rattle.engine.specs.Meaning.{controllerIs, recordIs, poolIs, Whole, AllIn, answerIs, refusalIs}
 use Rattle.engine.proofs.Pools.{Located, there, absent, in-pool, grown-pool}
 use Rattle.bench.specs.declared.seat.Replied.{Replied}
+use Rattle.schedule.specs.declared.line.Line.{Line as Held}
+use Rattle.schedule.specs.declared.line.Line.the-variants as is
 use Rattle.schedule.specs.declared.line.Parsed.{Parsed}
 use Rattle.bench.specs.declared.state.Setting.{Setting}
 use Rattle.bench.specs.declared.state.Stepped.{Stepped}
@@ -43,8 +48,8 @@ use Rattle.schedule.specs.Line.{Line, setup, all, lie, noStatement}
 use Rattle.schedule.specs.Reading.{lineIs}
 use Rattle.bench.specs.Bench as bench
 use Rattle.bench.specs.Bench.{Seat, emptySeat, Bench, step}
-use Rattle.bench.specs.Seats.{seatIs, benchOf, Distinct, Sound, Grows, Seated, SeatedAs, RefusedAs, Advanced, Fit, seatOf}
-use Rattle.bench.proofs.Seats.{grows-same, one-grows, one-distinct, pool-size, fill-first, all-unready, all-none}
+use Rattle.bench.specs.Seats.{seatIs, benchOf, Distinct, Sound, Grows, Full, Seated, Gives, keptIs, filledIs, SeatedAs, RefusedAs, Keeps, Knows, Needless, Advanced, Fit, seatOf}
+use Rattle.bench.proofs.Seats.{grows-same, one-grows, one-distinct, pool-size, fill-whole, full-none, all-none}
 
 -- the parts of what a line leaves
 stepped : {w w′ : ℕ} {a a′ : controller.Answer} {n n′ : ℕ} {g g′ : Bool} {f f′ : ℕ} {X X′ : List Seat} {P P′ : List Stmt} → w ≡ w′ → a ≡ a′ → n ≡ n′ → g ≡ g′ → f ≡ f′ → X ≡ X′ → P ≡ P′
@@ -160,11 +165,11 @@ module _ (members sender faulty : ℕ) where
   unfolding poolLen
   emptied W l = let e : getD (set W 10240 0) 10240 0 ≡ 0 = getD-set-same W 10240 0 0 (omega arith) in omega arith
 
-  pub setup-taken : (W : List ℕ) (g : Setting) (c : Controller) → length W ≡ 10241 → sender < 16 → g .ready ≡ false → (members ≡ 0 → ⊥) → members < 65536
+  pub setup-taken : (W : List ℕ) (g : Setting) (c : Controller) (full : ℕ) → length W ≡ 10241 → sender < 16 → g .ready ≡ false → (members ≡ 0 → ⊥) → members < 65536
       → Advanced W g c 0 (some (setup members sender faulty))
-      (record { who = sender; answer = Taken; number = 0; controller = c; setting = record { ready = true; faulty = faulty; members = members; sender = sender }; fresh = true; changed = false }) (set W 10240 0)
+      (record { who = sender; answer = Taken; number = 0; controller = c; setting = record { ready = true; faulty = faulty; members = members; sender = sender }; fresh = true; changed = false; full = full }) (set W 10240 0)
   unfolding answerIs
-  setup-taken W g c n l q a b = record {
+  setup-taken W g c full n l q a b = record {
     steps = λ X x. setup-is (benchOf (g .ready) (g .faulty) X W) q (allowed-is a b l) refl ∙ stepped refl refl refl refl refl refl (no-pool (set W 10240 0) (emptied W n));
     who = omega arith;
     sound = λ t. absurd (subst T t tt);
@@ -277,9 +282,9 @@ module _ (W W′ : List ℕ) (g : Setting) (c : Controller) (st : Statement) (m 
   longer : poolIs W′ ≡ poolIs W ++ (stmtOf st ∷ [])
   longer = grown-pool W W′ st short (a .new z room) room
 
-  pub lie-taken : Advanced W g c 0 (some (lie (stmtOf st))) (record { who = st .origin; answer = Taken; number = n; controller = c; setting = g; fresh = false; changed = false }) W′
+  pub lie-taken : (full : ℕ) → Advanced W g c 0 (some (lie (stmtOf st))) (record { who = st .origin; answer = Taken; number = n; controller = c; setting = g; fresh = false; changed = false; full = full }) W′
   unfolding stmtOf answerIs
-  lie-taken = record {
+  lie-taken full = record {
     steps = λ X x. lie-is (benchOf (g .ready) (g .faulty) X W) (stmtOf st) q b (absent-in W (stmtOf st) z) (lt-leb 512 (length (poolIs W)) (omega (arith, pool-size W, room)))
         ∙ stepped refl refl (pool-size W ∙ sym placed-at) refl refl (sym (ap (λ t. set X 0 t) (seat-kept (one-grows W W′ (stmtOf st) longer) c (m .whole) ∙ sym x) ∙ set-getD X 0 emptySeat)) (sym longer);
     who = omega arith;
@@ -292,17 +297,56 @@ module _ (W W′ : List ℕ) (g : Setting) (c : Controller) (st : Statement) (m 
 pub appended : {W W′ : List ℕ} {st : Statement} {p q : Answered} → memory.Appended W W′ st p → p ≡ q → memory.Appended W W′ st q
 appended {W} {W′} {st} a e = subst (memory.Appended W W′ st) e a
 
+-- ---- the numbers that a record has after a line
+
+pub knows-kept : {c : Controller} {full : ℕ} {s : Stepped} → Keeps full s → Knows c full s
+knows-kept {c} {full} {s} e = record {
+  stored = λ f q. subst (Full (s .controller .statements)) (sym (e ∙ ap (λ b. keptIs b full) q)) (full-none (s .controller .statements));
+  stays = λ f q. subst (Full (c .statements)) (sym (e ∙ ap (λ b. keptIs b full) q)) f;
+}
+
+full-after : (r : Record) (a : Answer) (n full : ℕ) → (a ≡ Taken → Full r n) → Full r full → Full r (filledIs a n full)
+full-after r Taken n full h f = h refl
+full-after r (Signed i) n full h f = f
+full-after r (Entered v) n full h f = f
+full-after r (Delivered m) n full h f = f
+full-after r Left n full h f = f
+full-after r Quiet n full h f = f
+full-after r (Refused q) n full h f = f
+
 -- ---- all
 
-module _ (W : List ℕ) (g : Setting) (c : Controller) (k : ℕ) (m : Sound W c) (b : k < 16) where
-  pub all-early : {s : Stepped} → RefusedAs c g k refusal.OutOfPlace s → g .ready ≡ false → Advanced W g c k (some (all k)) s W
-  all-early {s} e q = advance-seated b (all-unready W (g .ready) c k (record { answer = Refused refusal.OutOfPlace; number = 0; controller = c; changed = false }) m (refl, refl, refl) q)
-      (record { who = e .who-is; answer = e .answer; number = e .number; controller = e .controller; setting = e .setting; fresh = e .fresh; changed = e .changed })
+module _ (W : List ℕ) (g : Setting) (c : Controller) (k : ℕ) (b : k < 16) (r : Replied) (m : Seated W (g .ready) c k (all k) r W × Gives W c r) (n full f : ℕ) (z : n ≡ poolLen W) (e : f ≡ filledIs (r .answer) n full) where
+  abbrev gave : Stepped
+  gave = record { who = k; answer = r .answer; number = r .number; controller = r .controller; setting = g; fresh = false; changed = r .changed; full = f }
 
-  pub all-empty : g .ready ≡ true → poolLen W ≡ 0 → Advanced W g c k (some (all k)) (record { who = k; answer = Taken; number = 0; controller = c; setting = g; fresh = false; changed = false }) W
-  unfolding Whole
-  all-empty q z = advance-seated b (all-none W (g .ready) c k (record { answer = Taken; number = 0; controller = c; changed = false }) m q 0 (sym z) (fill-first W (c .statements) (m .whole)) (refl, refl, refl, refl))
-      (record { who = refl; answer = refl; number = refl; controller = refl; setting = refl; fresh = refl; changed = refl })
+  knows-all : Knows c full gave
+  unfolding Gives
+  knows-all = go (m .1)
+    where
+      go : Gives W c r → Knows c full gave
+      go (inl (q, h)) = record {
+        stored = λ w p. subst (λ (t : Controller). Full (t .statements) f) (sym q) (subst (Full (c .statements)) (sym e) (full-after (c .statements) (r .answer) n full (λ t. subst (Full (c .statements)) (sym z) (h t)) w));
+        stays = λ w p. subst (Full (c .statements)) (sym e) (full-after (c .statements) (r .answer) n full (λ t. subst (Full (c .statements)) (sym z) (h t)) w);
+      }
+      go (inr (p, t, h)) = record {
+        stored = λ w q. subst (Full (r .controller .statements)) (sym (e ∙ ap (λ a. filledIs a n full) t ∙ z)) h;
+        stays = λ w q. absurd (true≢false (sym p ∙ q));
+      }
+
+  pub all-steps : Advanced W g c k (some (all k)) gave W × Knows c full gave
+  all-steps = (advance-seated b (m .0) (record { who = refl; answer = refl; number = refl; controller = refl; setting = refl; fresh = refl; changed = refl }), knows-all)
+
+pub all-needless : (W : List ℕ) (g : Setting) (full k : ℕ) (l : Held) → l ≡ is.All k → g .ready ≡ true → poolLen W ≤ full → Needless W g full l
+unfolding Full Whole answerIs
+all-needless W g full k l e q b = subst (Needless W g full) (sym e) (record { steps = λ c m f X x s. idle c m f X x })
+  where
+    idle : (c : Controller) → Sound W c → Full (c .statements) full → (X : List Seat) → getD X k emptySeat ≡ seatIs W c
+        → step (benchOf (g .ready) (g .faulty) X W) (some (all k)) ≡ record { reply = record { who = k; answer = controller.taken; number = 0 }; bench = benchOf (g .ready) (g .faulty) X W }
+    idle c m f X x =
+        all-none W (g .ready) c k (record { answer = Taken; number = 0; controller = c; changed = false }) m q (poolLen W) refl
+        (fill-whole W (c .statements) (m .distinct) (m .whole) (poolLen W) (omega arith) (λ i h. f i (omega arith))) (refl, refl, refl, refl) .steps (g .faulty) X x
+        ∙ stepped refl refl refl refl refl (ap (λ t. set X k t) (sym x) ∙ set-getD X k emptySeat) refl
 
 -- ---- the line that was read
 

@@ -17,7 +17,7 @@ use Rattle.schedule.specs.Line.{Line, lines, ReadAll}
 use Rattle.bench.specs.Bench.{Seat, Bench, newBench}
 use Rattle.bench.specs.Rows.{rowsFrom, Printed}
 use Rattle.bench.specs.Writing.{rowOf}
-use Rattle.bench.specs.Seats.{blank, seatIs, benchOf, Distinct, wordOf, valueOf}
+use Rattle.bench.specs.Seats.{blank, seatIs, benchOf, Distinct, Full, wordOf, valueOf}
 
 -- The row of a line.
 unfoldable pub rowIs : ℕ → ℕ → Answer → ℕ → List ℕ
@@ -36,6 +36,11 @@ pub record Kept (W : List ℕ) (cs : List Controller) : Type 0 where
   pub distinct : Distinct W
   pub long : length cs ≡ 16
   pub whole : (k : ℕ) → k < 16 → Whole W (getD cs k blank)
+
+-- Controller k has every number below fs at k.
+pub record Fulls (cs : List Controller) (fs : List ℕ) : Type 0 where
+  pub long : length fs ≡ 16
+  pub each : (k : ℕ) → k < 16 → Full (getD cs k blank .statements) (getD fs k 0)
 
 -- Every controller has just started.
 pub record Started (members sender : ℕ) (cs : List Controller) : Type 0 where

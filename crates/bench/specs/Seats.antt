@@ -1,6 +1,7 @@
 -- The bench in memory: controllers over the pool's memory W, and what a line on one of them promises.
 -- Assumes nothing.
 use mathlib.Core.Path.{_≡_}
+use mathlib.Core.Logic.{_⊎_}
 use mathlib.Core.Bool.{Bool, true, false, not}
 use mathlib.Core.List.{List, [], _∷_, _++_}
 use mathlib.Core.Option.{Option, some, none}
@@ -26,7 +27,8 @@ use Rattle.engine.specs.declared.Answer.the-variants.{Taken, Signed, Entered, D
 use Rattle.engine.specs.declared.Refusal.{Refusal}
 use Rattle.engine.specs.Meaning.{controllerIs, recordIs, poolIs, AllIn, Whole, answerIs, refusalIs}
 use Rattle.engine.specs.Promise.{Turns}
-use Rattle.protocol.specs.Controller.{refusalNumber}
+use Rattle.protocol.specs.Controller.{refusalNumber, taken}
+use Rattle.schedule.specs.declared.line.Line.{Line as Held}
 use Rattle.schedule.specs.declared.line.Line.the-variants as is
 use Rattle.schedule.specs.declared.line.Parsed.{Parsed}
 use Rattle.schedule.specs.declared.line.Parsed.the-variants.{Readable, Unreadable}
@@ -39,6 +41,7 @@ use Rattle.bench.specs.declared.seat.Missing.{Missing}
 use Rattle.bench.specs.declared.state.Setting.{Setting}
 use Rattle.bench.specs.declared.state.Stepped.{Stepped}
 use Rattle.schedule.specs.Line.{Line}
+use Rattle.schedule.specs.Reading.{lineIs}
 use Rattle.bench.specs.Bench.{Seat, emptySeat, Bench, Reply, step}
 use Rattle.bench.specs.Bench as bench
 use Rattle.bench.specs.Writing.{rowOf}
@@ -89,6 +92,10 @@ recordWith ids len = record { ids = ids; len = len }
 unfoldable pub listed : Record → ℕ → Bool
 listed r n = any (eqb n) (table (min (r .len) 512) (λ i. getD (r .ids) i 0))
 
+-- The record has every number below m.
+unfoldable pub Full : Record → ℕ → Type 0
+Full r m = (i : ℕ) → i < m → listed r i ≡ true
+
 -- Every number that the record has is below 512.
 pub record Numbered (r : Record) : Type 0 where
   pub below : (i : ℕ) → i < min (r .len) 512 → getD (r .ids) i 0 < 512
@@ -128,6 +135,12 @@ pub record Seated (W : List ℕ) (ready : Bool) (c : Controller) (k : ℕ) (l : 
   -- What is not stored is as it was.
   pub same : r .changed ≡ false → seatIs W′ (r .controller) ≡ seatIs W c
 
+-- What `all` promises of the numbers: c stays, and has all of the pool where the answer is taken; or it is to be stored, and then has all.
+unfoldable pub Gives : List ℕ → Controller → Replied → Type 0
+Gives W c r =
+    ((r .controller ≡ c) × (r .answer ≡ Taken → Full (c .statements) (poolLen W)))
+    ⊎ ((r .changed ≡ true) × (r .answer ≡ Taken) × Full (r .controller .statements) (poolLen W))
+
 -- A turn of c over the pool W answered a and left d and W′.
 abbrev pub TurnedTo : List ℕ → Controller → Answer → Controller → List ℕ → Type 0
 TurnedTo W c a d W′ = Turns W c (turnOf (controllerIs c) (recordIs W c) (hasRoom (poolIs W))) (record { answer = a; controller = d }) W′
@@ -151,6 +164,21 @@ changesIs (Delivered m) = true
 changesIs Left = false
 changesIs Quiet = false
 changesIs (Refused r) = false
+
+-- Up to where a record is known to have every number after a line: as before, or 0 where its controller changed.
+abbrev pub keptIs : Bool → ℕ → ℕ
+keptIs true full = 0
+keptIs false full = full
+
+-- The same after an `all` that answers so, over a pool of n statements: n where it was taken.
+abbrev pub filledIs : Answer → ℕ → ℕ → ℕ
+filledIs Taken n full = n
+filledIs (Signed i) n full = full
+filledIs (Entered v) n full = full
+filledIs (Delivered m) n full = full
+filledIs Left n full = full
+filledIs Quiet n full = full
+filledIs (Refused r) n full = full
 
 -- ---- any line
 
@@ -203,6 +231,21 @@ pub record RefusedAs (c : Controller) (g : Setting) (who : ℕ) (q : Refusal) (s
   pub setting : s .setting ≡ g
   pub fresh : s .fresh ≡ false
   pub changed : s .changed ≡ false
+
+-- What a line other than `all` tells of the numbers.
+abbrev pub Keeps : ℕ → Stepped → Type 0
+Keeps full s = s .full ≡ keptIs (s .changed) full
+
+-- What a line promises of the numbers that the controller in the seat has after it, where c had all below full.
+pub record Knows (c : Controller) (full : ℕ) (s : Stepped) : Type 0 where
+  pub stored : Full (c .statements) full → s .changed ≡ true → Full (s .controller .statements) (s .full)
+  pub stays : Full (c .statements) full → s .changed ≡ false → Full (c .statements) (s .full)
+
+-- The line leaves every bench as it is and answers taken with 0, where the controller that it names has every number below full.
+pub record Needless (W : List ℕ) (g : Setting) (full : ℕ) (l : Held) : Type 0 where
+  pub steps : (c : Controller) → Sound W c → Full (c .statements) full → (X : List Seat) → getD X (seatOf (Readable l)) emptySeat ≡ seatIs W c → (s : Stmt)
+      → step (benchOf (g .ready) (g .faulty) X W) (lineIs (Readable l) s)
+      ≡ record { reply = record { who = seatOf (Readable l); answer = taken; number = 0 }; bench = benchOf (g .ready) (g .faulty) X W }
 
 -- The line l on a bench that has c at seat k.
 pub record Advanced (W : List ℕ) (g : Setting) (c : Controller) (k : ℕ) (l : Option Line) (r : Stepped) (W′ : List ℕ) : Type 0 where

@@ -5,7 +5,7 @@ ghost use Prim.Native.Nat.{_+_, _≤_};
 ghost use Rattle.engine.specs.Meaning.{AllIn};
 ghost use Rattle.pool.specs.Pool.{poolLen};
 ghost use Rattle.schedule.specs.Line.{Line};
-ghost use Rattle.bench.specs.Seats.{Distinct, Sound, recordWith, listed, Numbered, Marks, Marked, FirstFree, Filled, Seated};
+ghost use Rattle.bench.specs.Seats.{Distinct, Sound, recordWith, listed, Numbered, Marks, Marked, FirstFree, Filled, Seated, Gives};
 use engine::Answer;
 use engine::Controller;
 use engine::Refusal;
@@ -177,7 +177,7 @@ pub fn give(c: Controller, words: &[u64; POOL_WORDS], ready: bool, k: u8, n: u64
 // Every statement that k's record lacks goes to its end.
 pub fn all(c: Controller, words: &[u64; POOL_WORDS], ready: bool, k: u8) -> Replied
     requires { ⌜ Sound (now words) c ⌝ }
-    ensures { λ r. ⌜ Seated (now (words .entry)) ready c k (Line.all k) r (now (words .entry)) ⌝ }
+    ensures { λ r. ⌜ Seated (now (words .entry)) ready c k (Line.all k) r (now (words .entry)) × Gives (now (words .entry)) c r ⌝ }
 {
     if !ready {
         return refused(c, Refusal::OutOfPlace);

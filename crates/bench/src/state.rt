@@ -8,7 +8,7 @@ ghost use Rattle.statements.specs.Meaning.{stmtOf};
 ghost use Rattle.schedule.specs.declared.line.Parsed.the-variants.{Readable};
 ghost use Rattle.schedule.specs.Line as lines;
 ghost use Rattle.schedule.specs.Reading.{lineIs};
-ghost use Rattle.bench.specs.Seats.{Sound, Fit, seatOf, numberIs, changesIs, replied, SeatedAs, RefusedAs, Advanced};
+ghost use Rattle.bench.specs.Seats.{Sound, Fit, seatOf, numberIs, changesIs, keptIs, filledIs, replied, SeatedAs, RefusedAs, Keeps, Knows, Needless, Advanced};
 use crate::lent;
 use crate::seat;
 use crate::seat::Replied;
@@ -32,6 +32,7 @@ pub struct Setting {
 }
 
 // What a line answers, and what it leaves; `fresh` where every controller is to start, and else `changed` where this one is to be stored.
+// The record of the controller that stays in its seat is known to have every number below `full`.
 pub struct Stepped {
     pub who: u64,
     pub answer: Answer,
@@ -40,6 +41,7 @@ pub struct Stepped {
     pub setting: Setting,
     pub fresh: bool,
     pub changed: bool,
+    pub full: usize,
 }
 
 // Whether a call that answers so may have changed its controller.
@@ -57,12 +59,23 @@ fn changes(a: Answer) -> bool
     }
 }
 
+// Up to where a record is known to have every number after a line: as before, or 0 where its controller changed.
+fn kept(changed: bool, full: usize) -> usize
+    ensures { λ r. ⌜ r ≡ keptIs changed full ⌝ }
+{
+    if changed {
+        return 0;
+    }
+    full
+}
+
 // What a request did. Its row has no number of its own.
-fn noted(g: Setting, k: u8, o: Outcome) -> Stepped
-    ensures { λ s. ⌜ SeatedAs g k (replied (o .answer) 0 (o .controller)) s ⌝ }
+fn noted(g: Setting, k: u8, o: Outcome, full: usize) -> Stepped
+    ensures { λ s. ⌜ SeatedAs g k (replied (o .answer) 0 (o .controller)) s × Keeps full s ⌝ }
 {
     let a = o.answer;
     let c = o.controller;
+    let changed = changes(a);
     Stepped {
         who: k as u64,
         answer: a,
@@ -70,7 +83,8 @@ fn noted(g: Setting, k: u8, o: Outcome) -> Stepped
         controller: c,
         setting: g,
         fresh: false,
-        changed: changes(a),
+        changed: changed,
+        full: kept(changed, full),
     }
 }
 
@@ -89,11 +103,12 @@ fn number_of(a: Answer) -> u64
 }
 
 // What a turn did. One that signs has the statement's number in its row.
-fn turned(g: Setting, k: u8, o: Outcome) -> Stepped
-    ensures { λ s. ⌜ SeatedAs g k (replied (o .answer) (numberIs (o .answer)) (o .controller)) s ⌝ }
+fn turned(g: Setting, k: u8, o: Outcome, full: usize) -> Stepped
+    ensures { λ s. ⌜ SeatedAs g k (replied (o .answer) (numberIs (o .answer)) (o .controller)) s × Keeps full s ⌝ }
 {
     let a = o.answer;
     let c = o.controller;
+    let changed = changes(a);
     Stepped {
         who: k as u64,
         answer: a,
@@ -101,13 +116,14 @@ fn turned(g: Setting, k: u8, o: Outcome) -> Stepped
         controller: c,
         setting: g,
         fresh: false,
-        changed: changes(a),
+        changed: changed,
+        full: kept(changed, full),
     }
 }
 
 // What giving statements to controller k did.
-fn seated(g: Setting, k: u8, r: Replied) -> Stepped
-    ensures { λ s. ⌜ SeatedAs g k r s ⌝ }
+fn seated(g: Setting, k: u8, r: Replied, full: usize) -> Stepped
+    ensures { λ s. ⌜ SeatedAs g k r s × Keeps full s ⌝ }
 {
     let a = r.answer;
     let c = r.controller;
@@ -119,12 +135,13 @@ fn seated(g: Setting, k: u8, r: Replied) -> Stepped
         setting: g,
         fresh: false,
         changed: r.changed,
+        full: kept(r.changed, full),
     }
 }
 
 // Refused: all as before.
-fn refused(c: Controller, g: Setting, who: u64, r: Refusal) -> Stepped
-    ensures { λ s. ⌜ RefusedAs c g who r s ⌝ }
+fn refused(c: Controller, g: Setting, who: u64, r: Refusal, full: usize) -> Stepped
+    ensures { λ s. ⌜ RefusedAs c g who r s × Keeps full s ⌝ }
 {
     Stepped {
         who: who,
@@ -134,6 +151,7 @@ fn refused(c: Controller, g: Setting, who: u64, r: Refusal) -> Stepped
         setting: g,
         fresh: false,
         changed: false,
+        full: full,
     }
 }
 
@@ -153,20 +171,21 @@ fn set_up(
     members: u16,
     sender: u8,
     faulty: u16,
+    full: usize,
 ) -> Stepped
     requires { ⌜ Sound (now words) c ⌝ }
-    ensures { λ r. ⌜ Advanced (now (words .entry)) g c 0 (some (lines.setup members sender faulty)) r (now (words .exit)) ⌝ }
+    ensures { λ r. ⌜ Advanced (now (words .entry)) g c 0 (some (lines.setup members sender faulty)) r (now (words .exit)) × Keeps full r ⌝ }
 {
     size(words);
     if sender >= 16 {
-        return refused(c, g, 16, Refusal::BadSetup);
+        return refused(c, g, 16, Refusal::BadSetup, full);
     }
     let who = sender as u64;
     if g.ready {
-        return refused(c, g, who, Refusal::BadSetup);
+        return refused(c, g, who, Refusal::BadSetup, full);
     }
     if members == 0 {
-        return refused(c, g, who, Refusal::BadSetup);
+        return refused(c, g, who, Refusal::BadSetup, full);
     }
     words[10240] = 0;
     Stepped {
@@ -182,32 +201,39 @@ fn set_up(
         },
         fresh: true,
         changed: false,
+        full: full,
     }
 }
 
 // A lie changes the pool alone.
-fn lie(c: Controller, words: &mut [u64; POOL_WORDS], g: Setting, st: Statement) -> Stepped
+fn lie(
+    c: Controller,
+    words: &mut [u64; POOL_WORDS],
+    g: Setting,
+    st: Statement,
+    full: usize,
+) -> Stepped
     requires { ⌜ Sound (now words) c × (st .history .len ≤ 16) × (st .origin < 16) ⌝ }
-    ensures { λ r. ⌜ Advanced (now (words .entry)) g c 0 (some (lines.lie (stmtOf st))) r (now (words .exit)) ⌝ }
+    ensures { λ r. ⌜ Advanced (now (words .entry)) g c 0 (some (lines.lie (stmtOf st))) r (now (words .exit)) × Keeps full r ⌝ }
 {
     let who = st.origin as u64;
     if !g.ready {
-        return refused(c, g, who, Refusal::OutOfPlace);
+        return refused(c, g, who, Refusal::OutOfPlace, full);
     }
     let marked = View {
         joined: g.faulty,
         left: 0,
     };
     if !marked.has_member(st.origin) {
-        return refused(c, g, who, Refusal::OutOfPlace);
+        return refused(c, g, who, Refusal::OutOfPlace, full);
     }
     let found = pool::find(words, st);
     if let Found::At(_) = found {
-        return refused(c, g, who, Refusal::Repeated);
+        return refused(c, g, who, Refusal::Repeated, full);
     }
     let placed = pool::append(words, st);
     let Placed::At(n) = placed else {
-        return refused(c, g, who, Refusal::Full);
+        return refused(c, g, who, Refusal::Full, full);
     };
     Stepped {
         who: who,
@@ -217,62 +243,94 @@ fn lie(c: Controller, words: &mut [u64; POOL_WORDS], g: Setting, st: Statement) 
         setting: g,
         fresh: false,
         changed: false,
+        full: full,
     }
 }
 
 // A lie whose text is no statement.
-fn no_statement(c: Controller, words: &[u64; POOL_WORDS], g: Setting) -> Stepped
+fn no_statement(c: Controller, words: &[u64; POOL_WORDS], g: Setting, full: usize) -> Stepped
     requires { ⌜ Sound (now words) c ⌝ }
-    ensures { λ r. ⌜ Advanced (now (words .entry)) g c 0 (some lines.noStatement) r (now (words .entry)) ⌝ }
+    ensures { λ r. ⌜ Advanced (now (words .entry)) g c 0 (some lines.noStatement) r (now (words .entry)) × Keeps full r ⌝ }
 {
     if !g.ready {
-        return refused(c, g, 16, Refusal::OutOfPlace);
+        return refused(c, g, 16, Refusal::OutOfPlace, full);
     }
-    refused(c, g, 16, Refusal::BadStatement)
+    refused(c, g, 16, Refusal::BadStatement, full)
 }
 
-// Every statement that k's record lacks goes to its end. An empty pool has nothing to give, so that the record is not read.
-fn give_all(c: Controller, words: &[u64; POOL_WORDS], g: Setting, k: u8) -> Stepped
+// The same after an `all` that answers so, over a pool of n statements.
+fn filled(a: Answer, n: usize, full: usize) -> usize
+    ensures { λ r. ⌜ r ≡ filledIs a n full ⌝ }
+{
+    match a {
+        Answer::Taken => n,
+        Answer::Signed(_) => full,
+        Answer::Entered(_) => full,
+        Answer::Delivered(_) => full,
+        Answer::Left => full,
+        Answer::Quiet => full,
+        Answer::Refused(_) => full,
+    }
+}
+
+// Every statement that k's record lacks goes to its end.
+fn give_all(c: Controller, words: &[u64; POOL_WORDS], g: Setting, k: u8, full: usize) -> Stepped
     requires { ⌜ Sound (now words) c × (k < 16) ⌝ }
-    ensures { λ r. ⌜ Advanced (now (words .entry)) g c k (some (lines.all k)) r (now (words .entry)) ⌝ }
+    ensures { λ r. ⌜ Advanced (now (words .entry)) g c k (some (lines.all k)) r (now (words .entry)) × Knows c full r ⌝ }
 {
-    if !g.ready {
-        return refused(c, g, k as u64, Refusal::OutOfPlace);
+    let r = seat::all(c, words, g.ready, k);
+    let n = pool::pool_len(words);
+    let a = r.answer;
+    let d = r.controller;
+    Stepped {
+        who: k as u64,
+        answer: a,
+        number: r.number,
+        controller: d,
+        setting: g,
+        fresh: false,
+        changed: r.changed,
+        full: filled(a, n, full),
     }
-    if pool::pool_len(words) == 0 {
-        return Stepped {
-            who: k as u64,
-            answer: Answer::Taken,
-            number: 0,
-            controller: c,
-            setting: g,
-            fresh: false,
-            changed: false,
-        };
-    }
-    seated(g, k, seat::all(c, words, g.ready, k))
 }
 
-// What a line does; c is the controller that it names, or any other where it names none.
+// Whether a line is an `all` that finds nothing missing. The record of the controller that it names has every number below `full`.
+pub fn lacks_nothing(line: Line, g: Setting, words: &[u64; POOL_WORDS], full: usize) -> bool
+    ensures { λ r. ⌜ (r ≡ true → Needless (now (words .entry)) g full line) ⌝ }
+{
+    if !g.ready {
+        return false;
+    }
+    if pool::pool_len(words) > full {
+        return false;
+    }
+    let Line::All(_) = line else {
+        return false;
+    };
+    true
+}
+
+// What a line does; c is the controller that it names, or any other where it names none, and its record has every number below `full`.
 pub fn step(
     c: Controller,
     words: &mut [u64; POOL_WORDS],
     g: Setting,
     line: Line,
     st: Statement,
+    full: usize,
 ) -> Stepped
     requires { ⌜ Sound (now words) c × Fit (Readable line) st ⌝ }
-    ensures { λ r. ⌜ Advanced (now (words .entry)) g c (seatOf (Readable line)) (lineIs (Readable line) (stmtOf st)) r (now (words .exit)) ⌝ }
+    ensures { λ r. ⌜ Advanced (now (words .entry)) g c (seatOf (Readable line)) (lineIs (Readable line) (stmtOf st)) r (now (words .exit)) × Knows c full r ⌝ }
 {
     match line {
-        Line::Setup(members, sender, faulty) => set_up(c, words, g, members, sender, faulty),
-        Line::Join(k) => noted(g, k, c.join()),
-        Line::Leave(k) => noted(g, k, c.leave()),
-        Line::Send(k, m) => noted(g, k, c.send(m)),
-        Line::Give(k, n) => seated(g, k, seat::give(c, words, g.ready, k, n)),
-        Line::All(k) => give_all(c, words, g, k),
-        Line::Turn(k) => turned(g, k, lent::lend_turn(c, words)),
-        Line::Lie => lie(c, words, g, st),
-        Line::NoStatement => no_statement(c, words, g),
+        Line::Setup(members, sender, faulty) => set_up(c, words, g, members, sender, faulty, full),
+        Line::Join(k) => noted(g, k, c.join(), full),
+        Line::Leave(k) => noted(g, k, c.leave(), full),
+        Line::Send(k, m) => noted(g, k, c.send(m), full),
+        Line::Give(k, n) => seated(g, k, seat::give(c, words, g.ready, k, n), full),
+        Line::All(k) => give_all(c, words, g, k, full),
+        Line::Turn(k) => turned(g, k, lent::lend_turn(c, words), full),
+        Line::Lie => lie(c, words, g, st, full),
+        Line::NoStatement => no_statement(c, words, g, full),
     }
 }

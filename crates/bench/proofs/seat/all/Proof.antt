@@ -2,7 +2,7 @@ use borrow.Author.Needs.{needs}
 use native.Mathlib.Omega.{arith}
 use borrow.Author.Tests.{not-true, not-false}
 use Rattle.engine.specs.Meaning.{Whole}
-use Rattle.bench.proofs.Seats.{all-unready, all-none, all-full, all-taken, fill-none, fill-most, in-pool-numbered}
+use Rattle.bench.proofs.Seats.{all-unready, all-none, all-full, all-taken, gives-refused, gives-none, gives-taken, fill-whole, full-marks, fill-most, in-pool-numbered}
 use Rattle.bench.proofs.seat.all.Statement.{statement}
 use Rattle.bench.proofs.seat.all.Tie as tie
 
@@ -12,7 +12,7 @@ refused-requires c κs = search needs
 
 -- src/seat.rt:183:9
 returns : tie.Need-returns
-returns c = all-unready (c .before .before .args .words .now) (c .before .before .args .ready) (c .before .before .args .c) (c .before .before .args .k) _ (c .before .before .pre) (c .refused .ensures) (not-true _ (c .before .if1 .taken))
+returns c = (all-unready (c .before .before .args .words .now) (c .before .before .args .ready) (c .before .before .args .c) (c .before .before .args .k) _ (c .before .before .pre) (c .refused .ensures) (not-true _ (c .before .if1 .taken)), gives-refused _ _ _ _ (c .refused .ensures))
 
 -- src/seat.rt:186:9
 limit-requires : tie.Need-limit-requires
@@ -38,7 +38,7 @@ taken-requires c κs = search needs
 -- src/seat.rt:193:9
 returns-2 : tie.Need-returns-2
 unfolding Whole
-returns-2 c = all-none (c .before .before .before .before .before .before .before .before .before .before .before .args .words .now) (c .before .before .before .before .before .before .before .before .before .before .before .args .ready) (c .before .before .before .before .before .before .before .before .before .before .before .args .c) (c .before .before .before .before .before .before .before .before .before .before .before .args .k) _ (c .before .before .before .before .before .before .before .before .before .before .before .pre) (not-false _ (c .before .before .before .before .before .before .before .before .before .before .if1 .left)) _ (c .before .before .before .before .pool-len .ensures .0) (fill-none (c .before .before .before .before .before .before .before .before .before .before .before .args .words .now) (c .before .before .before .before .before .before .before .before .before .before .before .args .c .statements) (c .before .before .before .before .before .before .before .before .before .before .before .pre .distinct) (c .before .before .before .before .before .before .before .before .before .before .before .pre .whole) _ (c .before .before .before .before .before .marks-of .ensures) _ _ (c .before .before .before .before .pool-len .ensures .0) (c .before .before .unmarked .ensures) (c .before .if2 .taken)) (c .taken .ensures)
+returns-2 c = (all-none (c .before .before .before .before .before .before .before .before .before .before .before .args .words .now) (c .before .before .before .before .before .before .before .before .before .before .before .args .ready) (c .before .before .before .before .before .before .before .before .before .before .before .args .c) (c .before .before .before .before .before .before .before .before .before .before .before .args .k) _ (c .before .before .before .before .before .before .before .before .before .before .before .pre) (not-false _ (c .before .before .before .before .before .before .before .before .before .before .if1 .left)) _ (c .before .before .before .before .pool-len .ensures .0) (fill-whole (c .before .before .before .before .before .before .before .before .before .before .before .args .words .now) (c .before .before .before .before .before .before .before .before .before .before .before .args .c .statements) (c .before .before .before .before .before .before .before .before .before .before .before .pre .distinct) (c .before .before .before .before .before .before .before .before .before .before .before .pre .whole) _ (omega (arith, c .before .before .before .before .pool-len .ensures .0)) (full-marks (c .before .before .before .before .before .before .before .before .before .before .before .args .c .statements) _ (c .before .before .before .before .before .marks-of .ensures) _ _ (c .before .before .before .before .pool-len .ensures .1) (c .before .before .unmarked .ensures) (c .before .if2 .taken))) (c .taken .ensures), gives-none (c .before .before .before .before .before .before .before .before .before .before .before .args .words .now) (c .before .before .before .before .before .before .before .before .before .before .before .args .c) _ _ (c .before .before .before .before .pool-len .ensures .0) (full-marks (c .before .before .before .before .before .before .before .before .before .before .before .args .c .statements) _ (c .before .before .before .before .before .marks-of .ensures) _ _ (c .before .before .before .before .pool-len .ensures .1) (c .before .before .unmarked .ensures) (c .before .if2 .taken)) (c .taken .ensures))
 
 -- src/seat.rt:195:9
 fill-requires : tie.Need-fill-requires
@@ -55,7 +55,7 @@ refused-requires-2 c κs = search needs
 
 -- src/seat.rt:197:9
 returns-3 : tie.Need-returns-3
-returns-3 c = all-full (c .before .before .before .before .before .before .before .before .before .before .before .before .before .before .args .words .now) (c .before .before .before .before .before .before .before .before .before .before .before .before .before .before .args .ready) (c .before .before .before .before .before .before .before .before .before .before .before .before .before .before .args .c) (c .before .before .before .before .before .before .before .before .before .before .before .before .before .before .args .k) _ (c .before .before .before .before .before .before .before .before .before .before .before .before .before .before .pre) (not-false _ (c .before .before .before .before .before .before .before .before .before .before .before .before .before .if1 .left)) _ _ (c .before .before .before .before .before .before .before .pool-len .ensures .0) (c .before .before .before .fill .ensures) (c .refused2 .ensures) (omega (arith, c .before .before .before .before .before .before .before .before .before .before .before .limit .ensures .0, c .before .if3 .taken))
+returns-3 c = (all-full (c .before .before .before .before .before .before .before .before .before .before .before .before .before .before .args .words .now) (c .before .before .before .before .before .before .before .before .before .before .before .before .before .before .args .ready) (c .before .before .before .before .before .before .before .before .before .before .before .before .before .before .args .c) (c .before .before .before .before .before .before .before .before .before .before .before .before .before .before .args .k) _ (c .before .before .before .before .before .before .before .before .before .before .before .before .before .before .pre) (not-false _ (c .before .before .before .before .before .before .before .before .before .before .before .before .before .if1 .left)) _ _ (c .before .before .before .before .before .before .before .pool-len .ensures .0) (c .before .before .before .fill .ensures) (c .refused2 .ensures) (omega (arith, c .before .before .before .before .before .before .before .before .before .before .before .limit .ensures .0, c .before .if3 .taken)), gives-refused _ _ _ _ (c .refused2 .ensures))
 
 -- src/seat.rt:200:5
 taken-requires-2 : tie.Need-taken-requires-2
@@ -63,7 +63,7 @@ taken-requires-2 c κs = search needs
 
 -- src/seat.rt:178:1
 returns-4 : tie.Need-returns-4
-returns-4 c = all-taken (c .before .before .before .before .before .before .before .before .before .before .before .before .before .before .before .before .before .args .words .now) (c .before .before .before .before .before .before .before .before .before .before .before .before .before .before .before .before .before .args .ready) (c .before .before .before .before .before .before .before .before .before .before .before .before .before .before .before .before .before .args .c) (c .before .before .before .before .before .before .before .before .before .before .before .before .before .before .before .before .before .args .k) _ (c .before .before .before .before .before .before .before .before .before .before .before .before .before .before .before .before .before .pre) (not-false _ (c .before .before .before .before .before .before .before .before .before .before .before .before .before .before .before .before .if1 .left)) _ _ (c .before .before .before .before .before .before .before .before .before .before .pool-len .ensures .0) (c .before .before .before .before .before .before .fill .ensures) (c .taken2 .ensures) (omega (arith, c .before .before .before .before .before .before .before .before .before .before .before .before .before .before .limit .ensures .0, c .before .before .before .before .if3 .left))
+returns-4 c = (all-taken (c .before .before .before .before .before .before .before .before .before .before .before .before .before .before .before .before .before .args .words .now) (c .before .before .before .before .before .before .before .before .before .before .before .before .before .before .before .before .before .args .ready) (c .before .before .before .before .before .before .before .before .before .before .before .before .before .before .before .before .before .args .c) (c .before .before .before .before .before .before .before .before .before .before .before .before .before .before .before .before .before .args .k) _ (c .before .before .before .before .before .before .before .before .before .before .before .before .before .before .before .before .before .pre) (not-false _ (c .before .before .before .before .before .before .before .before .before .before .before .before .before .before .before .before .if1 .left)) _ _ (c .before .before .before .before .before .before .before .before .before .before .pool-len .ensures .0) (c .before .before .before .before .before .before .fill .ensures) (c .taken2 .ensures) (omega (arith, c .before .before .before .before .before .before .before .before .before .before .before .before .before .before .limit .ensures .0, c .before .before .before .before .if3 .left)), gives-taken (c .before .before .before .before .before .before .before .before .before .before .before .before .before .before .before .before .before .args .words .now) (c .before .before .before .before .before .before .before .before .before .before .before .before .before .before .before .before .before .args .c) _ _ (c .before .before .before .before .before .before .before .before .before .before .pool-len .ensures .0) _ (c .before .before .before .before .before .before .before .before .before .before .before .before .before .before .before .before .before .pre .distinct) (c .before .before .before .before .before .before .fill .ensures) (omega (arith, c .before .before .before .before .before .before .before .before .before .before .before .before .before .before .limit .ensures .0, c .before .before .before .before .if3 .left)) (c .taken2 .ensures))
 
 pub all-spec : {M : Type 1} → statement M
 all-spec =

@@ -2,7 +2,7 @@ use mathlib.Core.Path.{refl, ap}
 use Rattle.schedule.specs.declared.line.Parsed.the-variants.{Readable}
 use Rattle.bench.specs.Seats.{replied, numberIs}
 use Rattle.bench.proofs.Seats.{seat-joins, seat-leaves, seat-sends, seat-turns}
-use Rattle.bench.proofs.States.{at-line, fit-at, advance-seated}
+use Rattle.bench.proofs.States.{at-line, fit-at, advance-seated, knows-kept}
 use borrow.Author.Needs.{needs}
 use Rattle.bench.proofs.state.step.Statement.{statement}
 use Rattle.bench.proofs.state.step.Tie as tie
@@ -101,39 +101,39 @@ no-statement-requires c κs = c .before .before .before .pre .0
 
 -- src/state.rt:213:1
 returns : tie.Need-returns
-returns c = at-line (c .before .before .before .before .before .args .st) (ap Readable (c .before .before .before .line .given .1)) (c .set-up .ensures)
+returns c = (at-line (c .before .before .before .before .before .args .st) (ap Readable (c .before .before .before .line .given .1)) (c .set-up .ensures .0), knows-kept (c .set-up .ensures .1))
 
 -- src/state.rt:213:1
 returns-2 : tie.Need-returns-2
-returns-2 c = at-line (c .before .before .before .before .before .args .st) (ap Readable (c .before .before .before .line2 .given .1)) (advance-seated (fit-at (c .before .before .before .before .before .pre .1) (ap Readable (c .before .before .before .line2 .given .1))) (seat-joins _ _ _ _ _ (replied (c .before .join .result .answer) 0 (c .before .join .result .controller)) (refl, refl, refl, refl) (c .before .before .before .before .before .pre .0) (c .before .join .ensures)) (c .noted .ensures))
+returns-2 c = (at-line (c .before .before .before .before .before .args .st) (ap Readable (c .before .before .before .line2 .given .1)) (advance-seated (fit-at (c .before .before .before .before .before .pre .1) (ap Readable (c .before .before .before .line2 .given .1))) (seat-joins _ _ _ _ _ (replied (c .before .join .result .answer) 0 (c .before .join .result .controller)) (refl, refl, refl, refl) (c .before .before .before .before .before .pre .0) (c .before .join .ensures)) (c .noted .ensures .0)), knows-kept (c .noted .ensures .1))
 
 -- src/state.rt:213:1
 returns-3 : tie.Need-returns-3
-returns-3 c = at-line (c .before .before .before .before .before .args .st) (ap Readable (c .before .before .before .line3 .given .1)) (advance-seated (fit-at (c .before .before .before .before .before .pre .1) (ap Readable (c .before .before .before .line3 .given .1))) (seat-leaves _ _ _ _ _ (replied (c .before .leave .result .answer) 0 (c .before .leave .result .controller)) (refl, refl, refl, refl) (c .before .before .before .before .before .pre .0) (c .before .leave .ensures)) (c .noted2 .ensures))
+returns-3 c = (at-line (c .before .before .before .before .before .args .st) (ap Readable (c .before .before .before .line3 .given .1)) (advance-seated (fit-at (c .before .before .before .before .before .pre .1) (ap Readable (c .before .before .before .line3 .given .1))) (seat-leaves _ _ _ _ _ (replied (c .before .leave .result .answer) 0 (c .before .leave .result .controller)) (refl, refl, refl, refl) (c .before .before .before .before .before .pre .0) (c .before .leave .ensures)) (c .noted2 .ensures .0)), knows-kept (c .noted2 .ensures .1))
 
 -- src/state.rt:213:1
 returns-4 : tie.Need-returns-4
-returns-4 c = at-line (c .before .before .before .before .before .args .st) (ap Readable (c .before .before .before .line4 .given .1)) (advance-seated (fit-at (c .before .before .before .before .before .pre .1) (ap Readable (c .before .before .before .line4 .given .1))) (seat-sends _ _ _ _ _ (replied (c .before .send .result .answer) 0 (c .before .send .result .controller)) (refl, refl, refl, refl) (c .before .before .before .before .before .pre .0) _ (c .before .send .ensures)) (c .noted3 .ensures))
+returns-4 c = (at-line (c .before .before .before .before .before .args .st) (ap Readable (c .before .before .before .line4 .given .1)) (advance-seated (fit-at (c .before .before .before .before .before .pre .1) (ap Readable (c .before .before .before .line4 .given .1))) (seat-sends _ _ _ _ _ (replied (c .before .send .result .answer) 0 (c .before .send .result .controller)) (refl, refl, refl, refl) (c .before .before .before .before .before .pre .0) _ (c .before .send .ensures)) (c .noted3 .ensures .0)), knows-kept (c .noted3 .ensures .1))
 
 -- src/state.rt:213:1
 returns-5 : tie.Need-returns-5
-returns-5 c = at-line (c .before .before .before .before .before .before .args .st) (ap Readable (c .before .before .before .before .line5 .given .1)) (advance-seated (fit-at (c .before .before .before .before .before .before .pre .1) (ap Readable (c .before .before .before .before .line5 .given .1))) (c .before .give .ensures) (c .seated .ensures))
+returns-5 c = (at-line (c .before .before .before .before .before .before .args .st) (ap Readable (c .before .before .before .before .line5 .given .1)) (advance-seated (fit-at (c .before .before .before .before .before .before .pre .1) (ap Readable (c .before .before .before .before .line5 .given .1))) (c .before .give .ensures) (c .seated .ensures .0)), knows-kept (c .seated .ensures .1))
 
 -- src/state.rt:213:1
 returns-6 : tie.Need-returns-6
-returns-6 c = at-line (c .before .before .before .before .before .args .st) (ap Readable (c .before .before .before .line6 .given .1)) (c .give-all .ensures)
+returns-6 c = (at-line (c .before .before .before .before .before .args .st) (ap Readable (c .before .before .before .line6 .given .1)) (c .give-all .ensures .0), c .give-all .ensures .1)
 
 -- src/state.rt:213:1
 returns-7 : tie.Need-returns-7
-returns-7 c = at-line (c .before .before .before .before .before .before .args .st) (ap Readable (c .before .before .before .before .line7 .given .1)) (advance-seated (fit-at (c .before .before .before .before .before .before .pre .1) (ap Readable (c .before .before .before .before .line7 .given .1))) (seat-turns _ _ _ _ _ _ (replied (c .before .lend-turn .result .answer) (numberIs (c .before .lend-turn .result .answer)) (c .before .lend-turn .result .controller)) (refl, refl, refl, refl) (c .before .before .before .before .before .before .pre .0) (c .before .lend-turn .ensures)) (c .turned .ensures))
+returns-7 c = (at-line (c .before .before .before .before .before .before .args .st) (ap Readable (c .before .before .before .before .line7 .given .1)) (advance-seated (fit-at (c .before .before .before .before .before .before .pre .1) (ap Readable (c .before .before .before .before .line7 .given .1))) (seat-turns _ _ _ _ _ _ (replied (c .before .lend-turn .result .answer) (numberIs (c .before .lend-turn .result .answer)) (c .before .lend-turn .result .controller)) (refl, refl, refl, refl) (c .before .before .before .before .before .before .pre .0) (c .before .lend-turn .ensures)) (c .turned .ensures .0)), knows-kept (c .turned .ensures .1))
 
 -- src/state.rt:213:1
 returns-8 : tie.Need-returns-8
-returns-8 c = at-line (c .before .before .before .before .args .st) (ap Readable (c .before .before .enum-told .given .1)) (c .lie .ensures)
+returns-8 c = (at-line (c .before .before .before .before .args .st) (ap Readable (c .before .before .enum-told .given .1)) (c .lie .ensures .0), knows-kept (c .lie .ensures .1))
 
 -- src/state.rt:213:1
 returns-9 : tie.Need-returns-9
-returns-9 c = at-line (c .before .before .before .before .args .st) (ap Readable (c .before .before .enum-told2 .given .1)) (c .no-statement .ensures)
+returns-9 c = (at-line (c .before .before .before .before .args .st) (ap Readable (c .before .before .enum-told2 .given .1)) (c .no-statement .ensures .0), knows-kept (c .no-statement .ensures .1))
 
 pub step-spec : {M : Type 1} → statement M
 step-spec =

@@ -1,0 +1,19 @@
+use borrow.Author.Needs.{needs}
+use borrow.Author.Tests.{not-false}
+use native.Mathlib.Omega.{arith}
+use mathlib.Core.Path.{sym}
+use mathlib.Core.Bool.{true≢false}
+use Rattle.bench.proofs.States.{all-needless}
+use Rattle.bench.proofs.state.lacks_nothing.Statement.{statement}
+use Rattle.bench.proofs.state.lacks_nothing.Tie as tie
+
+pub lacks-nothing-spec : {M : Type 1} → statement M
+lacks-nothing-spec =
+    tie.close
+    (tie.spec
+    (λ c e. absurd (true≢false (sym e)))
+    (λ c κs. search needs)
+    (λ c e. absurd (true≢false (sym e)))
+    (λ c. search needs)
+    (λ c e. absurd (true≢false (sym e)))
+    (λ c e. all-needless _ _ _ _ _ (c .enum-told .given .1) (not-false _ (c .before .before .before .before .if1 .left)) (omega (arith, c .before .before .before .pool-len .ensures .0, c .before .before .if2 .left))))
