@@ -21,7 +21,7 @@ use Rattle.schedule.specs.declared.line.Parsed.the-variants.{Readable, U
 use Rattle.schedule.specs.declared.line.Verb.{Verb}
 use Rattle.schedule.specs.declared.line.Verb.the-variants.{Setup, Join, Leave, Send, Give, All, Turn, Lie, Unknown}
 use Rattle.schedule.specs.Line.{setupWord, ended, Written}
-use Rattle.schedule.specs.Reading.{wordOf, LastAt, SetAt, IsNamed, IsNumbered, NamedBy, NumberedBy, SetBy, CommandBy, Understood}
+use Rattle.schedule.specs.Reading.{wordOf, verbOf, LastAt, SetAt, IsNamed, IsNumbered, NamedBy, NumberedBy, SetBy, LieBy, Understood}
 use Rattle.schedule.proofs.Words.{begins, ended-same, OfVerb, reads-none}
 use Rattle.schedule.proofs.Fields.{left-none}
 
@@ -57,12 +57,12 @@ module _ (T w : List ℕ) (p : Part) (l : LastAt T (length w) 15 p) where
 module _ (T : List ℕ) (at : ℕ) (p : Part) where
   some : (v : Verb) → NamedBy T v at → LastAt T at 15 p → p .ok ≡ true → Understood T (Readable (namedLine v (p .value)))
   some Setup n l o = absurd (n .named)
-  some Join n l o = record { reads = λ s. named-written T (wordOf Join) p (rw (n .place) at l) (begins T Join (n .word)) o }
-  some Leave n l o = record { reads = λ s. named-written T (wordOf Leave) p (rw (n .place) at l) (begins T Leave (n .word)) o }
+  some Join n l o = record { reads = named-written T (wordOf Join) p (rw (n .place) at l) (begins T Join (n .word)) o }
+  some Leave n l o = record { reads = named-written T (wordOf Leave) p (rw (n .place) at l) (begins T Leave (n .word)) o }
   some Send n l o = absurd (n .named)
   some Give n l o = absurd (n .named)
-  some All n l o = record { reads = λ s. named-written T (wordOf All) p (rw (n .place) at l) (begins T All (n .word)) o }
-  some Turn n l o = record { reads = λ s. named-written T (wordOf Turn) p (rw (n .place) at l) (begins T Turn (n .word)) o }
+  some All n l o = record { reads = named-written T (wordOf All) p (rw (n .place) at l) (begins T All (n .word)) o }
+  some Turn n l o = record { reads = named-written T (wordOf Turn) p (rw (n .place) at l) (begins T Turn (n .word)) o }
   some Lie n l o = absurd (n .named)
   some Unknown n l o = absurd (n .named)
 
@@ -81,7 +81,7 @@ module _ (T : List ℕ) (at : ℕ) (p : Part) where
   named-some v u e n l o = subst (λ u. Understood T (Readable (namedLine u (p .value)))) e (some v n l o)
 
   pub named-none : (v : Verb) → NamedBy T v at → LastAt T at 15 p → p .ok ≡ false → Understood T Unreadable
-  named-none v n l o = record { reads = λ s. reads-none T v (n .word) (none v n l o) }
+  named-none v n l o = record { reads = reads-none T v (n .word) (none v n l o) }
 
 -- ---- a controller and a number
 abbrev pub numberedLine : Verb → ℕ → ℕ → held.Line
@@ -117,8 +117,8 @@ module _ (T : List ℕ) (p q : Part) (n : NumberAt T 4 15 p) (l : LastAt T (p .n
   both Setup b o = absurd (b .numbered)
   both Join b o = absurd (b .numbered)
   both Leave b o = absurd (b .numbered)
-  both Send b o = record { reads = λ s. numbered-written T (wordOf Send) p q n l (begins T Send (b .word)) o }
-  both Give b o = record { reads = λ s. numbered-written T (wordOf Give) p q n l (begins T Give (b .word)) o }
+  both Send b o = record { reads = numbered-written T (wordOf Send) p q n l (begins T Send (b .word)) o }
+  both Give b o = record { reads = numbered-written T (wordOf Give) p q n l (begins T Give (b .word)) o }
   both All b o = absurd (b .numbered)
   both Turn b o = absurd (b .numbered)
   both Lie b o = absurd (b .numbered)
@@ -139,7 +139,7 @@ module _ (T : List ℕ) (p q : Part) (n : NumberAt T 4 15 p) (l : LastAt T (p .n
   numbered-some v u e b o = subst (λ u. Understood T (Readable (numberedLine u (p .value) (q .value)))) e (both v b o)
 
   pub numbered-none : (v : Verb) → NumberedBy T v → q .ok ≡ false → Understood T Unreadable
-  numbered-none v b o = record { reads = λ s. reads-none T v (b .word) (neither v b o) }
+  numbered-none v b o = record { reads = reads-none T v (b .word) (neither v b o) }
 
 -- ---- a setup
 module _ (T : List ℕ) (m s f : Part) (cm : SetAt T 5 m) (cs : NumberAt T (m .next) 255 s) (cf : SetAt T (s .next) f) (by : SetBy T) where
@@ -152,7 +152,7 @@ module _ (T : List ℕ) (m s f : Part) (cm : SetAt T 5 m) (cs : NumberAt T (m .n
       let d3 = cf .only o ∙ ap (λ (r : List ℕ). 44 ∷ (hexText 4 (f .value) ++ r)) (drop-of-length-le T h) ∙ ap (λ (r : List ℕ). 44 ∷ r) (append-nil (hexText 4 (f .value))) in
       let d2 = cs .only (ok-before T (s .next) 44 (hexText 4 (f .value)) (s .ok) d3 (cs .stop)) ∙ ap (λ (r : List ℕ). 44 ∷ (decText (s .value) ++ r)) d3 in
       let d1 = cm .only (ok-before T (m .next) 44 (decText (s .value) ++ 44 ∷ hexText 4 (f .value)) (m .ok) d2 (cm .stop)) ∙ ap (λ (r : List ℕ). 44 ∷ (hexText 4 (m .value) ++ r)) d2 in record {
-        reads = λ st. (omega (arith, cm .low), omega (arith, cs .low), omega (arith, cf .low), put-together T setupWord (setupText (m .value) (s .value) (f .value)) (begins T Setup (by .word)) d1);
+        reads = (omega (arith, cm .low), omega (arith, cs .low), omega (arith, cf .low), put-together T setupWord (setupText (m .value) (s .value) (f .value)) (begins T Setup (by .word)) d1);
       }
 
   -- what the fields are, if the line is a setup
@@ -165,28 +165,28 @@ module _ (T : List ℕ) (m s f : Part) (cm : SetAt T 5 m) (cs : NumberAt T (m .n
 
   pub setup-more : f .next < length T → Understood T Unreadable
   unfolding parted
-  setup-more h = record { reads = λ st. reads-none T Setup (by .word) (λ a b c w. let g = left-none T (f .next) (fields a b c (w .0) (w .1) (w .2) (w .3) .1) in omega arith) }
+  setup-more h = record { reads = reads-none T Setup (by .word) (λ a b c w. let g = left-none T (f .next) (fields a b c (w .0) (w .1) (w .2) (w .3) .1) in omega arith) }
 
   pub setup-none : f .ok ≡ false → Understood T Unreadable
   unfolding parted
-  setup-none o = record { reads = λ st. reads-none T Setup (by .word) (λ a b c w. false≢true (sym o ∙ fields a b c (w .0) (w .1) (w .2) (w .3) .0)) }
+  setup-none o = record { reads = reads-none T Setup (by .word) (λ a b c w. false≢true (sym o ∙ fields a b c (w .0) (w .1) (w .2) (w .3) .0)) }
 
 -- ---- by the word
-module _ (T : List ℕ) (v : Verb) (by : CommandBy T v) where
+module _ (T : List ℕ) (v : Verb) (by : v ≡ verbOf T) where
   pub named-by : (u : Verb) (at : ℕ) → v ≡ u → at ≡ length (wordOf u) → IsNamed u → NamedBy T v at
-  named-by u at e a n = record { word = by .word; place = a ∙ ap (λ (x : Verb). length (wordOf x)) (sym e); named = subst IsNamed (sym e) n }
+  named-by u at e a n = record { word = by; place = a ∙ ap (λ (x : Verb). length (wordOf x)) (sym e); named = subst IsNamed (sym e) n }
 
   pub numbered-by : (u : Verb) → v ≡ u → IsNumbered u → NumberedBy T v
-  numbered-by u e n = record { word = by .word; numbered = subst IsNumbered (sym e) n }
+  numbered-by u e n = record { word = by; numbered = subst IsNumbered (sym e) n }
 
   pub set-by : v ≡ Setup → SetBy T
-  set-by e = record { word = sym e ∙ by .word }
+  set-by e = record { word = sym e ∙ by }
+
+  pub lie-by : v ≡ Lie → LieBy T
+  lie-by e = record { word = sym e ∙ by }
 
   pub unknown : v ≡ Unknown → Understood T Unreadable
-  unknown e = record { reads = λ s. reads-none T Unknown (sym e ∙ by .word) tt }
-
-  pub no-lie : v ≡ Lie → Understood T Unreadable
-  no-lie e = absurd (by .command e)
+  unknown e = record { reads = reads-none T Unknown (sym e ∙ by) tt }
 
 -- ---- what is left when the other words are not
 pub last-named : (v : Verb) → OneOf (0 ∷ 3 ∷ 4 ∷ 6 ∷ 7 ∷ 8 ∷ []) (tagOf verb.the-type v) → IsNamed v → v ≡ Turn

@@ -1,30 +1,26 @@
 -- The first line of a schedule: where it ends, and what is left.
---     line-last, line-read   what was read is the first line
---     read-next, read-none   the lines of a schedule, one after the other
---     in-range               the controller that a line names is one of the sixteen
+--     line-last, line-read     what was read is the first line
+--     line-ended, line-tells   one that was read ends with a newline, and what it tells of its text
 -- Assumes nothing.
-use Prim.Native.Nat.{ℕ, suc, _+_, _<_, _≤_}
+use Prim.Native.Nat.{ℕ, suc, _+_, _-_, _<_, _≤_}
 use native.Mathlib.Omega.{arith}
 use native.Mathlib.Numerals.{add-one}
 use mathlib.Core.Path.{_≡_, refl, sym, ap, subst, _∙_}
 use mathlib.Core.Bool.{Bool, true, false, cond}
 use mathlib.Core.List.{List, [], _∷_, _++_}
-use mathlib.Core.Option.{Option, none}
+use mathlib.Core.Option.{Option, some, none}
 use lib.Dec.{eqb}
 use lib.ListN.{length, take, drop, getD, length-append}
-use lib.Seq.{take-suc, take-all, drop-length}
+use lib.Seq.{take-suc, take-all, take-take, take-append-seam, length-take-le, drop-length}
 use borrow.Author.Tests.{eqb-true}
 use Rattle.text.specs.Text.{decText, hexText}
 use Rattle.statements.specs.Text.{parted, text}
-use Rattle.statements.specs.declared.Statement.{Statement}
-use Rattle.statements.specs.Meaning.{stmtOf}
 use Rattle.schedule.specs.declared.line.Line as held
-use Rattle.schedule.specs.declared.line.Line.the-variants as is
 use Rattle.schedule.specs.declared.line.Parsed.{Parsed}
 use Rattle.schedule.specs.declared.line.Parsed.the-variants.{Readable, Unreadable}
 use Rattle.schedule.specs.declared.line.ReadLine.{ReadLine}
-use Rattle.schedule.specs.Line.{Line, setup, join, leave, send, give, all, turn, lie, noStatement, setupWord, joinWord, leaveWord, sendWord, giveWord, allWord, turnWord, lieWord, ended, Written, Reads, before, lines, ReadAll}
-use Rattle.schedule.specs.Reading.{lineIs, InRange, bodyLength, BodyOf, LineOf}
+use Rattle.schedule.specs.Line.{Line, setup, join, leave, send, give, all, turn, lie, noStatement, setupWord, joinWord, leaveWord, sendWord, giveWord, allWord, turnWord, lieWord, ended, Written, Reads, before, lines}
+use Rattle.schedule.specs.Reading.{meant, Tells, ReadAs, bodyLength, Understood, LineOf}
 
 -- ---- the length of a line without its newline
 pub body-most : (S : List ℕ) → bodyLength S ≤ length S
@@ -98,46 +94,46 @@ unfolding lines
 last-alone S = rw (take-all (length S) S (omega arith), drop-length S)
 
 module _ (S : List ℕ) (end : ℕ) (e : end ≡ bodyLength S) where
-  pub line-last : (st : Statement) → st .history .len ≤ 16 → length S ≤ end → LineOf S (record { parsed = Unreadable; statement = st; next = length S })
-  line-last st n h = record {
+  pub line-last : length S ≤ end → LineOf S (record { parsed = Unreadable; next = length S })
+  line-last h = record {
     moves = λ p. p;
     within = omega arith;
     first = λ p. lines-last S p (omega arith) ∙ last-alone S;
     reads = rw (take-all (length S) S (omega arith)) (no-newline S (omega arith));
-    short = n;
   }
 
-  pub line-read : (r : ReadLine) → end < length S → BodyOf (take end S) (end + 1) r → LineOf S r
-  line-read r h b =
-      let n : r .next ≡ suc end = b .next-is ∙ add-one end in
+  pub line-read : (p : Parsed) (next : ℕ) → next ≡ end + 1 → end < length S → Understood (take end S) p → LineOf S (record { parsed = p; next = next })
+  line-read p next q h u =
+      let n : next ≡ suc end = q ∙ add-one end in
       let k : bodyLength S < length S = omega arith in
-      let whole : take (r .next) S ≡ ended (take end S) = ap (λ (i : ℕ). take i S) n ∙ take-suc S end 0 h ∙ ap (λ (c : ℕ). take end S ++ (c ∷ [])) (ap (λ (i : ℕ). getD S i 0) e ∙ body-newline S k) in record {
-        moves = λ p. omega arith;
+      let whole : take next S ≡ ended (take end S) = ap (λ (i : ℕ). take i S) n ∙ take-suc S end 0 h ∙ ap (λ (c : ℕ). take end S ++ (c ∷ [])) (ap (λ (i : ℕ). getD S i 0) e ∙ body-newline S k) in record {
+        moves = λ z. omega arith;
         within = omega arith;
-        first = λ p. lines-first S k ∙ ap (λ (i : ℕ). take i S ∷ lines (drop i S)) (sym (n ∙ ap suc e));
-        reads = rw whole (b .reads);
-        short = b .short;
+        first = λ z. lines-first S k ∙ ap (λ (i : ℕ). take i S ∷ lines (drop i S)) (sym (n ∙ ap suc e));
+        reads = subst (ReadAs p) (sym whole) (u .reads);
       }
 
 -- ---- what a loop over the lines cites
-module _ (S : List ℕ) (r : ReadLine) (of : LineOf S r) where
-  pub read-next : 0 < length S → (O : List (Option Line)) → ReadAll (lines (drop (r .next) S)) O → ReadAll (lines S) (lineIs (r .parsed) (stmtOf (r .statement)) ∷ O)
-  read-next h O rest = subst (λ (L : List (List ℕ)). ReadAll L (lineIs (r .parsed) (stmtOf (r .statement)) ∷ O)) (sym (of .first h)) (of .reads, rest)
+told-ended : (S : List ℕ) (o : Option Line) → Tells o S → (t : List ℕ) × (S ≡ ended t)
+told-ended S (some l) w = written-ended S l w
+told-ended S none w = (parted (lieWord ∷ w .0 ∷ []), w .1)
 
-  pub in-range : (l : held.Line) → r .parsed ≡ Readable l → InRange l (stmtOf (r .statement))
-  in-range l e = go l (subst (λ (p : Parsed). Reads (take (r .next) S) (lineIs p (stmtOf (r .statement)))) e (of .reads))
-    where
-      go : (l : held.Line) → Reads (take (r .next) S) (lineIs (Readable l) (stmtOf (r .statement))) → InRange l (stmtOf (r .statement))
-      go (is.Setup m s f) w = tt
-      go (is.Join k) w = w .0
-      go (is.Leave k) w = w .0
-      go (is.Send k n) w = w .0
-      go (is.Give k n) w = w .0
-      go (is.All k) w = w .0
-      go (is.Turn k) w = w .0
-      go is.Lie w = w .0
-      go is.NoStatement w = tt
+-- the first n bytes of S are a line with its newline, so the line is one byte shorter
+shorter : (S t : List ℕ) (n : ℕ) → n ≤ length S → take n S ≡ ended t → t ≡ take (n - 1) S
+shorter S t n h e =
+    let long : length t + 1 ≡ n = omega (arith, sym (ap length e ∙ length-append t (10 ∷ [])), length-take-le n S h) in
+    let less : length t ≡ n - 1 = omega arith in
+    sym (take-append-seam t (10 ∷ [])) ∙ ap (take (length t)) (sym e) ∙ take-take (length t) n S (omega arith) ∙ ap (λ (i : ℕ). take i S) less
 
-pub read-none : ReadAll (lines []) []
-unfolding lines
-read-none = tt
+module _ (S : List ℕ) (r : ReadLine) (of : LineOf S r) (l : held.Line) (e : r .parsed ≡ Readable l) where
+  tells : Tells (meant l) (take (r .next) S)
+  tells = subst (λ (p : Parsed). ReadAs p (take (r .next) S)) e (of .reads)
+
+  -- a line that was read, without its newline
+  pub line-ended : take (r .next) S ≡ ended (take (r .next - 1) S)
+  line-ended =
+      let (t, q) = told-ended (take (r .next) S) (meant l) tells in
+      q ∙ ap ended (shorter S t (r .next) (of .within) q)
+
+  pub line-tells : Tells (meant l) (ended (take (r .next - 1) S))
+  line-tells = subst (Tells (meant l)) line-ended tells

@@ -5,11 +5,12 @@ use mathlib.Core.Path.{_≡_}
 use mathlib.Core.Bool.{Bool, true, false, cond}
 use mathlib.Core.List.{List, [], _∷_, _++_}
 use mathlib.Core.Option.{Option, some, none}
-use lib.Dec.{T, eqb}
+use lib.Dec.{eqb}
 use lib.ListN.{length, take, drop}
-use Rattle.protocol.specs.Statement.{Stmt, fieldRules}
 use Rattle.text.specs.Text.{decText, hexText}
 use Rattle.statements.specs.declared.Part.{Part}
+use Rattle.statements.specs.declared.ReadStatement.{ReadStatement}
+use Rattle.statements.specs.Text.{parted}
 use Rattle.statements.specs.Meaning.{stmtOf}
 use Rattle.schedule.specs.declared.line.Line as held
 use Rattle.schedule.specs.declared.line.Line.the-variants as is
@@ -18,52 +19,51 @@ use Rattle.schedule.specs.declared.line.Parsed.the-variants.{Readable, U
 use Rattle.schedule.specs.declared.line.ReadLine.{ReadLine}
 use Rattle.schedule.specs.declared.line.Verb.{Verb}
 use Rattle.schedule.specs.declared.line.Verb.the-variants.{Setup, Join, Leave, Send, Give, All, Turn, Lie, Unknown}
-use Rattle.schedule.specs.Line.{Line, setup, join, leave, send, give, all, turn, lie, noStatement, setupWord, joinWord, leaveWord, sendWord, giveWord, allWord, turnWord, lieWord, ended, Reads, lines}
+use Rattle.schedule.specs.Line.{Line, setup, join, leave, send, give, all, turn, lie, noStatement, setupWord, joinWord, leaveWord, sendWord, giveWord, allWord, turnWord, lieWord, ended, Written, Reads, lines}
 
--- ---- what was read, with the statement that stands beside it
-abbrev pub meant : held.Line → Stmt → Line
-meant (is.Setup members sender faulty) s = setup members sender faulty
-meant (is.Join k) s = join k
-meant (is.Leave k) s = leave k
-meant (is.Send k payload) s = send k payload
-meant (is.Give k n) s = give k n
-meant (is.All k) s = all k
-meant (is.Turn k) s = turn k
-meant is.Lie s = lie s
-meant is.NoStatement s = noStatement
+-- ---- what was read
 
-abbrev pub lineIs : Parsed → Stmt → Option Line
-lineIs (Readable l) s = some (meant l s)
-lineIs Unreadable s = none
+-- What a line that was read says, but for a lie, whose statement is read apart.
+abbrev pub meant : held.Line → Option Line
+meant (is.Setup members sender faulty) = some (setup members sender faulty)
+meant (is.Join k) = some (join k)
+meant (is.Leave k) = some (leave k)
+meant (is.Send k payload) = some (send k payload)
+meant (is.Give k n) = some (give k n)
+meant (is.All k) = some (all k)
+meant (is.Turn k) = some (turn k)
+meant is.Lie = none
 
--- The controller that a line names is one of the sixteen, and a lie's statement keeps the field rules.
-abbrev pub InRange : held.Line → Stmt → Type 0
-InRange (is.Setup members sender faulty) s = Unit {0}
-InRange (is.Join k) s = k < 16
-InRange (is.Leave k) s = k < 16
-InRange (is.Send k payload) s = k < 16
-InRange (is.Give k n) s = k < 16
-InRange (is.All k) s = k < 16
-InRange (is.Turn k) s = k < 16
-InRange is.Lie s = T (fieldRules 16 s)
-InRange is.NoStatement s = Unit {0}
+-- The text S says so; where nothing is said, it begins as a lie.
+abbrev pub Tells : Option Line → List ℕ → Type 0
+Tells (some l) S = Written l S
+Tells none S = (t : List ℕ) × (S ≡ ended (parted (lieWord ∷ t ∷ [])))
 
--- The line T reads so, whatever statement stands beside it.
+-- S was read as p.
+abbrev pub ReadAs : Parsed → List ℕ → Type 0
+ReadAs (Readable l) S = Tells (meant l) S
+ReadAs Unreadable S = Reads S none
+
+-- The line T was read as p.
 pub record Understood (T : List ℕ) (p : Parsed) : Type 0 where
-  pub reads : (s : Stmt) → Reads (ended T) (lineIs p s)
+  pub reads : ReadAs p (ended T)
 
--- The line T reads so, and the next one begins at `next`.
-pub record BodyOf (T : List ℕ) (next : ℕ) (r : ReadLine) : Type 0 where
-  pub reads : Reads (ended T) (lineIs (r .parsed) (stmtOf (r .statement)))
-  pub next-is : r .next ≡ next
-  pub short : r .statement .history .len ≤ 16
-
--- READING A LINE: r is what the first line of S reads as, and S goes on at r .next.
+-- READING A LINE: r is what the first line of S was read as, and S goes on at r .next.
 pub record LineOf (S : List ℕ) (r : ReadLine) : Type 0 where
   pub moves : 0 < length S → 0 < r .next
   pub within : r .next ≤ length S
   pub first : 0 < length S → lines S ≡ take (r .next) S ∷ lines (drop (r .next) S)
-  pub reads : Reads (take (r .next) S) (lineIs (r .parsed) (stmtOf (r .statement)))
+  pub reads : ReadAs (r .parsed) (take (r .next) S)
+
+-- The line T was read as a lie.
+pub record Lying (T : List ℕ) : Type 0 where
+  pub tells : Tells none (ended T)
+
+-- READING A LIE'S STATEMENT: the line T is the lie of the statement r, which keeps the field rules, or its text is no such statement's.
+pub record LiedOf (T : List ℕ) (r : ReadStatement) : Type 0 where
+  pub told : r .ok ≡ true → Reads (ended T) (some (lie (stmtOf (r .statement))))
+  pub untold : r .ok ≡ false → Reads (ended T) (some noStatement)
+  pub near : r .ok ≡ true → r .statement .origin < 16
   pub short : r .statement .history .len ≤ 16
 
 -- ---- the line's end and its first word
@@ -143,10 +143,6 @@ pub record NumberedBy (T : List ℕ) (v : Verb) : Type 0 where
 
 pub record SetBy (T : List ℕ) : Type 0 where
   pub word : Setup ≡ verbOf T
-
-pub record CommandBy (T : List ℕ) (v : Verb) : Type 0 where
-  pub word : v ≡ verbOf T
-  pub command : v ≡ Lie → ⊥
 
 pub record LieBy (T : List ℕ) : Type 0 where
   pub word : Lie ≡ verbOf T

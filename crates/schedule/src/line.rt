@@ -1,16 +1,12 @@
 // The lines of a schedule. A line is read from the part of the schedule that begins with it; its end is looked for once, and its fields
 // within it.
 ghost use mathlib.Core.Path.{_≡_};
-ghost use Prim.Native.Nat.{_≤_};
-ghost use Rattle.schedule.specs.Reading.{bodyLength, startsWith, verbOf, LastAt, SetAt, NamedBy, NumberedBy, SetBy, CommandBy, LieBy, Understood, BodyOf, LineOf};
-use statements::Binding;
+ghost use Rattle.schedule.specs.Reading.{bodyLength, startsWith, verbOf, LastAt, SetAt, NamedBy, NumberedBy, SetBy, LieBy, Lying, LiedOf, Understood, LineOf};
 use statements::Part;
-use statements::Statement;
+use statements::ReadStatement;
 use text::Read;
-use views::History;
-use views::View;
 
-// A lie's statement stands beside the line, since an enum holds no array.
+// A lie's statement is read where the lie is told (`lied`), so that no other line pays for it.
 pub enum Line {
     Setup(u16, u8, u16),
     Join(u8),
@@ -20,7 +16,6 @@ pub enum Line {
     All(u8),
     Turn(u8),
     Lie,
-    NoStatement,
 }
 
 pub enum Parsed {
@@ -31,7 +26,6 @@ pub enum Parsed {
 // What a line was read as, and where the next one begins.
 pub struct ReadLine {
     pub parsed: Parsed,
-    pub statement: Statement,
     pub next: usize,
 }
 
@@ -201,11 +195,22 @@ fn read_setup(line: &[u8]) -> Parsed
     ))
 }
 
-// Every line but a lie.
-fn read_command(line: &[u8], verb: Verb) -> Parsed
-    requires { ⌜ CommandBy (now line) verb ⌝ }
+// All after the comma is to be a statement's text; it is read where the lie is told.
+fn read_lie(line: &[u8]) -> Parsed
+    requires { ⌜ LieBy (now line) ⌝ }
     ensures { λ r. ⌜ Understood (now (line .entry)) r ⌝ }
 {
+    if text::comma_at(line, 3) {
+        return Parsed::Readable(Line::Lie);
+    }
+    Parsed::Unreadable
+}
+
+// A line without its newline.
+fn read_body(line: &[u8]) -> Parsed
+    ensures { λ r. ⌜ Understood (now (line .entry)) r ⌝ }
+{
+    let verb = verb_of(line);
     match verb {
         Verb::Setup => read_setup(line),
         Verb::Join => read_named(line, verb, 4),
@@ -214,72 +219,8 @@ fn read_command(line: &[u8], verb: Verb) -> Parsed
         Verb::Give => read_numbered(line, verb),
         Verb::All => read_named(line, verb, 3),
         Verb::Turn => read_named(line, verb, 4),
-        Verb::Lie => Parsed::Unreadable,
+        Verb::Lie => read_lie(line),
         Verb::Unknown => Parsed::Unreadable,
-    }
-}
-
-// What stands beside a line that is no lie.
-fn no_statement() -> Statement
-    ensures { λ r. ⌜ r .history .len ≤ 16 ⌝ }
-{
-    let none = View { joined: 0, left: 0 };
-    Statement {
-        kind: 0,
-        origin: 0,
-        at: none,
-        view: none,
-        binding: Binding::Unbound,
-        payload: 0,
-        stored: false,
-        kept: 0,
-        history: History {
-            views: [none; 16],
-            len: 0,
-        },
-    }
-}
-
-// All after the comma is to be the text of a statement that keeps the field rules.
-fn read_lie(line: &[u8], next: usize) -> ReadLine
-    requires { ⌜ LieBy (now line) ⌝ }
-    ensures { λ r. ⌜ BodyOf (now (line .entry)) next r ⌝ }
-{
-    if text::comma_at(line, 3) {
-        let r = statements::read(&line[4..]);
-        let st = r.statement;
-        if r.ok & statements::keeps_field_rules(st) {
-            return ReadLine {
-                parsed: Parsed::Readable(Line::Lie),
-                statement: st,
-                next: next,
-            };
-        }
-        return ReadLine {
-            parsed: Parsed::Readable(Line::NoStatement),
-            statement: st,
-            next: next,
-        };
-    }
-    ReadLine {
-        parsed: Parsed::Unreadable,
-        statement: no_statement(),
-        next: next,
-    }
-}
-
-// A line without its newline.
-fn read_body(line: &[u8], next: usize) -> ReadLine
-    ensures { λ r. ⌜ BodyOf (now (line .entry)) next r ⌝ }
-{
-    let verb = verb_of(line);
-    if let Verb::Lie = verb {
-        return read_lie(line, next);
-    }
-    ReadLine {
-        parsed: read_command(line, verb),
-        statement: no_statement(),
-        next: next,
     }
 }
 
@@ -289,11 +230,26 @@ pub fn read_line(s: &[u8]) -> ReadLine
 {
     let end = line_end(s);
     if end < s.len() {
-        return read_body(&s[..end], end + 1);
+        return ReadLine {
+            parsed: read_body(&s[..end]),
+            next: end + 1,
+        };
     }
     ReadLine {
         parsed: Parsed::Unreadable,
-        statement: no_statement(),
         next: s.len(),
+    }
+}
+
+// The statement of a line that is a lie; `ok` where its text is that of a statement that keeps the field rules.
+pub fn lied(line: &[u8]) -> ReadStatement
+    requires { ⌜ Lying (now line) ⌝ }
+    ensures { λ r. ⌜ LiedOf (now (line .entry)) r ⌝ }
+{
+    let r = statements::read(&line[4..]);
+    let st = r.statement;
+    ReadStatement {
+        ok: r.ok & statements::keeps_field_rules(st),
+        statement: st,
     }
 }

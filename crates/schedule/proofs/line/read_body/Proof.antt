@@ -1,7 +1,6 @@
-use mathlib.Core.Path.{refl, sym, _∙_}
-use types.Run.{miss}
-use mathlib.Core.List.{[], _∷_}
-use Rattle.statements.specs.Meaning.{stmtOf}
+use mathlib.Core.Path.{refl}
+use Rattle.schedule.specs.declared.line.Verb.the-variants.{Join, Leave, Send, Give, All, Turn}
+use Rattle.schedule.proofs.Commands.{named-by, numbered-by, set-by, lie-by, unknown}
 use borrow.Author.Needs.{needs}
 use Rattle.schedule.proofs.line.read_body.Statement.{statement}
 use Rattle.schedule.proofs.line.read_body.Tie as tie
@@ -12,8 +11,28 @@ read-body-spec =
     (tie.spec
     (λ c κs. search needs)
     (λ c. search needs)
-    (λ c κs. record { word = sym (c .enum-told .given .1) ∙ c .before .before .verb-of .ensures })
+    (λ c κs. set-by (c .before .before .before .before .args .line .now) _ (c .before .before .verb-of .ensures) (c .enum-told .given .1))
     (λ c. search needs)
-    (λ c κs. record { word = c .before .verb-of .ensures; command = λ e. miss (0 ∷ 1 ∷ 2 ∷ 3 ∷ 4 ∷ 5 ∷ 6 ∷ 8 ∷ []) 7 tt (rw e at (c .match .keys2)) })
-    (λ c κs. search needs)
-    (λ c. record { reads = c .before .read-command .ensures .reads (stmtOf (c .no-statement .result)); next-is = refl; short = c .no-statement .ensures }))
+    (λ c κs. named-by (c .before .before .before .before .args .line .now) _ (c .before .before .verb-of .ensures) Join _ (c .enum-told2 .given .1) refl tt)
+    (λ c. search needs)
+    (λ c κs. named-by (c .before .before .before .before .args .line .now) _ (c .before .before .verb-of .ensures) Leave _ (c .enum-told3 .given .1) refl tt)
+    (λ c. search needs)
+    (λ c κs. numbered-by (c .before .before .before .before .args .line .now) _ (c .before .before .verb-of .ensures) Send (c .enum-told4 .given .1) tt)
+    (λ c. search needs)
+    (λ c κs. numbered-by (c .before .before .before .before .args .line .now) _ (c .before .before .verb-of .ensures) Give (c .enum-told5 .given .1) tt)
+    (λ c. search needs)
+    (λ c κs. named-by (c .before .before .before .before .args .line .now) _ (c .before .before .verb-of .ensures) All _ (c .enum-told6 .given .1) refl tt)
+    (λ c. search needs)
+    (λ c κs. named-by (c .before .before .before .before .args .line .now) _ (c .before .before .verb-of .ensures) Turn _ (c .enum-told7 .given .1) refl tt)
+    (λ c. search needs)
+    (λ c κs. lie-by (c .before .before .before .before .args .line .now) _ (c .before .before .verb-of .ensures) (c .enum-told8 .given .1))
+    (λ c. search needs)
+    (λ c. search needs)
+    (λ c. search needs)
+    (λ c. search needs)
+    (λ c. search needs)
+    (λ c. search needs)
+    (λ c. search needs)
+    (λ c. search needs)
+    (λ c. search needs)
+    (λ c. unknown (c .before .before .before .before .args .line .now) _ (c .before .before .verb-of .ensures) (c .enum-told9 .given .1)))

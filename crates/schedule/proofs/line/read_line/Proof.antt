@@ -1,5 +1,5 @@
 use native.Mathlib.Omega.{arith}
-use mathlib.Core.Path.{sym}
+use mathlib.Core.Path.{refl, sym}
 use lib.Seq.{length-take-le}
 use Rattle.schedule.proofs.Whole.{line-last, line-read}
 use borrow.Author.Needs.{needs}
@@ -12,8 +12,7 @@ read-line-spec =
     (tie.spec
     (λ c κs. search needs)
     (λ c. sym (length-take-le _ (c .before .before .before .before .args .s .now) (omega arith)))
+    (λ c κs. search needs)
     (λ c. search needs)
-    (λ c κs. search needs)
-    (λ c. line-read (c .before .before .before .before .before .args .s .now) _ (c .before .before .before .line-end .ensures) _ (c .before .before .if1 .taken) (c .read-body .ensures))
-    (λ c κs. search needs)
-    (λ c. line-last (c .before .before .before .before .args .s .now) _ (c .before .before .line-end .ensures) _ (c .no-statement .ensures) (c .before .if1 .left)))
+    (λ c. line-read (c .before .before .before .before .before .args .s .now) _ (c .before .before .before .line-end .ensures) _ _ refl (c .before .before .if1 .taken) (c .read-body .ensures))
+    (λ c. line-last (c .before .before .before .args .s .now) _ (c .before .line-end .ensures) (c .if1 .left)))
