@@ -9,37 +9,32 @@ use Prim.Native.Nat.{ℕ, zero, suc, _+_, _-_, _*_, _≤_, _<_, min}
 use native.Mathlib.Decide.{decLt, ℕ-discrete}
 use native.Mathlib.Numerals.{add-one}
 use native.Mathlib.Omega.{arith}
-use lib.Dec.{T, eqb, ltb, ltb→lt}
-use Rattle.protocol.proofs.Rules.{and-first, and-second}
+use lib.Dec.{eqb, ltb}
 use lib.ListN.{length, getD, set, take, drop, replicate, length-replicate, getD-replicate, length-set, length-drop, length-append, drop-of-length-le}
 use lib.Seq.{sets, length-sets, getD-set-same, getD-set-other, set-getD, ext-getD, drop-drop, take-all}
 use borrow.Author.Tests.{lt-ltb, le-ltb, eq-eqb, ne-eqb}
 use Rattle.protocol.specs.Lists.{if_then_else_}
 use Rattle.protocol.specs.View.{controllers}
-use Rattle.protocol.specs.Statement.{fieldRules}
 use Rattle.protocol.specs.Controller as controller
 use Rattle.protocol.specs.Call.{setupAllowed, started}
 use Rattle.text.proofs.Stores.{sets-append}
 use Rattle.views.specs.Table.{table}
 use Rattle.views.proofs.Tables.{table-length, table-at, table-cong}
-use Rattle.statements.specs.declared.Statement.{Statement}
-use Rattle.statements.specs.Meaning.{stmtOf}
 use Rattle.pool.specs.Pool.{stmtAt, poolLen, recordOf}
 use Rattle.engine.specs.declared.Controller.{Controller}
 use Rattle.engine.specs.declared.Answer.{Answer}
 use Rattle.engine.specs.declared.Answer.the-variants.{Taken, Signed, Entered, Delivered, Left, Quiet, Refused}
 use Rattle.engine.specs.Meaning.{controllerIs, recordIs, poolIs, Whole, AllIn, answerIs}
 use Rattle.schedule.specs.declared.line.Line.{Line as Held}
-use Rattle.schedule.specs.declared.line.Line.the-variants as is
-use Rattle.schedule.specs.declared.line.Parsed.{Parsed}
 use Rattle.schedule.specs.declared.line.Parsed.the-variants.{Readable, Unreadable}
 use Rattle.schedule.specs.declared.line.ReadLine.{ReadLine}
 use Rattle.bench.specs.declared.row.Word.the-variants as word
 use Rattle.bench.specs.declared.row.Value.the-variants as value
 use Rattle.bench.specs.declared.state.Setting.{Setting}
 use Rattle.bench.specs.declared.state.Stepped.{Stepped}
-use Rattle.schedule.specs.Line.{Line, lines, Reads, ReadAll}
-use Rattle.schedule.specs.Reading.{lineIs, LineOf}
+use Rattle.schedule.specs.Line.{Line, ended, lines, Reads, ReadAll}
+use Rattle.schedule.specs.Reading.{meant, Tells, ReadAs, LineOf}
+use Rattle.schedule.proofs.Whole.{line-ended, line-tells}
 use Rattle.bench.specs.Bench as bench
 use Rattle.bench.specs.Bench.{Seat, emptySeat, Bench, Reply, newBench, step}
 use Rattle.bench.specs.Rows.{rowText, headerText, rowsFrom, refusedRow, Printed}
@@ -48,7 +43,7 @@ use Rattle.bench.specs.Seats.{blank, seatIs, benchOf, Distinct, Sound, G
 use Rattle.bench.specs.Running.{rowIs, seatsIs, benchIs, Kept, Fulls, Started, Reading, Going, Ran, Wrote}
 use Rattle.bench.proofs.Rows.{shown}
 use Rattle.bench.proofs.Seats.{full-none}
-use Rattle.bench.proofs.States.{seat-kept, whole-kept, no-pool}
+use Rattle.bench.proofs.States.{fit-seat, seat-kept, whole-kept, no-pool}
 
 -- ---- a row is that of the reply
 
@@ -65,28 +60,6 @@ shows W (Refused r) n = (refl, refl)
 row-is : (W : List ℕ) (n : ℕ) (s : Stepped) → rowIs n (s .who) (s .answer) (s .number) ≡ rowText n (replyIs W s)
 unfolding rowIs
 row-is W n s = shown n (record { named = refl; word = shows W (s .answer) (s .number) .0; value = shows W (s .answer) (s .number) .1 })
-
--- ---- what was read fits
-
-module _ (S : List ℕ) (st : Statement) (short : st .history .len ≤ 16) where
-  fit-seat : (p : Parsed) → Reads S (lineIs p (stmtOf st)) → seatOf p < 16
-  fit-seat (Readable (is.Setup m s f)) r = omega arith
-  fit-seat (Readable (is.Join k)) r = r .0
-  fit-seat (Readable (is.Leave k)) r = r .0
-  fit-seat (Readable (is.Send k m)) r = r .0
-  fit-seat (Readable (is.Give k n)) r = r .0
-  fit-seat (Readable (is.All k)) r = r .0
-  fit-seat (Readable (is.Turn k)) r = r .0
-  fit-seat (Readable is.Lie) r = omega arith
-  fit-seat (Readable is.NoStatement) r = omega arith
-  fit-seat Unreadable r = omega arith
-
-  fit-origin : T (fieldRules 16 (stmtOf st)) → st .origin < 16
-  unfolding fieldRules stmtOf
-  fit-origin r = let a : T (ltb (st .origin) 16) = search (and-first, and-second) in ltb→lt (st .origin) 16 a
-
-  fits : (p : Parsed) → Reads S (lineIs p (stmtOf st)) → Fit p st
-  fits p r = record { seat = fit-seat p r; origin = λ e. fit-origin (subst (λ q. Reads S (lineIs q (stmtOf st))) e r .0); short = short }
 
 -- ---- the seats after a line
 
@@ -201,7 +174,7 @@ module _ (cs : List Controller) (fs : List ℕ) (k : ℕ) (h : k < 16) (m : leng
 -- ---- one line more
 
 module _ (S : List ℕ) (at n : ℕ) (b b′ : Bench) (R R′ : List ℕ) (out : ℕ) (going : Going S at n b R R′ out) (r : ReadLine) (of : LineOf (drop at S) r) (more : at < length S)
-    (this : Option Line) (is-this : lineIs (r .parsed) (stmtOf (r .statement)) ≡ this) (reply : Reply) (left : step b this ≡ record { reply = reply; bench = b′ })
+    (this : Option Line) (is-this : Reads (take (r .next) (drop at S)) this) (reply : Reply) (left : step b this ≡ record { reply = reply; bench = b′ })
     (row : List ℕ) (row-text : row ≡ rowText n reply) (R″ : List ℕ) (out′ : ℕ) (put : (out′ ≡ out + length row) × (R″ ≡ sets R′ out row) × (length row ≤ 40)) where
   some-left : 0 < length (drop at S)
   some-left = omega (arith, length-drop at S)
@@ -210,7 +183,7 @@ module _ (S : List ℕ) (at n : ℕ) (b b′ : Bench) (R R′ : List ℕ) (out :
   unfolding rowsFrom
   rest-of L q =
       let q′ : ReadAll (lines (drop (r .next) (drop at S))) L = subst (λ t. ReadAll (lines t) L) (sym (drop-drop (r .next) at S)) q in
-      let all : ReadAll (lines (drop at S)) (this ∷ L) = subst (λ t. ReadAll t (this ∷ L)) (sym (of .first some-left)) (subst (Reads (take (r .next) (drop at S))) is-this (of .reads), q′) in
+      let all : ReadAll (lines (drop at S)) (this ∷ L) = subst (λ t. ReadAll t (this ∷ L)) (sym (of .first some-left)) (is-this, q′) in
       let whole : Reading S (going .printed) (rowsFrom n b (this ∷ L)) = going .rest (this ∷ L) all in
       record {
         reading = whole .reading;
@@ -251,30 +224,46 @@ module _ (S : List ℕ) (at : ℕ) (r : ReadLine) (of : LineOf (take (length S -
 
   -- a line that reads
   module _ (l : Held) (e : r .parsed ≡ Readable l) where
-    pub line-fits : Fit (Readable l) (r .statement)
-    line-fits = fits (take (r .next) (drop at S)) (r .statement) (part-read S at r of .short) (Readable l) (subst (λ p. Reads (take (r .next) (drop at S)) (lineIs p (stmtOf (r .statement)))) e (part-read S at r of .reads))
+    -- its text, as the part of the schedule that the step is given
+    abbrev body : List ℕ
+    body = take (at + r .next - 1 - at) (drop at S)
+
+    body-is : body ≡ take (r .next - 1) (drop at S)
+    body-is = let n : at + r .next - 1 - at ≡ r .next - 1 = omega arith in ap (λ i. take i (drop at S)) n
+
+    body-ended : take (r .next) (drop at S) ≡ ended body
+    body-ended = line-ended (drop at S) r (part-read S at r of) l e ∙ ap ended (sym body-is)
+
+    line-reads : (this : Line) → Reads (ended body) (some this) → Reads (take (r .next) (drop at S)) (some this)
+    line-reads this t = subst (λ s. Reads s (some this)) (sym body-ended) t
+
+    pub line-fits : Fit l body
+    line-fits = record { tells = subst (λ t. Tells (meant l) (ended t)) (sym body-is) (line-tells (drop at S) r (part-read S at r of) l e) }
 
     pub line-seat : {k : ℕ} → k ≡ seatOf (Readable l) → k < 16
-    line-seat q = omega (arith, q, line-fits .seat)
+    line-seat q = omega (arith, q, fit-seat l line-fits)
 
-    pub line-on : {n : ℕ} {b b′ : Bench} {R R′ : List ℕ} {out : ℕ} → Going S at n b R R′ out → at < length S → (W′ : List ℕ) (s : Stepped) → step b (lineIs (Readable l) (stmtOf (r .statement))) ≡ record { reply = replyIs W′ s; bench = b′ }
+    pub line-on : {n : ℕ} {b b′ : Bench} {R R′ : List ℕ} {out : ℕ} → Going S at n b R R′ out → at < length S → (W′ : List ℕ) (s : Stepped) (this : Line) → Reads (ended body) (some this) → step b (some this) ≡ record { reply = replyIs W′ s; bench = b′ }
         → {R″ : List ℕ} {out′ : ℕ} → (out′ ≡ out + length (rowIs n (s .who) (s .answer) (s .number))) × (R″ ≡ sets R′ out (rowIs n (s .who) (s .answer) (s .number))) × (length (rowIs n (s .who) (s .answer) (s .number)) ≤ 40) → Going S (at + r .next) (n + 1) b′ R R″ out′
-    line-on {n} {b} {b′} {R} {R′} {out} going more W′ s left {R″} {out′} put =
-        goes-on S at n b b′ R R′ out going r (part-read S at r of) more (lineIs (Readable l) (stmtOf (r .statement))) (ap (λ p. lineIs p (stmtOf (r .statement))) e) (replyIs W′ s) left (rowIs n (s .who) (s .answer) (s .number)) (row-is W′ n s) R″ out′ put
+    line-on {n} {b} {b′} {R} {R′} {out} going more W′ s this reads left {R″} {out′} put =
+        goes-on S at n b b′ R R′ out going r (part-read S at r of) more (some this) (line-reads this reads) (replyIs W′ s) left (rowIs n (s .who) (s .answer) (s .number)) (row-is W′ n s) R″ out′ put
 
     -- one that leaves the bench as it is
     module _ (W : List ℕ) (g : Setting) (cs : List Controller) (fs : List ℕ) (k : ℕ) (q : k ≡ seatOf (Readable l)) (m : Kept W cs) (w : Fulls cs fs) (idle : Needless W g (getD fs k 0) l) where
-      stays : step (benchIs g W cs) (lineIs (Readable l) (stmtOf (r .statement))) ≡ record { reply = record { who = k; answer = controller.taken; number = 0 }; bench = benchIs g W cs }
+      stays : step (benchIs g W cs) (some (idle .line)) ≡ record { reply = record { who = k; answer = controller.taken; number = 0 }; bench = benchIs g W cs }
       stays =
           idle .steps (getD cs k blank) (record { distinct = m .distinct; whole = m .whole k (line-seat q) }) (w .each k (line-seat q)) (seatsIs W cs)
-          (seat-there W cs (seatOf (Readable l)) (line-fits .seat) ∙ ap (λ j. seatIs W (getD cs j blank)) (sym q)) (stmtOf (r .statement))
+          (seat-there W cs (seatOf (Readable l)) (fit-seat l line-fits) ∙ ap (λ j. seatIs W (getD cs j blank)) (sym q))
           ∙ ap (λ j. record { reply = record { who = j; answer = controller.taken; number = 0 }; bench = benchIs g W cs }) (sym q)
+
+      needless-reads : Reads (ended body) (some (idle .line))
+      needless-reads = subst (λ o. Tells o (ended body)) (idle .means) (line-fits .tells)
 
       pub needless-on : {n : ℕ} {R R′ : List ℕ} {out : ℕ} → Going S at n (benchIs g W cs) R R′ out → at < length S
           → {R″ : List ℕ} {out′ : ℕ} → (out′ ≡ out + length (rowOf n k word.Taken (value.Number 0))) × (R″ ≡ sets R′ out (rowOf n k word.Taken (value.Number 0))) × (length (rowOf n k word.Taken (value.Number 0)) ≤ 40)
           → Going S (at + r .next) (n + 1) (benchIs g W cs) R R″ out′
       needless-on {n} {R} {R′} {out} going more {R″} {out′} put =
-          goes-on S at n (benchIs g W cs) (benchIs g W cs) R R′ out going r (part-read S at r of) more (lineIs (Readable l) (stmtOf (r .statement))) (ap (λ p. lineIs p (stmtOf (r .statement))) e)
+          goes-on S at n (benchIs g W cs) (benchIs g W cs) R R′ out going r (part-read S at r of) more (some (idle .line)) (line-reads (idle .line) needless-reads)
           (record { who = k; answer = controller.taken; number = 0 }) stays (rowOf n k word.Taken (value.Number 0)) (taken-row n k) R″ out′ put
 
   -- one that does not
@@ -283,7 +272,7 @@ module _ (S : List ℕ) (at : ℕ) (r : ReadLine) (of : LineOf (take (length S -
       → Going S (at + r .next) (n + 1) b R R″ out′
   unfolding step
   unread-on e {n} {b} {R} {R′} {out} going more {R″} {out′} put =
-      goes-on S at n b b R R′ out going r (part-read S at r of) more none (ap (λ p. lineIs p (stmtOf (r .statement))) e) (record { who = 16; answer = controller.refused controller.outOfPlace; number = 0 }) refl
+      goes-on S at n b b R R′ out going r (part-read S at r of) more none (subst (λ p. ReadAs p (take (r .next) (drop at S))) e (part-read S at r of .reads)) (record { who = 16; answer = controller.refused controller.outOfPlace; number = 0 }) refl
       (rowOf n 16 word.Refused (value.Number 8)) (refused-row n) R″ out′ put
 
 -- what the next line needs of the rows

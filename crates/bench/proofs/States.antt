@@ -23,6 +23,7 @@ use Rattle.protocol.proofs.Found.{none≢some}
 use Rattle.views.specs.Table.{table}
 use Rattle.views.proofs.Tables.{table-cong}
 use Rattle.statements.specs.declared.Statement.{Statement}
+use Rattle.statements.specs.declared.ReadStatement.{ReadStatement}
 use Rattle.statements.specs.Meaning.{stmtOf}
 use Rattle.pool.specs.declared.Found.the-variants as found
 use Rattle.pool.specs.declared.Placed.{Placed as Answered}
@@ -41,14 +42,14 @@ use Rattle.engine.proofs.Pools.{Located, there, absent, in-pool, grown-pool}
 use Rattle.bench.specs.declared.seat.Replied.{Replied}
 use Rattle.schedule.specs.declared.line.Line.{Line as Held}
 use Rattle.schedule.specs.declared.line.Line.the-variants as is
-use Rattle.schedule.specs.declared.line.Parsed.{Parsed}
+use Rattle.schedule.specs.declared.line.Parsed.the-variants.{Readable}
 use Rattle.bench.specs.declared.state.Setting.{Setting}
 use Rattle.bench.specs.declared.state.Stepped.{Stepped}
-use Rattle.schedule.specs.Line.{Line, setup, all, lie, noStatement}
-use Rattle.schedule.specs.Reading.{lineIs}
+use Rattle.schedule.specs.Line.{Line, setup, all, lie, noStatement, ended}
+use Rattle.schedule.specs.Reading.{meant, Tells, Lying, LiedOf}
 use Rattle.bench.specs.Bench as bench
 use Rattle.bench.specs.Bench.{Seat, emptySeat, Bench, step}
-use Rattle.bench.specs.Seats.{seatIs, benchOf, Distinct, Sound, Grows, Full, Seated, Gives, keptIs, filledIs, SeatedAs, RefusedAs, Keeps, Knows, Needless, Advanced, Fit, seatOf}
+use Rattle.bench.specs.Seats.{seatIs, benchOf, Distinct, Sound, Grows, Full, Seated, Gives, keptIs, filledIs, SeatedAs, RefusedAs, Keeps, Knows, Needless, Advanced, AdvancedBy, Fit, seatOf}
 use Rattle.bench.proofs.Seats.{grows-same, one-grows, one-distinct, pool-size, fill-whole, full-none, all-none}
 
 -- the parts of what a line leaves
@@ -339,7 +340,7 @@ module _ (W : List ℕ) (g : Setting) (c : Controller) (k : ℕ) (b : k < 16) (r
 
 pub all-needless : (W : List ℕ) (g : Setting) (full k : ℕ) (l : Held) → l ≡ is.All k → g .ready ≡ true → poolLen W ≤ full → Needless W g full l
 unfolding Full Whole answerIs
-all-needless W g full k l e q b = subst (Needless W g full) (sym e) (record { steps = λ c m f X x s. idle c m f X x })
+all-needless W g full k l e q b = subst (Needless W g full) (sym e) (record { line = all k; means = refl; steps = idle })
   where
     idle : (c : Controller) → Sound W c → Full (c .statements) full → (X : List Seat) → getD X k emptySeat ≡ seatIs W c
         → step (benchOf (g .ready) (g .faulty) X W) (some (all k)) ≡ record { reply = record { who = k; answer = controller.taken; number = 0 }; bench = benchOf (g .ready) (g .faulty) X W }
@@ -350,8 +351,36 @@ all-needless W g full k l e q b = subst (Needless W g full) (sym e) (record { st
 
 -- ---- the line that was read
 
-pub at-line : {W W′ : List ℕ} {g : Setting} {c : Controller} {r : Stepped} (st : Statement) {p q : Parsed} → p ≡ q → Advanced W g c (seatOf q) (lineIs q (stmtOf st)) r W′ → Advanced W g c (seatOf p) (lineIs p (stmtOf st)) r W′
-at-line {W} {W′} {g} {c} {r} st e a = subst (λ p. Advanced W g c (seatOf p) (lineIs p (stmtOf st)) r W′) (sym e) a
+module _ {T′ : List ℕ} where
+  pub fit-seat : (l : Held) → Fit l T′ → seatOf (Readable l) < 16
+  fit-seat (is.Setup m s f) t = omega arith
+  fit-seat (is.Join k) t = t .tells .0
+  fit-seat (is.Leave k) t = t .tells .0
+  fit-seat (is.Send k m) t = t .tells .0
+  fit-seat (is.Give k n) t = t .tells .0
+  fit-seat (is.All k) t = t .tells .0
+  fit-seat (is.Turn k) t = t .tells .0
+  fit-seat is.Lie t = omega arith
 
-pub fit-at : {p q : Parsed} {st : Statement} → Fit p st → p ≡ q → seatOf q < 16
-fit-at f e = subst (λ p. seatOf p < 16) e (f .seat)
+  pub fit-at : {l m : Held} → Fit l T′ → l ≡ m → seatOf (Readable m) < 16
+  fit-at {l} {m} f e = subst (λ x. seatOf (Readable x) < 16) e (fit-seat l f)
+
+  pub fit-lie : {l : Held} → Fit l T′ → l ≡ is.Lie → Lying T′
+  fit-lie f e = record { tells = subst (λ x. Tells (meant x) (ended T′)) e (f .tells) }
+
+module _ {W W′ : List ℕ} {g : Setting} {c : Controller} {r : Stepped} (T′ : List ℕ) where
+  pub at-line : {l m : Held} {line : Line} → Fit l T′ → l ≡ m → meant m ≡ some line → Advanced W g c (seatOf (Readable m)) (some line) r W′ → AdvancedBy W g c (seatOf (Readable l)) T′ r W′
+  at-line {l} {m} {line} f e q a = record {
+    line = line;
+    reads = subst (λ o. Tells o (ended T′)) (ap meant e ∙ q) (f .tells);
+    advanced = subst (λ x. Advanced W g c (seatOf (Readable x)) (some line) r W′) (sym e) a;
+  }
+
+  pub at-lie : {l : Held} → l ≡ is.Lie → AdvancedBy W g c 0 T′ r W′ → AdvancedBy W g c (seatOf (Readable l)) T′ r W′
+  at-lie e a = subst (λ x. AdvancedBy W g c (seatOf (Readable x)) T′ r W′) (sym e) a
+
+  pub at-told : (l : ReadStatement) → LiedOf T′ l → l .ok ≡ true → Advanced W g c 0 (some (lie (stmtOf (l .statement)))) r W′ → AdvancedBy W g c 0 T′ r W′
+  at-told l of e a = record { line = lie (stmtOf (l .statement)); reads = of .told e; advanced = a }
+
+  pub at-untold : (l : ReadStatement) → LiedOf T′ l → l .ok ≡ false → Advanced W g c 0 (some noStatement) r W′ → AdvancedBy W g c 0 T′ r W′
+  at-untold l of e a = record { line = noStatement; reads = of .untold e; advanced = a }

@@ -16,8 +16,6 @@ use Rattle.protocol.specs.Pool.{hasRoom}
 use Rattle.protocol.specs.Turn.{turn as turnOf}
 use Rattle.views.specs.Table.{table}
 use Rattle.statements.specs.declared.Binding.the-variants.{Unbound}
-use Rattle.statements.specs.declared.Statement.{Statement}
-use Rattle.statements.specs.Meaning.{stmtOf}
 use Rattle.pool.specs.declared.Record.{Record}
 use Rattle.pool.specs.Pool.{stmtAt, poolLen, recordOf}
 use Rattle.engine.specs.declared.Controller.{Controller}
@@ -40,8 +38,8 @@ use Rattle.bench.specs.declared.seat.Replied.{Replied}
 use Rattle.bench.specs.declared.seat.Missing.{Missing}
 use Rattle.bench.specs.declared.state.Setting.{Setting}
 use Rattle.bench.specs.declared.state.Stepped.{Stepped}
-use Rattle.schedule.specs.Line.{Line}
-use Rattle.schedule.specs.Reading.{lineIs}
+use Rattle.schedule.specs.Line.{Line, ended, Reads}
+use Rattle.schedule.specs.Reading.{meant, Tells}
 use Rattle.bench.specs.Bench.{Seat, emptySeat, Bench, Reply, step}
 use Rattle.bench.specs.Bench as bench
 use Rattle.bench.specs.Writing.{rowOf}
@@ -192,14 +190,11 @@ seatOf (Readable (is.Give k n)) = k
 seatOf (Readable (is.All k)) = k
 seatOf (Readable (is.Turn k)) = k
 seatOf (Readable is.Lie) = 0
-seatOf (Readable is.NoStatement) = 0
 seatOf Unreadable = 0
 
--- What reading a line promises of its numbers.
-pub record Fit (p : Parsed) (st : Statement) : Type 0 where
-  pub seat : seatOf p < 16
-  pub origin : p ≡ Readable is.Lie → st .origin < 16
-  pub short : st .history .len ≤ 16
+-- The line l was read from the text T.
+pub record Fit (l : Held) (T : List ℕ) : Type 0 where
+  pub tells : Tells (meant l) (ended T)
 
 -- The seats after a line: a setup that is taken starts all of them, every other line changes at most one.
 abbrev pub seatsAfter : Stepped → List ℕ → ℕ → List Seat → List Seat
@@ -243,8 +238,10 @@ pub record Knows (c : Controller) (full : ℕ) (s : Stepped) : Type 0 where
 
 -- The line leaves every bench as it is and answers taken with 0, where the controller that it names has every number below full.
 pub record Needless (W : List ℕ) (g : Setting) (full : ℕ) (l : Held) : Type 0 where
-  pub steps : (c : Controller) → Sound W c → Full (c .statements) full → (X : List Seat) → getD X (seatOf (Readable l)) emptySeat ≡ seatIs W c → (s : Stmt)
-      → step (benchOf (g .ready) (g .faulty) X W) (lineIs (Readable l) s)
+  pub line : Line
+  pub means : meant l ≡ some line
+  pub steps : (c : Controller) → Sound W c → Full (c .statements) full → (X : List Seat) → getD X (seatOf (Readable l)) emptySeat ≡ seatIs W c
+      → step (benchOf (g .ready) (g .faulty) X W) (some line)
       ≡ record { reply = record { who = seatOf (Readable l); answer = taken; number = 0 }; bench = benchOf (g .ready) (g .faulty) X W }
 
 -- The line l on a bench that has c at seat k.
@@ -257,6 +254,12 @@ pub record Advanced (W : List ℕ) (g : Setting) (c : Controller) (k : ℕ) (l :
   -- A seat that is not stored is as it was.
   pub same : r .fresh ≡ false → r .changed ≡ false → seatIs W′ (r .controller) ≡ seatIs W c
   pub begun : r .fresh ≡ true → (poolLen W′ ≡ 0) × (setupAllowed 0 (r .setting .members) (r .setting .sender) ≡ true)
+
+-- The text T reads as a line, which does this on a bench that has c at seat k.
+pub record AdvancedBy (W : List ℕ) (g : Setting) (c : Controller) (k : ℕ) (T : List ℕ) (r : Stepped) (W′ : List ℕ) : Type 0 where
+  pub line : Line
+  pub reads : Reads (ended T) (some line)
+  pub advanced : Advanced W g c k (some line) r W′
 
 -- ---- rows
 

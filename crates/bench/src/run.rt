@@ -91,7 +91,6 @@ fn seat_of(line: Line) -> usize
         Line::All(k) => k as usize,
         Line::Turn(k) => k as usize,
         Line::Lie => 0,
-        Line::NoStatement => 0,
     }
 }
 
@@ -150,9 +149,9 @@ fn run_lines(schedule: &[u8], rows: &mut [u8]) -> usize
             n += 1;
             continue;
         }
-        let st = read.statement;
         let named = seats[k];
-        let s = state::step(named, &mut words, setting, line, st, known);
+        let end = at + read.next - 1;
+        let s = state::step(named, &mut words, setting, line, &schedule[at..end], known);
         full[k] = s.full;
         let a = s.answer;
         // Before the row is put, so that a line which changes nothing copies no controller.

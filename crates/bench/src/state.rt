@@ -7,8 +7,8 @@ ghost use lib.ListN.{length};
 ghost use Rattle.statements.specs.Meaning.{stmtOf};
 ghost use Rattle.schedule.specs.declared.line.Parsed.the-variants.{Readable};
 ghost use Rattle.schedule.specs.Line as lines;
-ghost use Rattle.schedule.specs.Reading.{lineIs};
-ghost use Rattle.bench.specs.Seats.{Sound, Fit, seatOf, numberIs, changesIs, keptIs, filledIs, replied, SeatedAs, RefusedAs, Keeps, Knows, Needless, Advanced};
+ghost use Rattle.schedule.specs.Reading.{Lying};
+ghost use Rattle.bench.specs.Seats.{Sound, Fit, seatOf, numberIs, changesIs, keptIs, filledIs, replied, SeatedAs, RefusedAs, Keeps, Knows, Needless, Advanced, AdvancedBy};
 use crate::lent;
 use crate::seat;
 use crate::seat::Replied;
@@ -19,6 +19,7 @@ use engine::Refusal;
 use pool::Found;
 use pool::POOL_WORDS;
 use pool::Placed;
+use schedule::line;
 use schedule::line::Line;
 use statements::Statement;
 use views::View;
@@ -310,17 +311,37 @@ pub fn lacks_nothing(line: Line, g: Setting, words: &[u64; POOL_WORDS], full: us
     true
 }
 
-// What a line does; c is the controller that it names, or any other where it names none, and its record has every number below `full`.
+// A line that is a lie. Its statement is read here, so that no other line pays for it.
+fn lie_line(
+    c: Controller,
+    words: &mut [u64; POOL_WORDS],
+    g: Setting,
+    text: &[u8],
+    full: usize,
+) -> Stepped
+    requires { ⌜ Sound (now words) c × Lying (now text) ⌝ }
+    ensures { λ r. ⌜ AdvancedBy (now (words .entry)) g c 0 (now (text .entry)) r (now (words .exit)) × Keeps full r ⌝ }
+{
+    let read = line::lied(text);
+    if !read.ok {
+        return no_statement(c, words, g, full);
+    }
+    let st = read.statement;
+    lie(c, words, g, st, full)
+}
+
+// What a line does, which was read from the text; c is the controller that it names, or any other where it names none, and its record has
+// every number below `full`.
 pub fn step(
     c: Controller,
     words: &mut [u64; POOL_WORDS],
     g: Setting,
     line: Line,
-    st: Statement,
+    text: &[u8],
     full: usize,
 ) -> Stepped
-    requires { ⌜ Sound (now words) c × Fit (Readable line) st ⌝ }
-    ensures { λ r. ⌜ Advanced (now (words .entry)) g c (seatOf (Readable line)) (lineIs (Readable line) (stmtOf st)) r (now (words .exit)) × Knows c full r ⌝ }
+    requires { ⌜ Sound (now words) c × Fit line (now text) ⌝ }
+    ensures { λ r. ⌜ AdvancedBy (now (words .entry)) g c (seatOf (Readable line)) (now (text .entry)) r (now (words .exit)) × Knows c full r ⌝ }
 {
     match line {
         Line::Setup(members, sender, faulty) => set_up(c, words, g, members, sender, faulty, full),
@@ -330,7 +351,6 @@ pub fn step(
         Line::Give(k, n) => seated(g, k, seat::give(c, words, g.ready, k, n), full),
         Line::All(k) => give_all(c, words, g, k, full),
         Line::Turn(k) => turned(g, k, lent::lend_turn(c, words), full),
-        Line::Lie => lie(c, words, g, st, full),
-        Line::NoStatement => no_statement(c, words, g, full),
+        Line::Lie => lie_line(c, words, g, text, full),
     }
 }
