@@ -1,3 +1,4 @@
+pub mod Sifted
 pub mod Payloads
 pub mod Backing
 pub mod Reporting

@@ -17,6 +17,7 @@ use Rattle.pool.proofs.Records.{entry, so-far, whole}
 use Rattle.statements.specs.declared.Binding.{Binding}
 use Rattle.statements.specs.declared.Binding.the-variants.{Unbound, Bound, Barred}
 use Rattle.statements.specs.Meaning.{bindingIs}
+use Rattle.evidence.proofs.Sifted.{filter-append}
 
 -- ---- the binding that a report tells
 
@@ -65,22 +66,13 @@ both-payload a b m e f = f ∙ ap (λ x. merge (bindingIs x) (bindingIs b)) (sym
 -- ---- all reports, the last first
 
 module _ (p : Stmt → Bool) where
-  filter-append : (k l : List Stmt) → filter p (k ++ l) ≡ filter p k ++ filter p l
-  unfolding filter
-  filter-append [] l = refl
-  filter-append (s ∷ k) l = go (p s) (filter-append k l)
-    where
-      go : (b : Bool) → filter p (k ++ l) ≡ filter p k ++ filter p l → (if b then s ∷ filter p (k ++ l) else filter p (k ++ l)) ≡ (if b then s ∷ filter p k else filter p k) ++ filter p l
-      go true e = ap (λ l. s ∷ l) e
-      go false e = e
-
   merge-append : (b : statement.Binding) (k l : List Stmt) → mergeAll b (k ++ l) ≡ mergeAll (mergeAll b l) k
   unfolding mergeAll
   merge-append b [] l = refl
   merge-append b (s ∷ k) l = ap (merge (bindingOf s)) (merge-append b k l)
 
   merge-step : (b : statement.Binding) (k : List Stmt) (s : Stmt) → mergeAll b (filter p (k ++ (s ∷ []))) ≡ mergeAll (mergeAll b (filter p (s ∷ []))) (filter p k)
-  merge-step b k s = ap (mergeAll b) (filter-append k (s ∷ [])) ∙ merge-append b (filter p k) (filter p (s ∷ []))
+  merge-step b k s = ap (mergeAll b) (filter-append p k (s ∷ [])) ∙ merge-append b (filter p k) (filter p (s ∷ []))
 
   one-out : (b : statement.Binding) (s : Stmt) → p s ≡ false → mergeAll b (filter p (s ∷ [])) ≡ b
   unfolding filter mergeAll

@@ -1,7 +1,7 @@
 -- Laws of reports: each is what one step of a function of reports needs.
 -- Assumes nothing.
 use mathlib.Core.Path.{_≡_, refl, sym, ap, ap₂, subst, _∙_}
-use mathlib.Core.Bool.{Bool, true, false, not, _&&_, _||_, and-true, and-assoc}
+use mathlib.Core.Bool.{Bool, true, false, not, _&&_, _||_, and-true, and-false, and-assoc}
 use mathlib.Core.List.{List}
 use Prim.Native.Nat.{ℕ, zero, suc, _+_, _*_, _/_, _%_, _^_, _≤_, _<_, min}
 use native.Mathlib.Decide.{ℕ-discrete}
@@ -11,10 +11,10 @@ use lib.Dec.{T, eqb}
 use lib.ListN.{length, getD}
 use borrow.Author.Tests.{eq-eqb, ne-eqb, ltb-false}
 use Rattle.protocol.specs.Sets.{bit}
-use Rattle.protocol.specs.Lists.{_∈_, any, all, when}
+use Rattle.protocol.specs.Lists.{_∈_, any, all, filter, when}
 use Rattle.protocol.specs.View.{View, Ring, sameView, member, within, below}
 use Rattle.protocol.specs.History.{top, holds}
-use Rattle.protocol.specs.Statement.{Stmt, reportsOn}
+use Rattle.protocol.specs.Statement.{Stmt, isKind, reportsOn}
 use Rattle.protocol.specs.Evidence.{wished, candidate, candidates, greatest, certificates, isConflict, isCandidate, signs, signedByQuorum, prepares, isPrepared, twoPrepares, isCertified, isCounted, isCountedOn, Certificate}
 use Rattle.protocol.proofs.Bits.{bit-zero}
 use Rattle.protocol.proofs.Says.{Says, says-map, says-unique, says-self, says-and, says-eqb, says-all, says-any}
@@ -33,6 +33,7 @@ use Rattle.ranking.specs.Slots.{viewsOf}
 use Rattle.evidence.specs.Evidence.{Settled, bindingHolds, keptHolds, reportedOn, reportedAll, countsBelow}
 use Rattle.ranking.proofs.Members.{table-in}
 use Rattle.evidence.proofs.Backing.{placed}
+use Rattle.evidence.proofs.Sifted.{any-filter, any-same}
 
 -- ---- one member
 
@@ -87,6 +88,40 @@ module _ (sender b : ℕ) (X : List Stmt) (s : Stmt) (e : b ≡ s .binding) wher
   pub binding-free : (b ≡ 1 → ⊥) → (b ≡ 2 → ⊥) → true ≡ bindingHolds sender X s
   unfolding bindingHolds
   binding-free m n = sym (ap₂ (λ x y. (not x || isPrepared sender X (s .payload)) && (not y || twoPrepares sender X)) (ne-eqb _ 1 (λ q. m (e ∙ q))) (ne-eqb _ 2 (λ q. n (e ∙ q))))
+
+-- ---- a set over the reports alone
+
+pub kind-is : (k : ℕ) (s : Stmt) → k ≡ s .kind → eqb k 5 ≡ isKind 5 s
+unfolding isKind
+kind-is k s e = ap (λ x. eqb x 5) e
+
+-- A statement at u that counts: the kind is not asked, so of reports it is `isCountedOn`.
+unfoldable pub countsAt : Ring → ℕ → List Stmt → View → Stmt → Bool
+countsAt R sender X u s = sameView (s .at) u && isCounted R sender X s
+
+module _ (R : Ring) (sender : ℕ) (X : List Stmt) (u : View) where
+  pub at-other : (s : Stmt) → sameView (s .at) u ≡ false → countsAt R sender X u s ≡ false
+  unfolding countsAt
+  at-other s f = ap (λ b. b && isCounted R sender X s) f
+
+  pub at-counted : (s : Stmt) (r : Bool) → sameView (s .at) u ≡ true → r ≡ isCounted R sender X s → r ≡ countsAt R sender X u s
+  unfolding countsAt
+  at-counted s r f c = c ∙ sym (ap (λ b. b && isCounted R sender X s) f)
+
+  swap : (k o a c : Bool) → (k && (o && (a && c))) ≡ (o && ((k && a) && c))
+  swap true o a c = refl
+  swap false o a c = sym (and-false o)
+
+  -- a set over the first n numbers of L, which are the reports of X
+  pub set-of-reports : (W L : List ℕ) (n i r : ℕ) → i ≡ n → recordOf W L n ≡ filter (isKind 5) X → IsSet r (signs (countsAt R sender X u) (recordOf W L i)) → IsSet r (signs (isCountedOn R sender X u) X)
+  unfolding signs countsAt isCountedOn reportsOn isKind
+  set-of-reports W L n i r d e set = record {
+    small = set .small;
+    bits = λ k l.
+        set .bits k l ∙ ap (any (λ s. eqb (s .origin) k && countsAt R sender X u s)) (ap (recordOf W L) d ∙ e) ∙ any-filter (isKind 5) (λ s. eqb (s .origin) k && countsAt R sender X u s) X
+        ∙ any-same (λ s. isKind 5 s && (eqb (s .origin) k && countsAt R sender X u s)) (λ s. eqb (s .origin) k && isCountedOn R sender X u s) X
+        (λ s. swap (eqb (s .kind) 5) (eqb (s .origin) k) (sameView (s .at) u) (isCounted R sender X s));
+  }
 
 -- ---- what the evidence tells
 
@@ -159,20 +194,6 @@ module _ (init sender : ℕ) (X : List Stmt) (e : Evidence) (settled : Settled (
         shift ((member (s .at) (s .origin) && within 16 (s .view) (wished R X)) && all (isCandidate R X) (s .views)) (not (eqb (s .binding) 1) || isPrepared sender X (s .payload)) (not (eqb (s .binding) 2) || twoPrepares sender X) (not (eqb (s .stored) 1) || isCertified R sender X (s .kept))
         ∙ ap₂ (λ w l. (((member (s .at) (s .origin) && within 16 (s .view) w) && l) && bindingHolds sender X s) && keptHolds R sender X s) (sym (settled .of .wished))
         (all-candidates (s .views) ∙ ap (λ l. holds l (s .views)) (sym (settled .of .candidates (settled .agree) (settled .few))))
-
-    -- ---- on u
-
-    pub on-kind : (u : View) (k : ℕ) → k ≡ s .kind → (k ≡ 5 → ⊥) → false ≡ isCountedOn R sender X u s
-    unfolding isCountedOn reportsOn
-    on-kind u k f n = sym (ap (λ b. (b && sameView (s .at) u) && isCounted R sender X s) (ne-eqb _ 5 (λ q. n (f ∙ q))))
-
-    pub on-other : (u : View) → sameView (s .at) u ≡ false → false ≡ isCountedOn R sender X u s
-    unfolding isCountedOn reportsOn
-    on-other u f = sym (fails (says-and (says-and (says-eqb {m = s .kind} {n = 5}) (says-same {u = s .at} {v = u})) (says-self (isCounted R sender X s))) (λ p. subst T f (says-same .complete (p .0 .1))))
-
-    pub on-counted : (u : View) (k : ℕ) (r : Bool) → k ≡ s .kind → k ≡ 5 → sameView (s .at) u ≡ true → r ≡ isCounted R sender X s → r ≡ isCountedOn R sender X u s
-    unfolding isCountedOn reportsOn
-    on-counted u k r f g h c = c ∙ sym (ap₂ (λ a b. (a && b) && isCounted R sender X s) (eq-eqb _ 5 (sym f ∙ g)) h)
 
   -- ---- below the top
 

@@ -4,15 +4,16 @@ use mathlib.Core.Path.{_≡_}
 use mathlib.Core.Bool.{Bool, true, false, not, _&&_, _||_}
 use mathlib.Core.List.{List}
 use mathlib.Core.Option.{Option}
-use Prim.Native.Nat.{ℕ}
+use Prim.Native.Nat.{ℕ, _≤_}
 use lib.Dec.{eqb, ltb}
 use lib.ListN.{length}
 use Rattle.protocol.specs.Lists.{any, all, filter, first, when}
 use Rattle.protocol.specs.View.{View, Ring, below}
 use Rattle.protocol.specs.History.{top}
-use Rattle.protocol.specs.Statement.{Stmt}
+use Rattle.protocol.specs.Statement.{Stmt, isKind}
 use Rattle.protocol.specs.Evidence.{wished, candidates, greatest, certificates, isConflict, isStored, signedByQuorum, isPrepared, twoPrepares, isCertified, isCountedOn}
 use Rattle.views.specs.View.{viewOf}
+use Rattle.pool.specs.Pool.{recordOf}
 use Rattle.ranking.specs.Slots.{viewsOf}
 use Rattle.evidence.specs.declared.Evidence.{Evidence}
 
@@ -37,6 +38,11 @@ pub record Settled (R : Ring) (sender : ℕ) (X : List Stmt) (e : Evidence) : Ty
   pub few : e .many ≡ false
 
 -- ---- reports
+
+-- The first n numbers of L are those of the reports of X.
+pub record ReportList (X : List Stmt) (W L : List ℕ) (n : ℕ) : Type 0 where
+  pub most : n ≤ 512
+  pub are : recordOf W L n ≡ filter (isKind 5) X
 
 -- The binding of report s is explained by what the sender prepared, and the payload that it kept by a certificate.
 

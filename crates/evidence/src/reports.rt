@@ -1,7 +1,7 @@
 // Which reports count, whether each view below the top has a quorum of them, and what they bind to.
 ghost use mathlib.Core.Path.{_≡_};
 ghost use Prim.Native.Nat.{_≤_, _<_};
-ghost use lib.ListN.{getD};
+ghost use lib.ListN.{length, getD};
 ghost use Rattle.protocol.specs.Sets.{bit};
 ghost use Rattle.protocol.specs.Lists.{any};
 ghost use Rattle.protocol.specs.View.{sameView, member};
@@ -14,7 +14,7 @@ ghost use Rattle.pool.specs.Pool.{stmtAt, recordOf};
 ghost use Rattle.ranking.specs.Slots.{viewsOf};
 ghost use Rattle.statements.specs.Meaning.{bindingIs};
 ghost use Rattle.evidence.specs.Shown.{PreparedList};
-ghost use Rattle.evidence.specs.Evidence.{Settled, bindingHolds, keptHolds, reportedOn, reportedAll, countsBelow, reportsBelow};
+ghost use Rattle.evidence.specs.Evidence.{Settled, ReportList, bindingHolds, keptHolds, reportedOn, reportedAll, countsBelow, reportsBelow};
 use crate::Evidence;
 use crate::binding;
 use crate::prepares;
@@ -168,6 +168,38 @@ fn counts(
     kept_holds(words, ids, len, init, sender, e, s)
 }
 
+// How many numbers there is room for: a proof that one was written asks for it.
+fn room(listed: &[u16; 512]) -> usize
+    ensures { λ r. ⌜ length (now (listed .entry)) ≡ 512 ⌝ }
+{
+    let s = &listed[..];
+    s.len()
+}
+
+// Lists the reports of the record, which are few, so that what asks for reports reads no others. Returns how many there are.
+// Every number is written, and stays only if it is that of a report, so that the loop has no branch.
+fn reports_in(
+    words: &[u64; POOL_WORDS],
+    ids: &[u16; 512],
+    len: usize,
+    listed: &mut [u16; 512],
+) -> usize
+    ensures { λ r. ⌜ ReportList (recordOf (now (words .entry)) (now (ids .entry)) len) (now (words .entry)) (now (listed .exit)) r ⌝ }
+{
+    room(listed);
+    let end = pool::limit(len);
+    let mut count = 0usize;
+    let mut i = 0usize;
+    while i < end {
+        let s = ids[i];
+        let hit = pool::kind(words, s) == 5;
+        listed[count] = s;
+        count += hit as usize;
+        i += 1;
+    }
+    count
+}
+
 // Who signed a report on u that counts.
 fn reporters(
     words: &[u64; POOL_WORDS],
@@ -178,20 +210,17 @@ fn reporters(
     e: Evidence,
     prepared: &[u64; 512],
     np: usize,
+    listed: &[u16; 512],
+    count: usize,
     u: u32,
 ) -> u32
-    requires { ⌜ Settled (ring init) sender (recordOf (now words) (now ids) len) e × PreparedList sender (recordOf (now words) (now ids) len) (now prepared) np ⌝ }
+    requires { ⌜ Settled (ring init) sender (recordOf (now words) (now ids) len) e × PreparedList sender (recordOf (now words) (now ids) len) (now prepared) np × ReportList (recordOf (now words) (now ids) len) (now words) (now listed) count ⌝ }
     ensures { λ r. ⌜ IsSet r (signs (isCountedOn (ring init) sender (recordOf (now (words .entry)) (now (ids .entry)) len) (viewOf u)) (recordOf (now (words .entry)) (now (ids .entry)) len)) ⌝ }
 {
-    let end = pool::limit(len);
     let mut seen: u32 = 0;
     let mut i = 0usize;
-    while i < end {
-        let s = ids[i];
-        if pool::kind(words, s) != 5 {
-            i += 1;
-            continue;
-        }
+    while i < count {
+        let s = listed[i];
         if pool::at(words, s) != u {
             i += 1;
             continue;
@@ -213,16 +242,30 @@ fn is_reported_on(
     e: Evidence,
     prepared: &[u64; 512],
     np: usize,
+    listed: &[u16; 512],
+    count: usize,
     t: u32,
     u: u32,
 ) -> bool
-    requires { ⌜ Settled (ring init) sender (recordOf (now words) (now ids) len) e × PreparedList sender (recordOf (now words) (now ids) len) (now prepared) np × (viewOf t ≡ top (ring init) (viewsOf (e .greatest) (e .length))) ⌝ }
+    requires { ⌜ Settled (ring init) sender (recordOf (now words) (now ids) len) e × PreparedList sender (recordOf (now words) (now ids) len) (now prepared) np × ReportList (recordOf (now words) (now ids) len) (now words) (now listed) count × (viewOf t ≡ top (ring init) (viewsOf (e .greatest) (e .length))) ⌝ }
     ensures { λ r. ⌜ r ≡ reportedOn (ring init) sender (recordOf (now (words .entry)) (now (ids .entry)) len) (viewOf u) ⌝ }
 {
     if !views::below_view(u, t) {
         return true;
     }
-    let seen = reporters(words, ids, len, init, sender, e, prepared, np, u);
+    let seen = reporters(
+        words,
+        ids,
+        len,
+        init,
+        sender,
+        e,
+        prepared,
+        np,
+        listed,
+        count,
+        u,
+    );
     views::quorum_in(u, seen)
 }
 
@@ -240,13 +283,28 @@ pub fn reported(
 {
     let mut prepared = [0u64; 512];
     let np = prepares::list(words, ids, len, sender, &mut prepared);
+    let mut listed = [0u16; 512];
+    let count = reports_in(words, ids, len, &mut listed);
     let list = e.greatest;
     let n = e.length;
     let t = top_of(&list, n, init);
     let mut i = 0usize;
     while i < n {
         let u = view_in(&list, i);
-        if !is_reported_on(words, ids, len, init, sender, e, &prepared, np, t, u) {
+        if !is_reported_on(
+            words,
+            ids,
+            len,
+            init,
+            sender,
+            e,
+            &prepared,
+            np,
+            &listed,
+            count,
+            t,
+            u,
+        ) {
             return false;
         }
         i += 1;

@@ -4,16 +4,14 @@ use mathlib.Core.Path.{_≡_, refl, sym, ap, ap₂, _∙_}
 use mathlib.Core.Bool.{Bool, true, false, _&&_, _||_, and-comm, and-assoc, true≢false}
 use mathlib.Core.List.{List, [], _∷_, _++_, append-nil}
 use mathlib.Core.Option.{Option, some, none}
-use Prim.Native.Nat.{ℕ, zero, suc, _+_, _^_, _≤_, _<_, min}
+use Prim.Native.Nat.{ℕ, zero, suc, _+_, _≤_, _<_, min}
 use native.Mathlib.Decide.{decLt}
 use native.Mathlib.Numerals.{add-one}
 use native.Mathlib.Omega.{arith}
-use mir.Val.{boolByte}
 use lib.Dec.{T, eqb}
 use lib.ListN.{length, getD, set, length-set}
-use lib.Seq.{getD-set-same, getD-set-other}
-use borrow.Author.Tests.{eq-eqb, ne-eqb, eqb-true, eqb-false}
-use Rattle.protocol.specs.Lists.{if_then_else_, any, find}
+use borrow.Author.Tests.{eq-eqb, ne-eqb, eqb-true}
+use Rattle.protocol.specs.Lists.{if_then_else_, any, filter, find}
 use Rattle.protocol.specs.View.{View, sameView}
 use Rattle.protocol.specs.Statement.{Stmt, sameStmt, isKind}
 use Rattle.protocol.specs.Evidence.{prepares}
@@ -24,11 +22,12 @@ use Rattle.views.specs.declared.History.{History}
 use Rattle.views.specs.Table.{table}
 use Rattle.views.specs.View.{viewOf}
 use Rattle.views.specs.Held.{viewIs, heldAt, viewsIs}
-use Rattle.views.proofs.Tables.{any-zero, any-more, table-cong}
+use Rattle.views.proofs.Tables.{any-zero, any-more}
 use Rattle.views.proofs.Held.{views-of, cut-is}
-use Rattle.pool.specs.Pool.{stmtAt, recordOf}
+use Rattle.pool.specs.Pool.{recordOf}
 use Rattle.pool.proofs.Records as records
 use Rattle.ranking.specs.Slots.{viewsOf}
+use Rattle.evidence.proofs.Sifted.{any-among}
 use Rattle.rules.specs.Rules.{ownKind, ownAt, Owns, firstPrepare}
 
 -- ---- one statement
@@ -80,70 +79,17 @@ module _ {X Y : List Stmt} {k : ℕ} (y : Owns X Y k) where
   pub owns-at : (kind : ℕ) (t : View) → any (ownAt k kind t) Y ≡ any (ownAt k kind t) X
   owns-at kind t = y .asked (ownAt k kind t) (λ s e. at-own s k kind t e)
 
-or-none : (b : Bool) → (b || false) ≡ b
-or-none true = refl
-or-none false = refl
+-- The statement is one of controller k.
+unfoldable pub isOf : ℕ → Stmt → Bool
+isOf k s = eqb (s .origin) k
 
--- the first m numbers of J are the statements of k among the first i numbers of ids
-pub record Gathered (W ids J : List ℕ) (k i m : ℕ) : Type 0 where
-  pub size : length J ≡ 512
-  pub owns : Owns (recordOf W ids i) (recordOf W J m) k
+pub of-is : (o k : ℕ) (s : Stmt) → o ≡ s .origin → eqb o k ≡ isOf k s
+unfolding isOf
+of-is o k s e = ap (λ x. eqb x k) e
 
-pub gathered-none : {W ids J : List ℕ} {k : ℕ} → length J ≡ 512 → Gathered W ids J k 0 0
-gathered-none {W} {ids} {J} e = record { size = e; owns = record { asked = λ p h. records.none-first W J p ∙ sym (records.none-first W ids p) } }
-
--- a test that only statements of k pass
-not-own : (p : Stmt → Bool) (s : Stmt) (k : ℕ) → (p s ≡ true → s .origin ≡ k) → (s .origin ≡ k → ⊥) → p s ≡ false
-not-own p s k h d = go (p s) refl
-  where
-    go : (b : Bool) → p s ≡ b → p s ≡ false
-    go true e = absurd (d (h e))
-    go false e = e
-
--- one more, where the test passes
-
-pub byte-one : (b : Bool) → boolByte b ≤ 1
-byte-one true = omega arith
-byte-one false = omega arith
-
-pub more-fits : (m : ℕ) (b : Bool) → m ≤ 512 → m + boolByte b < 2 ^ 64
-more-fits m b h = omega (arith, byte-one b)
-
-module _ {W ids J : List ℕ} {k i m : ℕ} (l : i < 512) (h : m ≤ i) (g : Gathered W ids J k i m) where
-  abbrev more : List ℕ
-  more = set J m (getD ids i 0)
-
-  before : recordOf W more m ≡ recordOf W J m
-  before =
-      records.so-far W more m (omega arith) ∙ table-cong m (records.entry W more) (records.entry W J) (λ j b. ap (stmtAt W) (getD-set-other J m j (getD ids i 0) 0 (λ q. omega arith)))
-      ∙ sym (records.so-far W J m (omega arith))
-
-  same-first : (p : Stmt → Bool) → ((s : Stmt) → p s ≡ true → s .origin ≡ k) → any p (recordOf W more m) ≡ any p (recordOf W ids i)
-  same-first p q = ap (any p) before ∙ g .owns .asked p q
-
-  passed : (records.entry W ids i .origin ≡ k → ⊥) → Owns (recordOf W ids (i + 1)) (recordOf W more (m + 0)) k
-  passed d = record {
-    asked = λ p q. let e : m + 0 ≡ m = omega arith in
-        ap (λ x. any p (recordOf W more x)) e ∙ same-first p q ∙ sym (or-none (any p (recordOf W ids i)))
-        ∙ ap (λ b. any p (recordOf W ids i) || b) (sym (not-own p (records.entry W ids i) k (q (records.entry W ids i)) d)) ∙ sym (records.any-next W ids p i l);
-  }
-
-  taken : Owns (recordOf W ids (i + 1)) (recordOf W more (m + 1)) k
-  taken = record {
-    asked = λ p q.
-        records.any-next W more p m (omega arith) ∙ ap₂ _||_ (same-first p q) (ap (λ x. p (stmtAt W x)) (getD-set-same J m (getD ids i 0) 0 (omega (arith, g .size))))
-        ∙ sym (records.any-next W ids p i l);
-  }
-
-  either : (b : Bool) → eqb (records.entry W ids i .origin) k ≡ b → Owns (recordOf W ids (i + 1)) (recordOf W more (m + boolByte b)) k
-  either true e = taken
-  either false e = passed (eqb-false (records.entry W ids i .origin) k e)
-
-  pub gathered-next : (o : ℕ) → o ≡ records.entry W ids i .origin → Gathered W ids (set J m (getD ids i 0)) k (i + 1) (m + boolByte (eqb o k))
-  gathered-next o e = record { size = length-set J m (getD ids i 0) ∙ g .size; owns = either (eqb o k) (ap (λ x. eqb x k) (sym e)) }
-
-pub gathered-whole : {W ids J : List ℕ} {k i m end : ℕ} (len : ℕ) → i ≡ end → end ≡ min len 512 → Gathered W ids J k i m → Owns (recordOf W ids len) (recordOf W J m) k
-gathered-whole {W} {ids} {i = i} len d e g = rw (records.whole W ids len i (d ∙ e)) at (g .owns)
+pub owns-all : {X Y : List Stmt} {k : ℕ} → Y ≡ filter (isOf k) X → Owns X Y k
+unfolding isOf
+owns-all {X} {k = k} e = record { asked = λ p h. ap (any p) e ∙ any-among (isOf k) p X (λ s t. eq-eqb (s .origin) k (h s t)) }
 
 -- ---- the first that is found
 

@@ -7,4 +7,4 @@ use Rattle.evidence.proofs.reports.is_reported_on.Tie as tie
 pub is-reported-on-spec : {M : Type 1} → statement M
 is-reported-on-spec =
     tie.close
-    (tie.spec (λ c κs. search needs) (λ c. laws.reported-above _ _ _ _ (c .before .before .pre .0) _ (c .before .before .pre .2) _ _ (c .before .below-view .ensures) (not-true _ (c .if1 .taken))) (λ c κs. (c .before .before .pre .0, c .before .before .pre .1)) (λ c κs. search needs) (λ c. laws.reported-quorum _ _ _ _ (c .before .before .before .before .pre .0) _ (c .before .before .before .before .pre .2) _ _ _ _ (c .before .before .before .below-view .ensures) (not-false _ (c .before .before .if1 .left)) (c .before .reporters .ensures) (c .quorum-in .ensures)))
+    (tie.spec (λ c κs. search needs) (λ c. laws.reported-above _ _ _ _ (c .before .before .pre .0) _ (c .before .before .pre .3) _ _ (c .before .below-view .ensures) (not-true _ (c .if1 .taken))) (λ c κs. (c .before .before .pre .0, c .before .before .pre .1, c .before .before .pre .2)) (λ c κs. search needs) (λ c. laws.reported-quorum _ _ _ _ (c .before .before .before .before .pre .0) _ (c .before .before .before .before .pre .3) _ _ _ _ (c .before .before .before .below-view .ensures) (not-false _ (c .before .before .if1 .left)) (c .before .reporters .ensures) (c .quorum-in .ensures)))

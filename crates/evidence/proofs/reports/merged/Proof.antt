@@ -20,7 +20,7 @@ Inv-loop words ids len init sender e prepared np t b₀ i₀ b i = (i ≤ 512) �
 abbrev μ-loop : tie.MeasureT-loop
 μ-loop words ids len init sender e prepared np t b₀ i₀ b i = i
 
--- src/reports.rt:324:5
+-- src/reports.rt:365:5
 loop-holds : tie.Need-loop-holds Inv-loop μ-loop
 unfolding reportsBelow
 loop-holds c = (c .limit .ensures .1, laws.merge-first _ _ _ _ _ _ (c .limit .ensures .0))

@@ -15,25 +15,25 @@ use Rattle.evidence.proofs.reports.reported.Statement.{statement}
 use Rattle.evidence.proofs.reports.reported.Tie as tie
 
 abbrev Inv-loop : tie.InvT-loop
-Inv-loop words ids len init sender e prepared np list n t i₀ i = (i ≤ n) × (all (reportedOn (ring init) sender (recordOf words ids len)) (viewsOf list i) ≡ true)
+Inv-loop words ids len init sender e prepared np listed count list n t i₀ i = (i ≤ n) × (all (reportedOn (ring init) sender (recordOf words ids len)) (viewsOf list i) ≡ true)
 
 abbrev μ-loop : tie.MeasureT-loop
-μ-loop words ids len init sender e prepared np list n t i₀ i = n - i
+μ-loop words ids len init sender e prepared np listed count list n t i₀ i = n - i
 
--- src/reports.rt:264:5
+-- src/reports.rt:292:5
 loop-holds : tie.Need-loop-holds Inv-loop μ-loop
 unfolding viewsOf
 loop-holds c = (omega arith, all-zero _ _)
 
--- src/reports.rt:267:13
+-- src/reports.rt:308:13
 returns : tie.Need-returns Inv-loop μ-loop
 unfolding viewsOf
-returns c = laws.reported-all _ _ _ _ (c .before .before .before .before .before .before .before .before .before .before .before .before .pre) _ (all-miss _ _ _ (c .before .before .before .before .before .loop-test .taken) (ap (λ w. reportedOn (ring (c .before .before .before .before .before .before .before .before .before .before .before .before .args .init)) (c .before .before .before .before .before .before .before .before .before .before .before .before .args .sender) (recordOf (c .before .before .before .before .before .before .before .before .before .before .before .before .args .words .now) (c .before .before .before .before .before .before .before .before .before .before .before .before .args .ids .now) (c .before .before .before .before .before .before .before .before .before .before .before .before .args .len)) (viewOf w)) (sym (c .before .before .before .view-in .ensures)) ∙ sym (c .before .is-reported-on .ensures) ∙ not-true _ (c .if1 .taken)))
+returns c = laws.reported-all _ _ _ _ (c .before .before .before .before .before .before .before .before .before .before .before .before .before .before .before .pre) _ (all-miss _ _ _ (c .before .before .before .before .before .before .loop-test .taken) (ap (λ w. reportedOn (ring (c .before .before .before .before .before .before .before .before .before .before .before .before .before .before .before .args .init)) (c .before .before .before .before .before .before .before .before .before .before .before .before .before .before .before .args .sender) (recordOf (c .before .before .before .before .before .before .before .before .before .before .before .before .before .before .before .args .words .now) (c .before .before .before .before .before .before .before .before .before .before .before .before .before .before .before .args .ids .now) (c .before .before .before .before .before .before .before .before .before .before .before .before .before .before .before .args .len)) (viewOf w)) (sym (c .before .before .before .before .view-in .ensures)) ∙ sym (c .before .is-reported-on .ensures) ∙ not-true _ (c .if1 .taken)))
 
--- src/reports.rt:264:5
+-- src/reports.rt:292:5
 loop-again : tie.Need-loop-again Inv-loop μ-loop
 unfolding viewsOf
-loop-again c = (omega arith, all-more _ _ _ (c .before .before .before .before .before .before .loop .inv .1) (ap (λ w. reportedOn (ring (c .before .before .before .before .before .before .before .before .before .before .before .before .args .init)) (c .before .before .before .before .before .before .before .before .before .before .before .before .args .sender) (recordOf (c .before .before .before .before .before .before .before .before .before .before .before .before .args .words .now) (c .before .before .before .before .before .before .before .before .before .before .before .before .args .ids .now) (c .before .before .before .before .before .before .before .before .before .before .before .before .args .len)) (viewOf w)) (sym (c .before .before .before .view-in .ensures)) ∙ sym (c .before .is-reported-on .ensures) ∙ not-false _ (c .if1 .left)))
+loop-again c = (omega arith, all-more _ _ _ (c .before .before .before .before .before .before .before .loop .inv .1) (ap (λ w. reportedOn (ring (c .before .before .before .before .before .before .before .before .before .before .before .before .before .before .before .args .init)) (c .before .before .before .before .before .before .before .before .before .before .before .before .before .before .before .args .sender) (recordOf (c .before .before .before .before .before .before .before .before .before .before .before .before .before .before .before .args .words .now) (c .before .before .before .before .before .before .before .before .before .before .before .before .before .before .before .args .ids .now) (c .before .before .before .before .before .before .before .before .before .before .before .before .before .before .before .args .len)) (viewOf w)) (sym (c .before .before .before .before .view-in .ensures)) ∙ sym (c .before .is-reported-on .ensures) ∙ not-false _ (c .if1 .left)))
 
 pub reported-spec : {M : Type 1} → statement M
 reported-spec =
@@ -42,12 +42,13 @@ reported-spec =
     Inv-loop
     μ-loop
     (λ c κs. search needs)
-    (λ c κs. laws.length-most _ _ _ _ (c .before .before .before .before .pre))
+    (λ c κs. search needs)
+    (λ c κs. laws.length-most _ _ _ _ (c .before .before .before .before .before .before .pre))
     loop-holds
-    (λ c κs. omega (arith, laws.length-most _ _ _ _ (c .before .before .before .before .before .before .before .before .pre)))
-    (λ c κs. (c .before .before .before .before .before .before .before .before .before .before .pre, c .before .before .before .before .before .before .before .before .list .ensures, c .before .before .before .before .before .top-of .ensures))
+    (λ c κs. omega (arith, laws.length-most _ _ _ _ (c .before .before .before .before .before .before .before .before .before .before .pre)))
+    (λ c κs. (c .before .before .before .before .before .before .before .before .before .before .before .before .before .pre, c .before .before .before .before .before .before .before .before .before .before .before .list .ensures, c .before .before .before .before .before .before .before .before .before .reports-in .ensures, c .before .before .before .before .before .before .top-of .ensures))
     returns
-    (λ c. search needs)
+    (λ c. record { fits = omega (arith, c .before .before .before .before .before .before .loop-test .taken, laws.length-most _ _ _ _ (c .before .before .before .before .before .before .before .before .before .before .before .before .before .before .before .pre)) })
     (λ c. search needs)
     loop-again
-    (λ c. (let q : c .before .loop .i ≡ c .before .before .before .before .before .before .before .args .e .length = omega arith in laws.reported-all _ _ _ _ (c .before .before .before .before .before .before .before .pre) _ (ap (λ k. all (reportedOn (ring (c .before .before .before .before .before .before .before .args .init)) (c .before .before .before .before .before .before .before .args .sender) (recordOf (c .before .before .before .before .before .before .before .args .words .now) (c .before .before .before .before .before .before .before .args .ids .now) (c .before .before .before .before .before .before .before .args .len))) (viewsOf (c .before .before .before .before .before .before .before .args .e .greatest) k)) (sym q) ∙ c .before .loop .inv .1))))
+    (λ c. (let q : c .before .loop .i ≡ c .before .before .before .before .before .before .before .before .before .args .e .length = omega arith in laws.reported-all _ _ _ _ (c .before .before .before .before .before .before .before .before .before .pre) _ (ap (λ k. all (reportedOn (ring (c .before .before .before .before .before .before .before .before .before .args .init)) (c .before .before .before .before .before .before .before .before .before .args .sender) (recordOf (c .before .before .before .before .before .before .before .before .before .args .words .now) (c .before .before .before .before .before .before .before .before .before .args .ids .now) (c .before .before .before .before .before .before .before .before .before .args .len))) (viewsOf (c .before .before .before .before .before .before .before .before .before .args .e .greatest) k)) (sym q) ∙ c .before .loop .inv .1))))
