@@ -17,10 +17,10 @@ use Rattle.engine.specs.declared.Outcome.{Outcome}
 use Rattle.engine.specs.Meaning.{controllerIs, recordIs, poolIs}
 use Rattle.engine.specs.Promise.{Calls, IsRefused, signedOf, addedOf}
 use Rattle.engine.specs.Runs.{Called}
-use Rattle.pekdrav.specs.Statement.{IsStatement}
-use Rattle.pekdrav.specs.Memory.{controllerAt}
-use Rattle.pekdrav.specs.Host.{Hosted, CallOn, SetsUp, Joins, Leaves, Sends, TakesTurn, AddsText, noStatement, CalledAt}
-use Rattle.pekdrav.proofs.Hosting.{is-six}
+use Rattle.host.specs.Statement.{IsStatement}
+use Rattle.host.specs.Memory.{controllerAt}
+use Rattle.host.specs.Host.{Hosted, CallOn, SetsUp, Joins, Leaves, Sends, TakesTurn, AddsText, noStatement, CalledAt}
+use Rattle.host.proofs.Hosting.{is-six}
 
 barred : (c : Controller) (X : List Stmt) → IsRefused (noStatement (controllerIs c) X .answer)
 unfolding noStatement controllerIs

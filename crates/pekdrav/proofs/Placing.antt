@@ -21,9 +21,9 @@ use Rattle.statements.proofs.FieldLaws.{views-table}
 use Rattle.pool.specs.declared.Placed.{Placed}
 use Rattle.pool.specs.Pool.{stmtAt, countOf, viewAt, poolLen, poolOf}
 use Rattle.pool.specs.Changes.{Appended}
-use Rattle.pekdrav.specs.Statement.{IsStatement}
+use Rattle.host.specs.Statement.{IsStatement}
 use Rattle.pekdrav.specs.Pooled.{placeNumber, Put, Cleared, textFits, Texted}
-use Rattle.pekdrav.proofs.Written.{is-statement}
+use Rattle.host.proofs.Written.{is-statement}
 
 pub stayed : (S W : List ℕ) → (IsStatement S → ⊥) → Put S W 513 W
 stayed S W f = record { went = λ s. absurd (f s); refused = λ g. (refl, refl) }

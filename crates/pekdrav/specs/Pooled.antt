@@ -15,7 +15,7 @@ use Rattle.protocol.specs.Statement.{fieldRules}
 use lib.Dec.{T, ltb, leb}
 use lib.ListN.{length, set}
 use lib.Seq.{sets}
-use Rattle.pekdrav.specs.Statement.{IsStatement}
+use Rattle.host.specs.Statement.{IsStatement}
 
 -- The number that is answered for where a statement went.
 abbrev pub placeNumber : Placed → ℕ

@@ -2,9 +2,7 @@
 // 6 refused, and tells in `value` the pool number of what was signed, the entered view's word, the delivered payload, the refusal's number, or 0.
 ghost use Rattle.engine.specs.Promise.{Calls};
 ghost use Rattle.engine.specs.Meaning.{controllerIs};
-ghost use Rattle.pekdrav.specs.Host.{noStatement, Fresh, SetsUp, Joins, Leaves, Sends, TakesTurn, AddsText};
-use crate::answers;
-use crate::held;
+ghost use Rattle.host.specs.Host.{noStatement, Fresh, SetsUp, Joins, Leaves, Sends, TakesTurn, AddsText};
 use engine::Controller;
 use engine::Outcome;
 use engine::Refusal;
@@ -16,7 +14,7 @@ pub extern "C" fn pekdrav_new(fields: &mut [u64; 32], ids: &mut [u16; 512])
     ensures { λ _. ⌜ Fresh (now (fields .exit)) (now (ids .exit)) ⌝ }
 {
     let c = Controller::new();
-    held::store(fields, ids, c);
+    host::store(fields, ids, c);
 }
 
 #[no_mangle]
@@ -30,9 +28,9 @@ pub extern "C" fn pekdrav_setup(
 ) -> u8
     ensures { λ r. ⌜ SetsUp (now (fields .entry)) (now (ids .entry)) number members sender r (now (fields .exit)) (now (ids .exit)) (now (value .exit)) ⌝ }
 {
-    let c = held::load(fields, ids);
+    let c = host::load(fields, ids);
     let o = c.setup(number, members, sender);
-    answers::finish(fields, ids, o, value)
+    host::finish(fields, ids, o, value)
 }
 
 #[no_mangle]
@@ -43,9 +41,9 @@ pub extern "C" fn pekdrav_join(
 ) -> u8
     ensures { λ r. ⌜ Joins (now (fields .entry)) (now (ids .entry)) r (now (fields .exit)) (now (ids .exit)) (now (value .exit)) ⌝ }
 {
-    let c = held::load(fields, ids);
+    let c = host::load(fields, ids);
     let o = c.join();
-    answers::finish(fields, ids, o, value)
+    host::finish(fields, ids, o, value)
 }
 
 #[no_mangle]
@@ -56,9 +54,9 @@ pub extern "C" fn pekdrav_leave(
 ) -> u8
     ensures { λ r. ⌜ Leaves (now (fields .entry)) (now (ids .entry)) r (now (fields .exit)) (now (ids .exit)) (now (value .exit)) ⌝ }
 {
-    let c = held::load(fields, ids);
+    let c = host::load(fields, ids);
     let o = c.leave();
-    answers::finish(fields, ids, o, value)
+    host::finish(fields, ids, o, value)
 }
 
 #[no_mangle]
@@ -70,9 +68,9 @@ pub extern "C" fn pekdrav_send(
 ) -> u8
     ensures { λ r. ⌜ Sends (now (fields .entry)) (now (ids .entry)) payload r (now (fields .exit)) (now (ids .exit)) (now (value .exit)) ⌝ }
 {
-    let c = held::load(fields, ids);
+    let c = host::load(fields, ids);
     let o = c.send(payload);
-    answers::finish(fields, ids, o, value)
+    host::finish(fields, ids, o, value)
 }
 
 // The refusal of what is no statement.
@@ -96,15 +94,15 @@ pub extern "C" fn pekdrav_add(
 ) -> u8
     ensures { λ r. ⌜ AddsText (now (line .entry)) (now (words .entry)) (now (words .exit)) (now (fields .entry)) (now (ids .entry)) r (now (fields .exit)) (now (ids .exit)) (now (value .exit)) ⌝ }
 {
-    let c = held::load(fields, ids);
+    let c = host::load(fields, ids);
     let r = statements::read(line);
     if !r.ok {
         let o = unwritten(c);
-        return answers::finish(fields, ids, o, value);
+        return host::finish(fields, ids, o, value);
     }
     let st = r.statement;
     let o = c.add(words, st);
-    answers::finish(fields, ids, o, value)
+    host::finish(fields, ids, o, value)
 }
 
 #[no_mangle]
@@ -116,7 +114,7 @@ pub extern "C" fn pekdrav_turn(
 ) -> u8
     ensures { λ r. ⌜ TakesTurn (now (words .entry)) (now (words .exit)) (now (fields .entry)) (now (ids .entry)) r (now (fields .exit)) (now (ids .exit)) (now (value .exit)) ⌝ }
 {
-    let c = held::load(fields, ids);
+    let c = host::load(fields, ids);
     let o = c.turn(words);
-    answers::finish(fields, ids, o, value)
+    host::finish(fields, ids, o, value)
 }

@@ -1,5 +1,5 @@
 // A statement's text, read and written again.
-ghost use Rattle.pekdrav.specs.Statement.{Again};
+ghost use Rattle.host.specs.Statement.{Again};
 
 // Writes the text of the statement that `line` is from the start of `out`, and answers its length; 0, and `out` as it was, where `line`
 // is the text of no statement that keeps the field rules or `out` is too short.

@@ -1,14 +1,14 @@
 use borrow.Author.Tests.{not-true, not-false}
-use Rattle.pekdrav.proofs.Hosting.{unread-hosted, add-hosted}
+use Rattle.host.proofs.Hosting.{unread-hosted, add-hosted}
 use borrow.Author.Needs.{needs}
 use Rattle.pekdrav.proofs.calls.pekdrav_add.Statement.{statement}
 use Rattle.pekdrav.proofs.calls.pekdrav_add.Tie as tie
 use Rattle.pekdrav.proofs.calls.pekdrav_add.Reads as reads
 use Rattle.pekdrav.proofs.calls.pekdrav_add.Lts as lts
 use Rattle.engine.proofs.Controller.add.Reads as add-reads
-use Rattle.pekdrav.proofs.answers.finish.Reads as finish-reads
+use Rattle.host.proofs.finish.Reads as finish-reads
 use Rattle.pekdrav.proofs.calls.unwritten.Reads as unwritten-reads
-use Rattle.pekdrav.proofs.held.load.Reads as load-reads
+use Rattle.host.proofs.load.Reads as load-reads
 use Rattle.statements.proofs.read.Reads as read-reads
 
 pub pekdrav-add-spec : {M : Type 1} → statement M

@@ -1,13 +1,13 @@
 use Rattle.protocol.specs.Call as call
-use Rattle.pekdrav.proofs.Hosting.{call-hosted}
+use Rattle.host.proofs.Hosting.{call-hosted}
 use borrow.Author.Needs.{needs}
 use Rattle.pekdrav.proofs.calls.pekdrav_join.Statement.{statement}
 use Rattle.pekdrav.proofs.calls.pekdrav_join.Tie as tie
 use Rattle.pekdrav.proofs.calls.pekdrav_join.Reads as reads
 use Rattle.pekdrav.proofs.calls.pekdrav_join.Lts as lts
 use Rattle.engine.proofs.Controller.join.Reads as join-reads
-use Rattle.pekdrav.proofs.answers.finish.Reads as finish-reads
-use Rattle.pekdrav.proofs.held.load.Reads as load-reads
+use Rattle.host.proofs.finish.Reads as finish-reads
+use Rattle.host.proofs.load.Reads as load-reads
 
 pub pekdrav-join-spec : {M : Type 1} → statement M
 pekdrav-join-spec = tie.close (tie.spec (λ c κs. search needs) (λ c κs. search needs) (λ c κs. search needs) (λ c. call-hosted call.requestJoin _ (c .before .before .before .before .before .load .ensures) (c .before .before .before .before .join .ensures) (c .finish .ensures)))

@@ -1,11 +1,11 @@
-use Rattle.pekdrav.proofs.Hosting.{fresh}
+use Rattle.host.proofs.Hosting.{fresh}
 use borrow.Author.Needs.{needs}
 use Rattle.pekdrav.proofs.calls.pekdrav_new.Statement.{statement}
 use Rattle.pekdrav.proofs.calls.pekdrav_new.Tie as tie
 use Rattle.pekdrav.proofs.calls.pekdrav_new.Reads as reads
 use Rattle.pekdrav.proofs.calls.pekdrav_new.Lts as lts
 use Rattle.engine.proofs.Controller.new.Reads as new-reads
-use Rattle.pekdrav.proofs.held.store.Reads as store-reads
+use Rattle.host.proofs.store.Reads as store-reads
 
 pub pekdrav-new-spec : {M : Type 1} → statement M
 pekdrav-new-spec = tie.close (tie.spec (λ c κs. search needs) (λ c κs. search needs) (λ c. fresh _ _ _ (c .before .before .before .new .ensures) (c .store .ensures)))

@@ -1,13 +1,13 @@
 use Rattle.protocol.specs.Call as call
-use Rattle.pekdrav.proofs.Hosting.{call-hosted}
+use Rattle.host.proofs.Hosting.{call-hosted}
 use borrow.Author.Needs.{needs}
 use Rattle.pekdrav.proofs.calls.pekdrav_send.Statement.{statement}
 use Rattle.pekdrav.proofs.calls.pekdrav_send.Tie as tie
 use Rattle.pekdrav.proofs.calls.pekdrav_send.Reads as reads
 use Rattle.pekdrav.proofs.calls.pekdrav_send.Lts as lts
 use Rattle.engine.proofs.Controller.send.Reads as send-reads
-use Rattle.pekdrav.proofs.answers.finish.Reads as finish-reads
-use Rattle.pekdrav.proofs.held.load.Reads as load-reads
+use Rattle.host.proofs.finish.Reads as finish-reads
+use Rattle.host.proofs.load.Reads as load-reads
 
 pub pekdrav-send-spec : {M : Type 1} → statement M
 pekdrav-send-spec = tie.close (tie.spec (λ c κs. search needs) (λ c κs. search needs) (λ c κs. search needs) (λ c. call-hosted (λ d X. call.requestSend d X (c .before .before .before .before .before .before .before .before .args .payload)) _ (c .before .before .before .before .before .load .ensures) (c .before .before .before .before .send .ensures) (c .finish .ensures)))

@@ -1,12 +1,12 @@
-use Rattle.pekdrav.proofs.Hosting.{turn-hosted}
+use Rattle.host.proofs.Hosting.{turn-hosted}
 use borrow.Author.Needs.{needs}
 use Rattle.pekdrav.proofs.calls.pekdrav_turn.Statement.{statement}
 use Rattle.pekdrav.proofs.calls.pekdrav_turn.Tie as tie
 use Rattle.pekdrav.proofs.calls.pekdrav_turn.Reads as reads
 use Rattle.pekdrav.proofs.calls.pekdrav_turn.Lts as lts
 use Rattle.engine.proofs.Controller.turn.Reads as turn-reads
-use Rattle.pekdrav.proofs.answers.finish.Reads as finish-reads
-use Rattle.pekdrav.proofs.held.load.Reads as load-reads
+use Rattle.host.proofs.finish.Reads as finish-reads
+use Rattle.host.proofs.load.Reads as load-reads
 
 pub pekdrav-turn-spec : {M : Type 1} → statement M
 pekdrav-turn-spec = tie.close (tie.spec (λ c κs. search needs) (λ c κs. search needs) (λ c κs. search needs) (λ c. turn-hosted _ _ _ (c .before .before .before .before .before .before .load .ensures) (c .before .before .before .before .turn .ensures) (c .finish .ensures)))

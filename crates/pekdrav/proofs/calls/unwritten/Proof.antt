@@ -1,5 +1,5 @@
 use borrow.Author.Tests.{not-true, not-false}
-use Rattle.pekdrav.proofs.Hosting.{none-before, none-after}
+use Rattle.host.proofs.Hosting.{none-before, none-after}
 use borrow.Author.Needs.{needs}
 use Rattle.pekdrav.proofs.calls.unwritten.Statement.{statement}
 use Rattle.pekdrav.proofs.calls.unwritten.Tie as tie

@@ -1,6 +1,6 @@
 use mathlib.Core.Path.{sym, _∙_}
 use borrow.Author.Tests.{not-true, not-false}
-use Rattle.pekdrav.proofs.Written.{not-read, not-kept}
+use Rattle.host.proofs.Written.{not-read, not-kept}
 use Rattle.pekdrav.proofs.Placing.{stayed, went-in}
 use borrow.Author.Needs.{needs}
 use Rattle.pekdrav.proofs.pooled.pekdrav_append.Statement.{statement}

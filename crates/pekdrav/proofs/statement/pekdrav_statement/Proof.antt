@@ -1,5 +1,5 @@
 use mathlib.Core.Path.{sym, _∙_}
-use Rattle.pekdrav.proofs.Written.{not-read, not-kept, nothing, again}
+use Rattle.host.proofs.Written.{not-read, not-kept, nothing, again}
 use borrow.Author.Tests.{not-true, not-false}
 use borrow.Author.Needs.{needs}
 use Rattle.pekdrav.proofs.statement.pekdrav_statement.Statement.{statement}

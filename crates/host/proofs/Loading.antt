@@ -1,0 +1,177 @@
+-- Laws of loading a controller and of storing it.
+-- Assumes nothing.
+use Prim.Native.Nat.{ℕ, _+_, _*_, _/_, _%_, _≤_, _<_}
+use native.Mathlib.Numerals.{add-one}
+use native.Mathlib.Omega.{arith}
+use mathlib.Core.Path.{_≡_, refl, sym, ap, ap₂, _∙_}
+use mathlib.Core.Bool.{Bool, true, false}
+use mathlib.Core.List.{List, [], _∷_, _++_}
+use lib.ListN.{length, getD, set, take, drop, replicate, length-set}
+use lib.Seq.{sets, sets-eq, take-all, take-suc, take-suc-set, getD-set-same, getD-set-other, getD-append-add, getD-drop}
+use mir.Val.{boolByte}
+use Rattle.views.specs.Table.{table}
+use Rattle.views.proofs.Tables.{table-cong}
+use Rattle.views.specs.declared.View.{View}
+use Rattle.views.specs.declared.History.{History}
+use Rattle.statements.specs.declared.Binding.{Binding}
+use Rattle.statements.specs.declared.Binding.the-variants.{Unbound, Bound, Barred}
+use Rattle.statements.specs.Meaning.{bindingNumber}
+use Rattle.rules.specs.declared.Send.{Send}
+use Rattle.rules.specs.declared.Send.the-variants.{Nothing, Payload}
+use Rattle.engine.specs.declared.Controller.{Controller}
+use Rattle.host.specs.Memory.{noView, viewIn, wordOf, says, bindingIn, bindingPayload, sendIn, sendNumber, sendPayload, enteredIn, controllerAt, Worded}
+
+-- a view is its word's
+pub word-back : (v : View) (a b : ℕ) → a ≡ v .joined → a < 65536 → b ≡ v .left → b < 65536 → (a + b * 65536 ≡ wordOf v) × (viewIn (a + b * 65536) ≡ v)
+word-back v a b e k f l = (rw (e, f), same (a + b * 65536) (omega arith) (omega arith))
+  where
+    same : (w : ℕ) → w % 65536 ≡ v .joined → w / 65536 % 65536 ≡ v .left → viewIn w ≡ v
+    same w p q i = record { joined = p i; left = q i }
+
+-- View i of the words from word 16 on.
+abbrev storedAt : List ℕ → ℕ → View
+storedAt W i = viewIn (getD W (16 + i) 0)
+
+-- ---- views that are loaded one after the other
+
+-- The first i views of l are those of the words F.
+pub record Loads (F : List ℕ) (l : List View) (i : ℕ) : Type 0 where
+  pub small : i ≤ 16
+  pub long : length l ≡ 16
+  pub are : take i l ≡ table i (storedAt F)
+
+pub load-first : (F : List ℕ) → Loads F (replicate 16 noView) 0
+unfolding table
+load-first F = record { small = omega arith; long = refl; are = refl }
+
+pub load-next : {F : List ℕ} {l : List View} {i : ℕ} (v : View) → Loads F l i → i < 16 → v ≡ viewIn (getD F (16 + i) 0) → Loads F (set l i v) (i + 1)
+unfolding table
+load-next {F} {l} {i} v h m q = record {
+  small = omega arith;
+  long = length-set l i v ∙ h .long;
+  are = rw add-one (take-suc-set l i v (omega arith) ∙ ap₂ (λ s a. s ++ (a ∷ [])) (h .are) q);
+}
+
+pub load-last : {F : List ℕ} {l : List View} {i : ℕ} → Loads F l i → 16 ≤ i → (n : ℕ) → n ≡ getD F 12 0 → record { views = l; len = n } ≡ enteredIn F
+unfolding enteredIn
+load-last {F} {l} {i} h m n e = ap₂ (λ (k : List View) (b : ℕ). record { views = k; len = b }) (all i (omega arith) (h .are)) e
+  where
+    all : (j : ℕ) → j ≡ 16 → take j l ≡ table j (storedAt F) → l ≡ table 16 (storedAt F)
+    all j e a = sym (take-all 16 l (omega (arith, h .long))) ∙ (rw e at a)
+
+-- ---- and stored
+
+-- The first i views of l are those of the words F.
+pub record Stores (l : List View) (F : List ℕ) (i : ℕ) : Type 0 where
+  pub small : i ≤ 16
+  pub long : length F ≡ 32
+  pub are : table i (storedAt F) ≡ take i l
+
+pub store-first : (l : List View) → Stores l (replicate 32 0) 0
+unfolding table
+store-first l = record { small = omega arith; long = refl; are = refl }
+
+pub store-next : {l : List View} {F : List ℕ} {i : ℕ} (w : ℕ) → Stores l F i → length l ≡ 16 → i < 16 → viewIn w ≡ getD l i noView → Stores l (set F (16 + i) w) (i + 1)
+unfolding table
+store-next {l} {F} {i} w s k h q = record {
+  small = omega arith;
+  long = length-set F (16 + i) w ∙ s .long;
+  are =
+      rw add-one
+      (ap₂ (λ t a. t ++ (a ∷ []))
+      (table-cong i (storedAt (set F (16 + i) w)) (storedAt F) (λ p o. ap viewIn (getD-set-other F (16 + i) (16 + p) w 0 (λ z. omega arith))) ∙ s .are)
+      (ap viewIn (getD-set-same F (16 + i) w 0 (omega (arith, s .long))) ∙ q)
+      ∙ sym (take-suc l i noView (omega arith)));
+}
+
+pub store-last : {l : List View} {F : List ℕ} {i : ℕ} → Stores l F i → length l ≡ 16 → 16 ≤ i → Worded l F
+store-last {l} {F} {i} s k h = record { long = s .long; back = all i (omega arith) (s .are) ∙ take-all 16 l (omega arith) }
+  where
+    all : (j : ℕ) → j ≡ 16 → table j (storedAt F) ≡ take j l → table 16 (storedAt F) ≡ take 16 l
+    all j e a = rw e at a
+
+-- ---- a controller
+
+pub loaded : (F I : List ℕ) {init : View} {entered : History} {binding : Binding} {sending : Send} → entered ≡ enteredIn F → init ≡ viewIn (getD F 2 0) → binding ≡ bindingIn (getD F 4 0) (getD F 5 0) → sending ≡ sendIn (getD F 9 0) (getD F 10 0)
+    → record {
+      ready = says (getD F 0 0);
+      number = getD F 1 0 % 256;
+      init = init;
+      sender = getD F 3 0 % 256;
+      entered = entered;
+      binding = binding;
+      delivered = says (getD F 6 0);
+      joining = says (getD F 7 0);
+      leaving = says (getD F 8 0);
+      sending = sending;
+      statements = record { ids = I; len = getD F 11 0 };
+    } ≡ controllerAt F I
+unfolding controllerAt
+loaded F I e v b s i = record {
+  ready = says (getD F 0 0);
+  number = getD F 1 0 % 256;
+  init = v i;
+  sender = getD F 3 0 % 256;
+  entered = e i;
+  binding = b i;
+  delivered = says (getD F 6 0);
+  joining = says (getD F 7 0);
+  leaving = says (getD F 8 0);
+  sending = s i;
+  statements = record { ids = I; len = getD F 11 0 };
+}
+
+says-back : (b : Bool) → says (boolByte b) ≡ b
+says-back true = refl
+says-back false = refl
+
+binding-back : (b : Binding) → bindingIn (bindingNumber b) (bindingPayload b) ≡ b
+binding-back Unbound = refl
+binding-back (Bound m) = refl
+binding-back Barred = refl
+
+send-back : (s : Send) → sendIn (sendNumber s) (sendPayload s) ≡ s
+send-back Nothing = refl
+send-back (Payload m) = refl
+
+number-back : (k a : ℕ) → a ≡ k → a < 256 → a % 256 ≡ k
+number-back k a e l = omega arith
+
+-- what lies after thirteen words
+after-thirteen : (xs F : List ℕ) (i : ℕ) → length xs ≡ 13 → getD (xs ++ drop 13 F) (16 + i) 0 ≡ getD F (16 + i) 0
+after-thirteen xs F i e =
+    ap (λ n. getD (xs ++ drop 13 F) n 0) (let q : 16 + i ≡ length xs + (3 + i) = omega arith in q) ∙ getD-append-add xs (drop 13 F) (3 + i) 0 ∙ getD-drop 13 F (3 + i) 0
+    ∙ ap (λ n. getD F n 0) (let q : 13 + (3 + i) ≡ 16 + i = omega arith in q)
+
+module _ (c : Controller) (F : List ℕ) (number init sender bound payload sends send : ℕ) where
+  abbrev pub words : List ℕ
+  words = boolByte (c .ready) ∷ number ∷ init ∷ sender ∷ bound ∷ payload ∷ boolByte (c .delivered) ∷ boolByte (c .joining) ∷ boolByte (c .leaving) ∷ sends ∷ send ∷ c .statements .len ∷ c .entered .len ∷ []
+
+  pub stored : Worded (c .entered .views) F → (number ≡ c .number) × (number < 256) → viewIn init ≡ c .init → (sender ≡ c .sender) × (sender < 256) → bound ≡ bindingNumber (c .binding) → payload ≡ bindingPayload (c .binding)
+      → sends ≡ sendNumber (c .sending) → send ≡ sendPayload (c .sending) → controllerAt (sets F 0 words) (c .statements .ids) ≡ c
+  unfolding controllerAt enteredIn
+  stored w n v s b m d l = ap (λ G. controllerAt G (c .statements .ids)) (sets-eq words F 0 (omega (arith, w .long))) ∙ same
+    where
+      views : table 16 (λ i. viewIn (getD (words ++ drop 13 F) (16 + i) 0)) ≡ c .entered .views
+      views = table-cong 16 (λ i. viewIn (getD (words ++ drop 13 F) (16 + i) 0)) (storedAt F) (λ i o. ap viewIn (after-thirteen words F i refl)) ∙ w .back
+
+      binding : bindingIn bound payload ≡ c .binding
+      binding = ap₂ bindingIn b m ∙ binding-back (c .binding)
+
+      sending : sendIn sends send ≡ c .sending
+      sending = ap₂ sendIn d l ∙ send-back (c .sending)
+
+      same : controllerAt (words ++ drop 13 F) (c .statements .ids) ≡ c
+      same i = record {
+        ready = says-back (c .ready) i;
+        number = number-back (c .number) number (n .0) (n .1) i;
+        init = v i;
+        sender = number-back (c .sender) sender (s .0) (s .1) i;
+        entered = record { views = views i; len = c .entered .len };
+        binding = binding i;
+        delivered = says-back (c .delivered) i;
+        joining = says-back (c .joining) i;
+        leaving = says-back (c .leaving) i;
+        sending = sending i;
+        statements = c .statements;
+      }

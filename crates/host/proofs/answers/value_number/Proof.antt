@@ -1,0 +1,33 @@
+use mathlib.Core.Path.{sym, ap, _∙_}
+use Rattle.engine.specs.Meaning.{answerIs}
+use Rattle.host.specs.Host.{valueNumber}
+use borrow.Author.Needs.{needs}
+use Rattle.host.proofs.answers.value_number.Statement.{statement}
+use Rattle.host.proofs.answers.value_number.Tie as tie
+use Rattle.host.proofs.answers.value_number.Reads as reads
+use Rattle.host.proofs.answers.value_number.Lts as lts
+use Rattle.host.proofs.answers.refusal_number.Reads as refusal-number-reads
+use Rattle.host.proofs.held.word_of.Reads as word-of-reads
+
+pub value-number-spec : {M : Type 1} → statement M
+unfolding valueNumber answerIs
+value-number-spec =
+    tie.close
+    (tie.spec
+    (λ c. search needs)
+    (λ c. search needs)
+    (λ c. search needs)
+    (λ c. search needs)
+    (λ c κs. search needs)
+    (λ c. search needs)
+    (λ c. search needs)
+    (λ c. search needs)
+    (λ c. search needs)
+    (λ c κs. search needs)
+    (λ c. search needs)
+    (λ c. search needs)
+    (λ c. c .word-of .ensures .0 ∙ sym (ap valueNumber (c .before .before .a2 .given .1)))
+    (λ c. search needs)
+    (λ c. search needs)
+    (λ c. search needs)
+    (λ c. search needs))

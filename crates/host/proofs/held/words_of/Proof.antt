@@ -1,0 +1,33 @@
+use Prim.Native.Nat.{_-_}
+use Rattle.host.proofs.Loading.{Stores, store-first, store-next, store-last}
+use native.Mathlib.Omega.{arith}
+use borrow.Author.Needs.{needs}
+use Rattle.host.proofs.held.words_of.Statement.{statement}
+use Rattle.host.proofs.held.words_of.Tie as tie
+use Rattle.host.proofs.held.words_of.Reads as reads
+use Rattle.host.proofs.held.words_of.Lts as lts
+use Rattle.host.proofs.held.word_of.Reads as word-of-reads
+
+abbrev Inv-loop : tie.InvT-loop
+Inv-loop views words₀ i₀ words i = Stores views words i
+
+abbrev μ-loop : tie.MeasureT-loop
+μ-loop views words₀ i₀ words i = 16 - i
+
+pub words-of-spec : {M : Type 1} → statement M
+words-of-spec =
+    tie.close
+    (tie.spec
+    Inv-loop
+    μ-loop
+    (λ c. store-first _)
+    (λ c. search needs)
+    (λ c. search needs)
+    (λ c κs. search needs)
+    (λ c. search needs)
+    (λ c. search needs)
+    (λ c. search needs)
+    (λ c. search needs)
+    (λ c. search needs)
+    (λ c. store-next _ (c .before .before .before .loop .inv) (c .before .before .before .before .good .0 .1 .0 .1) (omega arith) (c .word-of .ensures .1))
+    (λ c. store-last (c .before .loop .inv) (c .before .before .good .0 .1 .0 .1) (omega arith)))

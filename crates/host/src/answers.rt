@@ -1,0 +1,68 @@
+// What a call answers, as numbers, and the memory after it.
+ghost use mathlib.Core.Path.{_≡_};
+ghost use Rattle.protocol.specs.Controller.{refusalNumber};
+ghost use Rattle.engine.specs.Meaning.{refusalIs};
+ghost use Rattle.host.specs.Host.{answerNumber, valueNumber, Finished};
+use crate::held;
+use engine::Answer;
+use engine::Outcome;
+use engine::Refusal;
+
+fn refusal_number(r: Refusal) -> u64
+    ensures { λ n. ⌜ n ≡ refusalNumber (refusalIs r) ⌝ }
+{
+    match r {
+        Refusal::BadSetup => 1,
+        Refusal::BadStatement => 2,
+        Refusal::Repeated => 3,
+        Refusal::Full => 4,
+        Refusal::BadRequest => 5,
+        Refusal::ManyCandidates => 6,
+        Refusal::Conflict => 7,
+        Refusal::OutOfPlace => 8,
+    }
+}
+
+fn answer_number(a: Answer) -> u8
+    ensures { λ r. ⌜ r ≡ answerNumber a ⌝ }
+{
+    match a {
+        Answer::Taken => 0,
+        Answer::Signed(_) => 1,
+        Answer::Entered(_) => 2,
+        Answer::Delivered(_) => 3,
+        Answer::Left => 4,
+        Answer::Quiet => 5,
+        Answer::Refused(_) => 6,
+    }
+}
+
+fn value_number(a: Answer) -> u64
+    ensures { λ r. ⌜ r ≡ valueNumber a ⌝ }
+{
+    match a {
+        Answer::Taken => 0,
+        Answer::Signed(n) => n as u64,
+        Answer::Entered(v) => held::word_of(v),
+        Answer::Delivered(m) => m,
+        Answer::Left => 0,
+        Answer::Quiet => 0,
+        Answer::Refused(r) => refusal_number(r),
+    }
+}
+
+// Tells the answer of o, and keeps its controller; a refusal leaves the memory as it was.
+pub fn finish(fields: &mut [u64; 32], ids: &mut [u16; 512], o: Outcome, value: &mut [u64; 1]) -> u8
+    ensures { λ r. ⌜ Finished o (now (fields .entry)) (now (ids .entry)) r (now (fields .exit)) (now (ids .exit)) (now (value .exit)) ⌝ }
+{
+    let a = o.answer;
+    let told = [value_number(a)];
+    *value = told;
+    let n = answer_number(a);
+    if n == 6 {
+        return n;
+    }
+    let c = o.controller;
+    held::store(fields, ids, c);
+    n
+}

@@ -1,0 +1,7 @@
+// A controller in memory that a host lends: read before a call, written after it, and the answer told in numbers.
+mod answers;
+mod held;
+
+pub use answers::finish;
+pub use held::load;
+pub use held::store;
