@@ -6,4 +6,3 @@ pub mod Starts
 pub mod Runs
 pub mod One
 pub mod Answers
-pub mod Lending

@@ -139,10 +139,6 @@ Gives W c r =
     ((r .controller ≡ c) × (r .answer ≡ Taken → Full (c .statements) (poolLen W)))
     ⊎ ((r .changed ≡ true) × (r .answer ≡ Taken) × Full (r .controller .statements) (poolLen W))
 
--- A turn of c over the pool W answered a and left d and W′.
-abbrev pub TurnedTo : List ℕ → Controller → Answer → Controller → List ℕ → Type 0
-TurnedTo W c a d W′ = Turns W c (turnOf (controllerIs c) (recordIs W c) (hasRoom (poolIs W))) (record { answer = a; controller = d }) W′
-
 -- The number beside an engine's answer: of a signed statement its own.
 abbrev pub numberIs : Answer → ℕ
 numberIs Taken = 0

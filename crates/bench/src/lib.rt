@@ -1,5 +1,4 @@
 // The bench: a schedule to its rows.
-pub mod lent;
 pub mod row;
 pub mod run;
 pub mod seat;

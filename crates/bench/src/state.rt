@@ -9,7 +9,6 @@ ghost use Rattle.schedule.specs.declared.line.Parsed.the-variants.{Readable};
 ghost use Rattle.schedule.specs.Line as lines;
 ghost use Rattle.schedule.specs.Reading.{Lying};
 ghost use Rattle.bench.specs.Seats.{Sound, Fit, seatOf, numberIs, changesIs, keptIs, filledIs, replied, SeatedAs, RefusedAs, Keeps, Knows, Needless, Advanced, AdvancedBy};
-use crate::lent;
 use crate::seat;
 use crate::seat::Replied;
 use engine::Answer;

@@ -52,12 +52,12 @@ use Rattle.engine.proofs.Controller.turn as turn
 use Rattle.engine.proofs.Controller.turn.Symbol as turn-def
 use Rattle.engine.proofs.Controller.turn.Symbol.{name as #turn}
 use Rattle.engine.proofs.Controller.turn.Met as turn-thm
-use Rattle.bench.specs.Seats.{TurnedTo}
-use Rattle.bench.proofs.Lending.{R, VC, VA}
-use Rattle.bench.proofs.lent.turn_one.Key.{name as #turn-one}
-use Rattle.bench.proofs.lent.turn_one as turn-one
-use Rattle.bench.proofs.lent.turn_one.Statement as stated
-use Rattle.bench.proofs.lent.turn_one.Code as code
+use Rattle.lent.specs.Lent.{TurnedTo}
+use Rattle.lent.proofs.Lending.{R, VC, VA}
+use Rattle.lent.proofs.turn_one.Key.{name as #turn-one}
+use Rattle.lent.proofs.turn_one as turn-one
+use Rattle.lent.proofs.turn_one.Statement as stated
+use Rattle.lent.proofs.turn_one.Code as code
 
 abbrev CtlS : Slot 2
 CtlS = plain (λ _. CT.the-row)

@@ -50,16 +50,16 @@ use Rattle.engine.proofs.Outcome as OT
 use Rattle.engine.proofs.Outcome.Laws as OT′
 use Rattle.engine.proofs.Answer as AT
 use Rattle.engine.proofs.Answer.Laws as AT′
-use Rattle.bench.specs.Seats.{TurnedTo}
-use Rattle.bench.proofs.Lending.{R, VC, VA, lies-in, lies-out}
-use Rattle.bench.proofs.lent.turn_one as turn-one
-use Rattle.bench.proofs.lent.turn_one.Symbol as turn-one-def
-use Rattle.bench.proofs.lent.turn_one.Symbol.{name as #turn-one}
-use Rattle.bench.proofs.lent.turn_one.Met as turn-one-thm
-use Rattle.bench.proofs.lent.lend_turn.Key.{name as #lend-turn}
-use Rattle.bench.proofs.lent.lend_turn as lend-turn
-use Rattle.bench.proofs.lent.lend_turn.Statement as stated
-use Rattle.bench.proofs.lent.lend_turn.Code as code
+use Rattle.lent.specs.Lent.{TurnedTo}
+use Rattle.lent.proofs.Lending.{R, VC, VA, lies-in, lies-out}
+use Rattle.lent.proofs.turn_one as turn-one
+use Rattle.lent.proofs.turn_one.Symbol as turn-one-def
+use Rattle.lent.proofs.turn_one.Symbol.{name as #turn-one}
+use Rattle.lent.proofs.turn_one.Met as turn-one-thm
+use Rattle.lent.proofs.lend_turn.Key.{name as #lend-turn}
+use Rattle.lent.proofs.lend_turn as lend-turn
+use Rattle.lent.proofs.lend_turn.Statement as stated
+use Rattle.lent.proofs.lend_turn.Code as code
 
 abbrev PoolS : Slot 1
 PoolS = ArrayOf (plain (λ _. u64)) (λ κs. tt) 10241
@@ -178,4 +178,4 @@ lend-turn-spec 𝓤 H 𝓜 𝓖 𝓡 =
     entered 𝓤 H (tripleOf 𝓤 H (𝓖 .A) lend-turn.signature (lend-turn.spec 𝓤 H (𝓖 .A) (𝓜 .mem) (𝓡 .run)))
     (tables 𝓤 H 𝓜 𝓡 code.env .C) (tables 𝓤 H 𝓜 𝓡 code.env .Λ) #lend-turn code.function (code.unfolded 𝓤 H 𝓜 𝓡)
     (lend-turn-meets 𝓤 H (𝓖 .A) (givenOf 𝓤 H 𝓜 𝓖) (𝓜 .mem) (𝓡 .run) (tablesOf 𝓤 H 𝓜 (tables 𝓤 H 𝓜 𝓡 code.env))
-    (cited 𝓤 H (TurnOne 𝓤 H (𝓖 .A) (𝓜 .mem) (𝓡 .run)) 𝓜 𝓡 code.env #turn-one turn-one-def.routine code.calls-bench·lent·turn-one (turn-one-thm.met 𝓤 H 𝓜 𝓖 𝓡)))
+    (cited 𝓤 H (TurnOne 𝓤 H (𝓖 .A) (𝓜 .mem) (𝓡 .run)) 𝓜 𝓡 code.env #turn-one turn-one-def.routine code.calls-lent·turn-one (turn-one-thm.met 𝓤 H 𝓜 𝓖 𝓡)))

@@ -1,5 +1,5 @@
 // One controller, lent for its turn.
-ghost use Rattle.bench.specs.Seats.{TurnedTo};
+ghost use Rattle.lent.specs.Lent.{TurnedTo};
 use engine::Answer;
 use engine::Controller;
 use engine::Outcome;
