@@ -2,7 +2,6 @@ pub mod Requests
 pub mod Pools
 pub mod Keeps
 pub mod Performs
-pub mod Chosen
 pub mod Looked
 pub mod Turned
 pub mod Runs

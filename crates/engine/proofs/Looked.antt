@@ -2,20 +2,18 @@
 -- Assumes nothing.
 use mathlib.Core.Path.{_≡_, refl, sym, ap, ap₂, _∙_}
 use mathlib.Core.Bool.{Bool, true, false, not, _&&_}
-use mathlib.Core.List.{List, [], _∷_, List·Memᴰ·not-nil}
-use Prim.Native.Nat.{ℕ, _-_, _≤_, _<_, min}
+use mathlib.Core.List.{List}
+use Prim.Native.Nat.{ℕ, _-_, _<_, min}
 use native.Mathlib.Omega.{arith}
 use lib.Dec.{ltb}
 use lib.ListN.{length, getD}
-use borrow.Author.Tests.{ltb-false}
-use Rattle.protocol.specs.Lists.{_∈_, any, all, when}
+use Rattle.protocol.specs.Lists.{any, all, when}
 use Rattle.protocol.specs.View.{View, Ring, sameView, below}
 use Rattle.protocol.specs.History.{top}
 use Rattle.protocol.specs.Statement.{Stmt}
-use Rattle.protocol.specs.Evidence.{initial, start, agreed, Sealed, candidates, greatest}
+use Rattle.protocol.specs.Evidence.{candidates, greatest}
 use Rattle.protocol.specs.Controller as protocol
 use Rattle.protocol.specs.Turn.{G, T, hasEntered, stands, certificate}
-use Rattle.protocol.proofs.Asked.{candidates-exact, greatest-holds}
 use Rattle.views.specs.declared.View as held
 use Rattle.views.specs.declared.History.{History}
 use Rattle.views.specs.View.{viewOf}
@@ -25,31 +23,20 @@ use Rattle.views.proofs.Histories.{top-some}
 use Rattle.evidence.specs.declared.Evidence.{Evidence}
 use Rattle.evidence.specs.Evidence.{EvidenceOf, Settled}
 use Rattle.ranking.specs.Slots.{viewsOf}
+use Rattle.order.proofs.Counts.{some-view}
 use Rattle.engine.specs.declared.Controller.{Controller}
 use Rattle.rules.specs.declared.Sight.{Sight}
 use Rattle.engine.specs.Meaning.{controllerIs}
-use Rattle.rules.specs.Rules.{SightOf, Seen}
+use Rattle.rules.specs.Rules.{SightOf}
 use Rattle.engine.specs.Looks.{notAbove, Looks}
-
-some-in : {A : Type 0} {a : A} (l : List A) → a ∈ l → 0 < length l
-some-in [] m = absurd (List·Memᴰ·not-nil m)
-some-in (x ∷ l) m = omega arith
 
 views-count : (h : History) → length (viewsIs h) ≡ min (h .len) 16
 unfolding viewsIs
 views-count h = table-length (min (h .len) 16) (heldAt (h .views))
 
-slots-count : (W : List ℕ) (n : ℕ) → length (viewsOf W n) ≡ n
-unfolding viewsOf
-slots-count W n = table-length n _
-
 slots-top : (R : Ring) (W : List ℕ) (n : ℕ) → 0 < n → viewOf (getD W (n - 1) 0) ≡ top R (viewsOf W n)
 unfolding viewsOf
 slots-top R W n h = top-some _ R n (λ e. omega arith)
-
-sealed-size : {R : Ring} {X : List Stmt} {H : List View} → Sealed R X H → (0 < length H) × (length H ≤ 16)
-sealed-size (start e) = (omega (arith, ap length e), omega (arith, ap length e))
-sealed-size (agreed g h t n v q) = (omega (arith, ap length (h .begins)), h .short)
 
 pub record Looking (c : Controller) (e : Evidence) (s : Sight) : Type 0 where
   pub top : viewIs (s .top) ≡ viewOf (getD (e .greatest) (e .length - 1) 0)
@@ -57,35 +44,6 @@ pub record Looking (c : Controller) (e : Evidence) (s : Sight) : Type 0 where
   pub entered : s .entered ≡ any (sameView (viewIs (s .top))) (viewsIs (c .entered))
   pub stands : s .stands ≡ (s .entered && all (notAbove (viewIs (s .top))) (viewsIs (c .entered)))
   pub active : s .active ≡ ltb 0 (min (c .entered .len) 16)
-
--- the counts of what a rule is done for
-
-module _ (R : Ring) (sender : ℕ) (X : List Stmt) (e : Evidence) (k : Settled R sender X e) where
-  few-candidates : e .count ≤ 16
-  few-candidates = omega (arith, ltb-false 16 (length (candidates R X)) (sym (k .of .many (k .agree)) ∙ k .few), ap length (k .of .candidates (k .agree) (k .few)), slots-count (e .candidates) (e .count))
-
-  some-candidate : 0 < e .count
-  some-candidate =
-      let m = candidates-exact R X (R .init) .1 (initial refl) in
-      omega (arith, some-in _ m, ap length (k .of .candidates (k .agree) (k .few)), slots-count (e .candidates) (e .count))
-
-  sealed-greatest : Sealed R X (viewsOf (e .greatest) (e .length))
-  sealed-greatest = rw (k .of .greatest (k .agree)) (greatest-holds R sender X (rw (sym (k .of .conflict) ∙ k .agree) tt) .0)
-
-  pub some-view : 0 < e .length
-  some-view = omega (arith, sealed-size sealed-greatest .0, slots-count (e .greatest) (e .length))
-
-  pub few-views : e .length ≤ 16
-  few-views = omega (arith, sealed-size sealed-greatest .1, slots-count (e .greatest) (e .length))
-
--- what the first rule asks of them
-
-module _ {X : List Stmt} {R : Ring} {e : Evidence} {s : Sight} (k : Seen X R e s) where
-  pub short-views : s .length ≤ 16
-  short-views = omega (arith, k .length, few-views R (s .sender) X e (k .settled))
-
-  pub short-candidates : (0 < s .count) × (s .count ≤ 16)
-  short-candidates = (omega (arith, k .count, some-candidate R (s .sender) X e (k .settled)), omega (arith, k .count, few-candidates R (s .sender) X e (k .settled)))
 
 -- ---- what the rules look at
 

@@ -31,7 +31,7 @@ use Rattle.engine.specs.Promise.{Turns}
 use Rattle.rules.specs.Rules.{Seen, Chosen}
 use Rattle.engine.specs.Looks.{Looks}
 use Rattle.engine.proofs.Performs.{refused-turn}
-use Rattle.engine.proofs.Looked.{some-view, few-views}
+use Rattle.order.proofs.Counts.{some-view, few-views}
 
 module _ (c : Controller) (X : List Stmt) (room : Stmt → Bool) where
   pub turn-unready : c .ready ≡ false → turn.turn (controllerIs c) X room ≡ call.refuse (controllerIs c) X controller.outOfPlace

@@ -3,7 +3,6 @@ mod add;
 mod calls;
 mod keep;
 mod look;
-mod order;
 mod perform;
 mod turn;
 

@@ -8,7 +8,6 @@ use crate::Outcome;
 use crate::Refusal;
 use crate::calls;
 use crate::look;
-use crate::order;
 use crate::perform;
 use pool::POOL_WORDS;
 

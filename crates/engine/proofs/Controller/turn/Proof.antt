@@ -10,7 +10,7 @@ use Rattle.engine.proofs.Controller.turn.Reads as reads
 use Rattle.engine.proofs.Controller.turn.Lts as lts
 use Rattle.engine.proofs.calls.refuse.Reads as refuse-reads
 use Rattle.engine.proofs.perform.perform.Reads as perform-reads
-use Rattle.engine.proofs.order.first_rule.Reads as first-rule-reads
+use Rattle.order.proofs.first_rule.Reads as first-rule-reads
 use Rattle.rules.proofs.has_left.Reads as has-left-reads
 use Rattle.engine.proofs.look.look.Reads as look-reads
 use Rattle.evidence.proofs.of_record.Reads as of-record-reads
