@@ -29,10 +29,29 @@ fn theirs(cases: &[(Case, Lent)]) {
     }
 }
 
+fn lent(cases: Vec<Case>) -> Vec<(Case, Lent)> {
+    cases.into_iter().filter_map(|case| lend(&case).ok().map(|lent| (case, lent))).collect()
+}
+
 fn compared(name: &str, cases: Vec<Case>) {
-    let lent: Vec<(Case, Lent)> = cases.into_iter().filter_map(|case| lend(&case).ok().map(|lent| (case, lent))).collect();
+    let lent = lent(cases);
     if !lent.is_empty() {
         row(name, &measure(&lent, 1, mine, theirs));
+    }
+}
+
+/// Does the work of one side again and again, for a tool that counts its instructions.
+pub fn repeat(kind: &str, count: usize, side: &str, rounds: usize) {
+    let cases = match kind {
+        "honest" => honest(count),
+        "breadth" => vec![breadth(count)],
+        "depth" => vec![depth(count)],
+        _ => vec![mixed(count)],
+    };
+    // One record, so that a round is a record.
+    let lent = lent(cases.into_iter().take(1).collect());
+    for _ in 0..rounds {
+        if side == "mine" { mine(&lent) } else { theirs(&lent) }
     }
 }
 

@@ -1,6 +1,7 @@
 //! How fast the proved code is beside the reference: one run, the same inputs, both built for release.
 //!
 //! `ring-benchmark [PART ..]`, with parts `statements`, `scan`, `evidence`, `turns` and `schedules`; all of them without an argument.
+//! `ring-benchmark repeat KIND COUNT SIDE ROUNDS` does the evidence of one record and times nothing: `instructions` counts what it takes.
 
 mod evidence;
 mod measure;
@@ -19,6 +20,12 @@ const PARTS: [(&str, fn()); 5] = [
 
 fn main() {
     let asked: Vec<String> = std::env::args().skip(1).collect();
+    if let [word, kind, count, side, rounds] = asked.as_slice() {
+        if word == "repeat" {
+            let number = |text: &str| text.parse().unwrap_or(0);
+            return evidence::repeat(kind, number(count), side, number(rounds));
+        }
+    }
     let wanted = |name: &str| asked.is_empty() || asked.iter().any(|word| word == name);
     for (name, print) in PARTS {
         if wanted(name) {
