@@ -1,0 +1,37 @@
+-- Where the same ring is seen in another way, the promises hold of what is seen so.
+-- Assumes nothing.
+use mathlib.Core.Path.{_≡_, subst}
+use mathlib.Core.Logic.{_⊎_, inl, inr}
+use mathlib.Core.List.{List}
+use Prim.Native.Nat.{ℕ}
+use lib.Dec.{T}
+use Rattle.protocol.specs.View.{View}
+use Rattle.protocol.specs.Statement.{Stmt}
+use Rattle.protocol.specs.Evidence.{Certificate}
+use Rattle.protocol.specs.Controller.{Answer, signed}
+use Rattle.protocol.specs.Promises.{Observed, HasEntered, Promises, NoConflict}
+
+-- the same controllers and statements, with other words for what is answered and held
+abbrev pub seenAs : Observed → (ℕ → ℕ → Answer → Type 0) → (ℕ → ℕ → List Stmt) → Observed
+seenAs o Answers records = record { follows = o .follows; ring = o .ring; sender = o .sender; statements = o .statements; Answers = Answers; recordOf = records }
+
+module _ (o : Observed) (Answers : ℕ → ℕ → Answer → Type 0) (records : ℕ → ℕ → List Stmt)
+    (there : (n k : ℕ) (a : Answer) → T (o .follows k) → Answers n k a → o .Answers n k a)
+    (back : (n k : ℕ) (s : Stmt) → T (o .follows k) → o .Answers n k (signed s) → Answers n k (signed s))
+    (same : (k n : ℕ) → T (o .follows k) → o .recordOf k n ≡ records k n) where
+  entered-there : (k : ℕ) (v : View) → HasEntered (seenAs o Answers records) k v → HasEntered o k v
+  entered-there k v (inl a) = inl a
+  entered-there k v (inr (n, (ok, a))) = inr (n, (ok, there n k _ ok a))
+
+  pub carried : Promises o → Promises (seenAs o Answers records)
+  carried p = record {
+    consistency = λ i j m n k m′ (ok, a) (ok′, b). p .consistency i j m n k m′ (ok, there i j _ ok a) (ok′, there n k _ ok′ b);
+    noDuplication = λ i n k m m′ (ok, a) (ok′, b). p .noDuplication i n k m m′ (ok, there i k _ ok a) (ok′, there n k _ ok′ b);
+    integrity = λ n k m ok (ok′, a). let (i, l, b) = p .integrity n k m ok (ok′, there n k _ ok′ a) in (i, l, back i (o .sender) _ ok b);
+    comparableViews = λ j k u v a b. p .comparableViews j k u v (entered-there j u a) (entered-there k v b);
+    storedIsKept = λ H m n k v h q (ok, a) g i l. subst (λ X. Certificate (o .ring) (o .sender) X m) (same k i ok) (p .storedIsKept H m n k v h q (ok, there n k _ ok a) g i l);
+  }
+
+  pub carried-no-conflict : NoConflict o → NoConflict (seenAs o Answers records)
+  unfolding NoConflict
+  carried-no-conflict f n k ok a = f n k ok (there n k _ ok a)
