@@ -5,7 +5,8 @@ use mathlib.Core.Logic.{_⊎_}
 use mathlib.Core.Bool.{Bool, true, false}
 use mathlib.Core.List.{List}
 use Prim.Native.Nat.{ℕ, _≤_, _<_}
-use Rattle.protocol.specs.Statement.{Stmt}
+use Rattle.protocol.specs.Lists.{any}
+use Rattle.protocol.specs.Statement.{Stmt, sameStmt}
 use Rattle.protocol.specs.Controller as controller
 use Rattle.protocol.specs.Pool.{numberOf, pooled, hasRoom}
 use Rattle.protocol.specs.Run.{Call, setupCall, joinCall, leaveCall, sendCall, addCall, turnCall, outcome}
@@ -26,11 +27,16 @@ pub data Change : Type 0 where
   emptied : Change
   grown : Stmt → Change
 
+-- s is in the pool now, and was put into it only if it was not there.
+pub record Pooled (s : Stmt) (W W′ : List ℕ) : Type 0 where
+  pub is : poolIs W′ ≡ pooled s (poolIs W)
+  pub old : any (sameStmt s) (poolIs W) ≡ true → W′ ≡ W
+
 -- The pool after it: what goes into a record is in the pool.
 abbrev pub PoolAfter : List ℕ → Change → List ℕ → Type 0
 PoolAfter W unchanged W′ = W′ ≡ W
 PoolAfter W emptied W′ = W′ ≡ W
-PoolAfter W (grown s) W′ = poolIs W′ ≡ pooled s (poolIs W)
+PoolAfter W (grown s) W′ = Pooled s W W′
 
 -- The record's numbers after it: those that it had, none, or those that it had and then that of the statement in the pool.
 abbrev pub NumbersAfter : List ℕ → Record → Change → Record → Type 0
@@ -95,7 +101,7 @@ pub record Numbered (W : List ℕ) (len : ℕ) (s : Stmt) (n : ℕ) (W′ : List
   pub room : hasRoom (poolIs W) s ≡ true
   pub number : n ≡ numberOf s (poolIs W)
   pub is : stmtAt W′ n ≡ s
-  pub pool : poolIs W′ ≡ pooled s (poolIs W)
+  pub pool : Pooled s W W′
   pub more : poolLen W ≤ poolLen W′
   pub within : n < poolLen W′
   pub same : (m : ℕ) → m < poolLen W → stmtAt W′ m ≡ stmtAt W m

@@ -52,7 +52,6 @@ number-within s (x ∷ P) = go (sameStmt s x) (any (sameStmt s) P) refl (number-
   where
     go : (b d : Bool) → any (sameStmt s) P ≡ d → numberOf s P < length (pooled s P)
         → (if b then 0 else suc (numberOf s P)) < length (if b || d then x ∷ P else (x ∷ P) ++ (s ∷ []))
-    unfolding pooled
     go true d e l = omega arith
     go false true e l = let q : length (pooled s P) ≡ length P = ap (λ b. length (if b then P else P ++ (s ∷ []))) e in omega arith
     go false false e l = let q : length (pooled s P) ≡ length (P ++ (s ∷ [])) = ap (λ b. length (if b then P else P ++ (s ∷ []))) e in omega arith
@@ -76,13 +75,13 @@ module _ {W left W′ : List ℕ} {c : Controller} {o : controller.Outcome} {r :
       at-number e = cc
 
       grown-to : {s : Stmt} → o .answer ≡ controller.signed s → poolIs left ≡ pooled s (poolIs W)
-      grown-to {s} e = subst (λ a. PoolAfter W (signedOf a) left) e (m .pool)
+      grown-to {s} e = subst (λ a. PoolAfter W (signedOf a) left) e (m .pool) .is
 
   same-answer : answerIs W′ (r .answer) ≡ o .answer
+  unfolding answerIs
   same-answer = go (r .answer) refl ∙ m .answer
     where
       go : (a : held.Answer) → r .answer ≡ a → answerIs W′ (r .answer) ≡ answerIs left (r .answer)
-      unfolding answerIs
       go Taken e = rw e
       go (Signed i) e = rw e (signed-same i e)
       go (Entered v) e = rw e
@@ -125,14 +124,13 @@ module _ {run : Run} (is : IsRun run) {k : ℕ} (ok : T (run .follows k)) {W : �
       let s = engine .started in
       let b = begun is k (is .numbered k ok) in
       let o : setup (controllerIs (engine .fresh)) (recordIs (engine .pool) (engine .fresh)) k (run .members) (run .sender) ≡ returned run k 0
-            = ap (λ d. setup d (recordIs (engine .pool) (engine .fresh)) k (run .members) (run .sender)) (engine .unset) ∙ setup-anew k (run .members) (run .sender) _ b in
+      = ap (λ d. setup d (recordIs (engine .pool) (engine .fresh)) k (run .members) (run .sender)) (engine .unset) ∙ setup-anew k (run .members) (run .sender) _ b in
       let t : returned run k 0 .answer ≡ controller.taken = is .started k (is .numbered k ok) in
       let n = subst (λ p. NumbersAfter (engine .pool) (engine .fresh .statements) (startedOf p) (r 0 .controller .statements)) (ap (λ x. x .answer) o ∙ t) (s .called .numbers) in
       let (x, w) = no-numbers (W 0) (r 0 .controller) n in
       record { controller = s .called .controller ∙ ap (λ x. x .controller) o; statements = x ∙ sym (started-empty b); whole = w }
     where
       started-empty : Start k (run .members) (run .sender) → returned run k 0 .statements ≡ []
-      unfolding returned
       started-empty (starts t e) = ap (λ x. x .statements) e
 
   -- THE ENGINE RUNS THE PROTOCOL: after any number of events its controller and record are the run's
