@@ -21,7 +21,6 @@ use Rattle.protocol.specs.Call.{requestJoin, requestLeave, requestSend}
 use Rattle.protocol.specs.Pool.{numberOf, pooled, hasRoom}
 use Rattle.protocol.specs.Turn.{turn as turnOf}
 use Rattle.protocol.proofs.Asked.{says-same-stmt}
-use Rattle.protocol.proofs.Found.{none≢some}
 use Rattle.views.specs.Table.{table}
 use Rattle.views.proofs.Tables.{table-length, table-at, any-append, any-zero, any-suc, any-at, any-more}
 use Rattle.views.proofs.Views.{passes}
@@ -35,7 +34,7 @@ use Rattle.engine.specs.declared.Refusal.the-variants as refusal
 use Rattle.engine.specs.declared.Answer.{Answer}
 use Rattle.engine.specs.declared.Answer.the-variants.{Taken, Signed, Entered, Delivered, Left, Quiet, Refused}
 use Rattle.engine.specs.Meaning.{controllerIs, withStatements, recordIs, poolIs, AllIn, Whole, answerIs, refusalIs}
-use Rattle.engine.specs.Promise.{Meets, Calls, Turns, PoolAfter, signedOf}
+use Rattle.engine.specs.Promise.{Change, unchanged, Meets, Calls, Turns, PoolAfter, signedOf}
 use Rattle.bench.specs.declared.seat.Replied.{Replied}
 use Rattle.bench.specs.declared.seat.Missing.{Missing}
 use Rattle.schedule.specs.Line.{Line, join, leave, send, give, all, turn}
@@ -279,12 +278,12 @@ module _ (W : List ℕ) (ready : Bool) (c : Controller) (k : ℕ) (l : Line) (r 
 
 -- ---- requests
 
-seat-of : {W W′ : List ℕ} {c : Controller} {o : controller.Outcome} {p : Option Stmt} {ro : Outcome} → Meets W c o p ro W′ → Whole W c
+seat-of : {W W′ : List ℕ} {c : Controller} {o : controller.Outcome} {p : Change} {ro : Outcome} → Meets W c o p ro W′ → Whole W c
     → record { controller = o .controller; statements = o .statements } ≡ seatIs W′ (ro .controller)
 seat-of m w = ap₂ (λ x y. record { controller = x; statements = y }) (sym (m .controller)) (sym (m .statements w .0))
 
 -- a call that changed nothing
-seat-stays : {W W′ : List ℕ} {c : Controller} {o : controller.Outcome} {p : Option Stmt} {ro : Outcome} → Meets W c o p ro W′ → Whole W c → Stays (controllerIs c) (recordIs W c) o → changesIs (ro .answer) ≡ false
+seat-stays : {W W′ : List ℕ} {c : Controller} {o : controller.Outcome} {p : Change} {ro : Outcome} → Meets W c o p ro W′ → Whole W c → Stays (controllerIs c) (recordIs W c) o → changesIs (ro .answer) ≡ false
     → seatIs W′ (ro .controller) ≡ seatIs W c
 seat-stays {W} {W′} {c} {o} {p} {ro} m w s e =
     let h = s .stays (subst Idle (m .answer) (idle-answer W′ (ro .answer) e)) in
@@ -635,17 +634,17 @@ after-turn b k o (controller.refused r) = refl
 
 pool-then : (W W′ : List ℕ) (a : controller.Answer) → PoolAfter W (signedOf a) W′ → poolIs W′ ≡ poolThen a (poolIs W)
 pool-then W W′ controller.taken e = ap poolIs e
-pool-then W W′ (controller.signed s) e = e
+pool-then W W′ (controller.signed s) e = e .is
 pool-then W W′ (controller.entered v) e = ap poolIs e
 pool-then W W′ (controller.delivered m) e = ap poolIs e
 pool-then W W′ controller.left e = ap poolIs e
 pool-then W W′ controller.quiet e = ap poolIs e
 pool-then W W′ (controller.refused r) e = ap poolIs e
 
-not-signed : (W : List ℕ) (x : Answer) (a : controller.Answer) → answerIs W x ≡ a → signedOf a ≡ none → numberIs x ≡ 0
+not-signed : (W : List ℕ) (x : Answer) (a : controller.Answer) → answerIs W x ≡ a → signedOf a ≡ unchanged → numberIs x ≡ 0
 unfolding answerIs
 not-signed W Taken a e h = refl
-not-signed W (Signed n) a e h = absurd (none≢some (sym (ap signedOf e ∙ h)))
+not-signed W (Signed n) a e h = let q = ap signedOf e ∙ h in let z : _≡_ {A = ℕ} 0 1 = cc in absurd (omega arith)
 not-signed W (Entered v) a e h = refl
 not-signed W (Delivered m) a e h = refl
 not-signed W Left a e h = refl

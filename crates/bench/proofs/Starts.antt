@@ -20,7 +20,7 @@ use Rattle.pool.specs.Pool.{stmtAt, poolLen, recordOf}
 use Rattle.engine.specs.declared.Controller.{Controller}
 use Rattle.engine.specs.declared.Outcome.{Outcome}
 use Rattle.engine.specs.Meaning.{controllerIs, recordIs, poolIs, Whole, AllIn}
-use Rattle.engine.specs.Promise.{Calls}
+use Rattle.engine.specs.Promise.{Starts}
 use Rattle.bench.specs.declared.state.Setting.{Setting}
 use Rattle.bench.specs.Bench.{Seat, emptySeat, newBench}
 use Rattle.bench.specs.Seats.{blank, seatIs, Distinct}
@@ -52,14 +52,14 @@ module _ (members sender : ℕ) where
       unfolding Whole
       empty-whole W i l = absurd (omega (arith, fresh .1))
 
-      begun : (k : ℕ) (o : Outcome) → k < 16 → Calls (λ X. call.setup (controllerIs c) X k members sender) c o → (W : List ℕ)
+      begun : (k : ℕ) (o : Outcome) → k < 16 → Starts (λ X. call.setup (controllerIs c) X k members sender) c o → (W : List ℕ)
           → (seatIs W (o .controller) ≡ record { controller = call.started k members sender; statements = [] }) × Whole W (o .controller)
-      unfolding Calls
+      unfolding Starts
       begun k o l m W =
           let e : call.setup (controllerIs c) (recordIs W c) k members sender ≡ record { answer = controller.taken; controller = call.started k members sender; statements = [] } = setup-is (controllerIs c) (recordIs W c) k (fresh .0) l in
           (ap₂ (λ x y. record { controller = x; statements = y }) (m W .controller ∙ ap (λ (t : controller.Outcome). t .controller) e) (m W .statements (empty-whole W) .0 ∙ ap (λ (t : controller.Outcome). t .statements) e), m W .statements (empty-whole W) .1)
 
-      pub started-next : (k : ℕ) (o : Outcome) (cs : List Controller) → k < 16 → Calls (λ X. call.setup (controllerIs c) X k members sender) c o → StartedTo members sender k cs → StartedTo members sender (k + 1) (set cs k (o .controller))
+      pub started-next : (k : ℕ) (o : Outcome) (cs : List Controller) → k < 16 → Starts (λ X. call.setup (controllerIs c) X k members sender) c o → StartedTo members sender k cs → StartedTo members sender (k + 1) (set cs k (o .controller))
       started-next k o cs l m s = record {
         long = length-set cs k (o .controller) ∙ s .long;
         each = λ j h W. elim (ℕ-discrete j k) [

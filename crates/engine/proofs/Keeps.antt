@@ -2,7 +2,7 @@
 -- Assumes nothing.
 use mathlib.Core.Path.{_≡_, refl, sym, ap, ap₂, subst, _∙_}
 use mathlib.Core.Logic.{_⊎_, inl, inr}
-use mathlib.Core.Bool.{Bool, true, false, not, _||_}
+use mathlib.Core.Bool.{Bool, true, false, not, _||_, true≢false}
 use mathlib.Core.List.{List, [], _∷_, _++_}
 use mathlib.Core.Option.{Option, none}
 use Prim.Native.Nat.{ℕ, _≤_, _<_, min}
@@ -118,7 +118,7 @@ module _ (W W′ : List ℕ) (len : ℕ) (st : Statement) (short : st .history .
     room = room-old (stmtOf st) (poolIs W) y;
     number = e ∙ sym m;
     is = ap₂ stmtAt w e ∙ h;
-    pool = ap poolIs w ∙ pooled-old (stmtOf st) (poolIs W) y;
+    pool = record { is = ap poolIs w ∙ pooled-old (stmtOf st) (poolIs W) y; old = λ t. w };
     more = subst (λ (U : List ℕ). poolLen W ≤ poolLen U) (sym w) (omega arith);
     within = subst (λ (U : List ℕ). n < poolLen U) (sym w) (omega arith);
     same = λ j t. ap (λ (U : List ℕ). stmtAt U j) w;
@@ -131,7 +131,7 @@ module _ (W W′ : List ℕ) (len : ℕ) (st : Statement) (short : st .history .
     room = room-new (stmtOf st) (poolIs W) true y (ap (λ m. ltb m 512) (pool-length W) ∙ lt-ltb (poolLen W) 512 b);
     number = e ∙ sym (number-none (stmtOf st) (poolIs W) y ∙ pool-length W);
     is = ap (stmtAt W′) e ∙ g .there short;
-    pool = grown-pool W W′ st short g b ∙ pooled-new (stmtOf st) (poolIs W) y;
+    pool = record { is = grown-pool W W′ st short g b ∙ pooled-new (stmtOf st) (poolIs W) y; old = λ t. absurd (true≢false (sym t ∙ y)) };
     more = omega (arith, g .len);
     within = omega (arith, g .len);
     same = grown-same W W′ st short g b;

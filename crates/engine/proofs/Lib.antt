@@ -4,4 +4,3 @@ pub mod Keeps
 pub mod Performs
 pub mod Looked
 pub mod Turned
-pub mod Runs

@@ -3,7 +3,6 @@
 use mathlib.Core.Path.{_≡_, refl, sym, ap, subst, _∙_}
 use mathlib.Core.Bool.{Bool, true, false}
 use mathlib.Core.List.{List, [], _∷_, _++_}
-use mathlib.Core.Option.{some, none}
 use Prim.Native.Nat.{ℕ, _≤_}
 use native.Mathlib.Omega.{arith}
 use lib.Dec.{T}
@@ -38,7 +37,8 @@ use Rattle.engine.specs.declared.Refusal.{Refusal}
 use Rattle.engine.specs.declared.Refusal.the-variants as refused
 use Rattle.engine.specs.Meaning.{controllerIs, withStatements, recordIs, poolIs, AllIn, Whole, answerIs, refusalIs}
 use Rattle.rules.specs.Deeds.{stepIs}
-use Rattle.engine.specs.Promise.{Meets, IsRefused, Turns, Adds, Placed, Numbered, restIs}
+use Rattle.engine.specs.Promise.{unchanged, grown, Meets, IsRefused, Turns, Adds, Placed, Numbered, restIs}
+use Rattle.engine.proofs.Requests.{settled, refused-so}
 use Rattle.engine.proofs.Keeps.{is-full, not-full, all-in, record-more}
 
 -- ---- the controller's fields
@@ -46,26 +46,6 @@ use Rattle.engine.proofs.Keeps.{is-full, not-full, all-in, record-more}
 number-is : (c : Controller) → controllerIs c .number ≡ c .number
 unfolding controllerIs
 number-is c = refl
-
--- ---- the pool stays as it was
-
-module _ (W : List ℕ) (c : Controller) (r : Outcome) (d : controller.Controller) (a : controller.Answer) (e : answerIs W (r .answer) ≡ a) (f : controllerIs (r .controller) ≡ d)
-    (k : r .controller .statements ≡ c .statements) (unsigned : (s : Stmt) → a ≡ controller.signed s → ⊥) (same : IsRefused a → r .controller ≡ c) where
-  settled : Meets W c (record { answer = a; controller = d; statements = recordIs W c }) none r W
-  unfolding recordIs Whole
-  settled = record {
-    answer = e;
-    number = λ s q. absurd (unsigned s q);
-    controller = f;
-    statements = λ w. (ap (λ x. recordOf W (x .ids) (x .len)) k, subst (AllIn W) (sym k) w);
-    pool = refl;
-    refused = λ t. (same t, refl);
-  }
-
-pub refused-turn : (W : List ℕ) (c : Controller) (r : Outcome) (q : Refusal) → r .answer ≡ Refused q → r .controller ≡ c → Meets W c (call.refuse (controllerIs c) (recordIs W c) (refusalIs q)) none r W
-unfolding answerIs
-refused-turn W c r q e h =
-    settled W c r (controllerIs c) (controller.refused (refusalIs q)) (ap (answerIs W) e) (ap controllerIs h) (ap (λ x. x .statements) h) (λ s p. let z : _≡_ {A = ℕ} 0 1 = cc in omega arith) (λ t. h)
 
 -- ---- a statement is signed
 
@@ -93,7 +73,7 @@ module _ (W W′ : List ℕ) (c : Controller) (s : Stmt) (x : Answered) (p : Pla
       → Turns W c (turn.signing (controllerIs c) (recordIs W c) (hasRoom (poolIs W)) after s) r W′
   unfolding turn.signing
   sign-full after r a h =
-      rw full-is (subst (λ (U : List ℕ). Meets W c (call.refuse (controllerIs c) (recordIs W c) controller.full) none r U) (sym (p .full e .1)) (refused-turn W c r refused.Full a h))
+      rw full-is (subst (λ (U : List ℕ). Meets W c (call.refuse (controllerIs c) (recordIs W c) controller.full) unchanged r U) (sym (p .full e .1)) (refused-so W c r refused.Full a h))
 
 module _ (W W′ : List ℕ) (c : Controller) (s : Stmt) (x : Answered) (n : ℕ) (p : Placed W (c .statements .len) s x W′) (e : x ≡ At n) where
   numbered : Numbered W (c .statements .len) s n W′
@@ -109,6 +89,7 @@ module _ (W W′ : List ℕ) (c : Controller) (s : Stmt) (x : Answered) (n : ℕ
     answer = ap controller.signed (numbered .is);
     number = λ z h. let y : s ≡ z = cc in ap Signed (numbered .number ∙ ap (λ t. numberOf t (poolIs W)) y);
     controller = refl;
+    numbers = subst (λ i. Pushed (c .statements) i more) (numbered .number) q;
     statements = λ w. (record-more c numbered q w, all-in c numbered q w);
     pool = numbered .pool;
     refused = λ t. absurd t;
@@ -200,7 +181,7 @@ module _ (W : List ℕ) (c : Controller) (s : Stmt) where
 
   -- an addition that is refused for q
   pub add-refused : (r : Outcome) (q : Refusal) → added ≡ call.refuse (controllerIs c) (recordIs W c) (refusalIs q) → r .answer ≡ Refused q → r .controller ≡ c → Adds W c s added r W
-  add-refused r q e a h = subst (λ o. Adds W c s o r W) (sym e) (refused-turn W c r q a h)
+  add-refused r q e a h = subst (λ o. Adds W c s o r W) (sym e) (refused-so W c r q a h)
 
 pub add-full : (W W′ : List ℕ) (c : Controller) (s : Stmt) (x : Answered) (r : Outcome) → Placed W (c .statements .len) s x W′ → x ≡ Full → added W c s ≡ call.refuse (controllerIs c) (recordIs W c) controller.full
     → r .answer ≡ Refused refused.Full → r .controller ≡ c → Adds W c s (added W c s) r W′
@@ -208,12 +189,13 @@ add-full W W′ c s x r p f e a h = subst (λ (U : List ℕ). Adds W c s (added 
 
 module _ (W W′ : List ℕ) (c : Controller) (s : Stmt) (n : ℕ) (k : Numbered W (c .statements .len) s n W′) (more : Record) (q : Pushed (c .statements) n more) where
   taken-meets : (r : Outcome) → r .answer ≡ Taken → r .controller ≡ withStatements c more
-      → Meets W c (record { answer = controller.taken; controller = controllerIs c; statements = recordIs W c ++ (s ∷ []) }) (some s) r W′
+      → Meets W c (record { answer = controller.taken; controller = controllerIs c; statements = recordIs W c ++ (s ∷ []) }) (grown s) r W′
   unfolding answerIs Whole recordIs controllerIs
   taken-meets r a h = record {
     answer = ap (answerIs W′) a;
     number = λ y z. let t : _≡_ {A = ℕ} 0 1 = cc in absurd (omega arith);
     controller = ap controllerIs h;
+    numbers = subst (λ i. Pushed (c .statements) i (r .controller .statements)) (k .number) (subst (λ (y : Controller). Pushed (c .statements) n (y .statements)) (sym h) q);
     statements = λ w. (ap (recordIs W′) h ∙ record-more c k q w, subst (λ (y : Controller). AllIn W′ (y .statements)) (sym h) (all-in c k q w));
     pool = k .pool;
     refused = λ t. absurd t;

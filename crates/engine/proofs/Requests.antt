@@ -3,7 +3,6 @@
 use mathlib.Core.Path.{_≡_, refl, sym, ap, ap₂, subst, _∙_}
 use mathlib.Core.Bool.{Bool, true, false, not, _&&_, _||_}
 use mathlib.Core.List.{List, [], _∷_, _++_}
-use mathlib.Core.Option.{none}
 use Prim.Native.Nat.{ℕ, _+_, _^_, _≤_, _<_, min}
 use native.Mathlib.Omega.{arith}
 use lib.Dec.{eqb, ltb}
@@ -33,45 +32,59 @@ use Rattle.engine.specs.declared.Answer.{Answer}
 use Rattle.engine.specs.declared.Answer.the-variants.{Taken, Refused}
 use Rattle.engine.specs.Meaning.{initialIs, controllerIs, recordIs, AllIn, Whole, refusalIs, answerIs}
 use Rattle.rules.specs.Deeds.{sendIs}
-use Rattle.engine.specs.Promise.{Meets, IsRefused, Calls}
+use Rattle.engine.specs.Promise.{unchanged, Meets, IsRefused, Calls, startedOf, Starts}
 
--- ---- the two ways in which such a call ends
+-- ---- pool and record stay as they were
+
+module _ (W : List ℕ) (c : Controller) (r : Outcome) (d : controller.Controller) (a : controller.Answer) (e : answerIs W (r .answer) ≡ a) (f : controllerIs (r .controller) ≡ d)
+    (k : r .controller .statements ≡ c .statements) (unsigned : (s : Stmt) → a ≡ controller.signed s → ⊥) (same : IsRefused a → r .controller ≡ c) where
+  pub settled : Meets W c (record { answer = a; controller = d; statements = recordIs W c }) unchanged r W
+  unfolding recordIs Whole
+  settled = record {
+    answer = e;
+    number = λ s q. absurd (unsigned s q);
+    controller = f;
+    numbers = k;
+    statements = λ w. (ap (λ x. recordOf W (x .ids) (x .len)) k, subst (AllIn W) (sym k) w);
+    pool = refl;
+    refused = λ t. (same t, refl);
+  }
+
+pub refused-so : (W : List ℕ) (c : Controller) (r : Outcome) (q : Refusal) → r .answer ≡ Refused q → r .controller ≡ c → Meets W c (call.refuse (controllerIs c) (recordIs W c) (refusalIs q)) unchanged r W
+unfolding answerIs
+refused-so W c r q e h =
+    settled W c r (controllerIs c) (controller.refused (refusalIs q)) (ap (answerIs W) e) (ap controllerIs h) (ap (λ x. x .statements) h) (λ s p. let z : _≡_ {A = ℕ} 0 1 = cc in omega arith) (λ t. h)
+
+-- ---- the two ways in which a request ends
 
 pub refused : {f : List Stmt → controller.Outcome} (c : Controller) (q : Refusal) {r : Outcome} → r .answer ≡ Refused q → r .controller ≡ c
     → ((X : List Stmt) → f X ≡ call.refuse (controllerIs c) X (refusalIs q)) → Calls f c r
-unfolding Calls answerIs
-refused {f} c q {r} e h g W = subst (λ o. Meets W c o none r W) (sym (g (recordIs W c))) (record {
-  answer = ap (answerIs W) e;
-  number = λ s p. let z : _≡_ {A = ℕ} 0 1 = cc in absurd (omega arith);
-  controller = ap controllerIs h;
-  statements = λ w. (ap (recordIs W) h, subst (Whole W) (sym h) w);
-  pool = refl;
-  refused = λ t. (h, refl);
-})
+unfolding Calls
+refused {f} c q {r} e h g W = subst (λ o. Meets W c o unchanged r W) (sym (g (recordIs W c))) (refused-so W c r q e h)
 
 pub noted : {f : List Stmt → controller.Outcome} (c d : Controller) {r : Outcome} → r .answer ≡ Taken → r .controller ≡ d → d .statements ≡ c .statements
     → ((X : List Stmt) → f X ≡ record { answer = controller.taken; controller = controllerIs d; statements = X }) → Calls f c r
-unfolding Calls answerIs recordIs Whole
-noted {f} c d {r} e h k g W = subst (λ o. Meets W c o none r W) (sym (g (recordIs W c))) (record {
-  answer = ap (answerIs W) e;
-  number = λ s p. let z : _≡_ {A = ℕ} 0 1 = cc in absurd (omega arith);
-  controller = ap controllerIs h;
-  statements = λ w. (
-    ap (recordIs W) h ∙ ap (λ s. recordOf W (s .ids) (s .len)) k,
-    subst (λ (x : Controller). AllIn W (x .statements)) (sym h) (subst (AllIn W) (sym k) w),
-  );
-  pool = refl;
-  refused = λ t. absurd t;
-})
+unfolding Calls answerIs
+noted {f} c d {r} e h k g W =
+    subst (λ o. Meets W c o unchanged r W) (sym (g (recordIs W c)))
+    (settled W c r (controllerIs d) controller.taken (ap (answerIs W) e) (ap controllerIs h) (ap (λ x. x .statements) h ∙ k) (λ s p. let z : _≡_ {A = ℕ} 0 1 = cc in omega arith) (λ t. absurd t))
+
+-- ---- the two ways in which a setup ends
+
+pub barred : {f : List Stmt → controller.Outcome} (c : Controller) (q : Refusal) {r : Outcome} → r .answer ≡ Refused q → r .controller ≡ c
+    → ((X : List Stmt) → f X ≡ call.refuse (controllerIs c) X (refusalIs q)) → Starts f c r
+unfolding Starts
+barred {f} c q {r} e h g W = subst (λ o. Meets W c o (startedOf (o .answer)) r W) (sym (g (recordIs W c))) (refused-so W c r q e h)
 
 -- a controller that starts has an empty record
 pub began : {f : List Stmt → controller.Outcome} (c d : Controller) {e : controller.Controller} {r : Outcome} → r .answer ≡ Taken → r .controller ≡ d → controllerIs d ≡ e → d .statements .len ≡ 0
-    → ((X : List Stmt) → f X ≡ record { answer = controller.taken; controller = e; statements = [] }) → Calls f c r
-unfolding Calls answerIs recordIs Whole recordOf table
-began {f} c d {e} {r} a h k n g W = subst (λ o. Meets W c o none r W) (sym (g (recordIs W c))) (record {
+    → ((X : List Stmt) → f X ≡ record { answer = controller.taken; controller = e; statements = [] }) → Starts f c r
+unfolding Starts answerIs recordIs Whole recordOf table
+began {f} c d {e} {r} a h k n g W = subst (λ o. Meets W c o (startedOf (o .answer)) r W) (sym (g (recordIs W c))) (record {
   answer = ap (answerIs W) a;
   number = λ s p. let z : _≡_ {A = ℕ} 0 1 = cc in absurd (omega arith);
   controller = ap controllerIs h ∙ k;
+  numbers = ap (λ x. x .statements .len) h ∙ n;
   statements = λ w. (
     ap (recordIs W) h ∙ ap (λ l. recordOf W (d .statements .ids) l) n,
     subst (λ (x : Controller). AllIn W (x .statements)) (sym h) (λ i l. absurd (omega arith)),

@@ -30,7 +30,7 @@ use Rattle.rules.specs.Deeds.{actionIs}
 use Rattle.engine.specs.Promise.{Turns}
 use Rattle.rules.specs.Rules.{Seen, Chosen}
 use Rattle.engine.specs.Looks.{Looks}
-use Rattle.engine.proofs.Performs.{refused-turn}
+use Rattle.engine.proofs.Requests.{refused-so}
 use Rattle.order.proofs.Counts.{some-view, few-views}
 
 module _ (c : Controller) (X : List Stmt) (room : Stmt → Bool) where
@@ -93,7 +93,7 @@ module _ (W : List ℕ) (c : Controller) (w : ℕ) (e : Evidence) (v : viewOf w 
 -- a turn that is refused for q
 pub turn-refused : (W : List ℕ) (c : Controller) (r : Outcome) (q : Refusal) → turn.turn (controllerIs c) (recordIs W c) (hasRoom (poolIs W)) ≡ call.refuse (controllerIs c) (recordIs W c) (refusalIs q)
     → r .answer ≡ Refused q → r .controller ≡ c → Turns W c (turn.turn (controllerIs c) (recordIs W c) (hasRoom (poolIs W))) r W
-turn-refused W c r q e a h = subst (λ o. Turns W c o r W) (sym e) (refused-turn W c r q a h)
+turn-refused W c r q e a h = subst (λ o. Turns W c o r W) (sym e) (refused-so W c r q a h)
 
 -- a turn that does the first rule
 pub turn-done : (W W′ : List ℕ) (c : Controller) (r : Outcome) (a : Option turn.Action) → turn.turn (controllerIs c) (recordIs W c) (hasRoom (poolIs W)) ≡ turn.perform (controllerIs c) (recordIs W c) (hasRoom (poolIs W)) (turn.firstRule (controllerIs c) (recordIs W c))

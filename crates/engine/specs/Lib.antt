@@ -2,4 +2,3 @@
 pub mod Meaning
 pub mod Promise
 pub mod Looks
-pub mod Runs

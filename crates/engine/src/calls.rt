@@ -5,7 +5,7 @@ ghost use Rattle.protocol.specs.Controller.{notSetUp};
 ghost use Rattle.protocol.specs.Call.{started, setup, requestJoin, requestLeave, requestSend};
 ghost use Rattle.views.specs.Held.{viewsIs};
 ghost use Rattle.engine.specs.Meaning.{controllerIs, initialIs};
-ghost use Rattle.engine.specs.Promise.{Calls};
+ghost use Rattle.engine.specs.Promise.{Calls, Starts};
 use crate::Answer;
 use crate::Controller;
 use crate::Outcome;
@@ -101,7 +101,7 @@ impl Controller {
     }
 
     pub fn setup(self, number: u8, members: u16, sender: u8) -> Outcome
-        ensures { λ r. ⌜ Calls (λ X. setup (controllerIs self) X number members sender) self r ⌝ }
+        ensures { λ r. ⌜ Starts (λ X. setup (controllerIs self) X number members sender) self r ⌝ }
     {
         if self.ready {
             return refuse(self, Refusal::BadSetup);

@@ -6,7 +6,6 @@ use mathlib.Core.Path.{_≡_, refl, sym, ap, subst, _∙_}
 use native.Mathlib.Decide.{ℕ-discrete}
 use mathlib.Core.Bool.{Bool, true, false}
 use mathlib.Core.List.{List, [], _∷_}
-use mathlib.Core.Option.{Option, none}
 use Rattle.protocol.specs.Lists.{if_then_else_}
 use Rattle.protocol.specs.Statement.{Stmt, fieldRules}
 use Rattle.protocol.specs.Controller as controller
@@ -22,12 +21,12 @@ use Rattle.engine.specs.declared.Answer.{Answer}
 use Rattle.engine.specs.declared.Answer.the-variants.{Taken, Signed, Entered, Delivered, Left, Quiet, Refused}
 use Rattle.engine.specs.declared.Refusal.the-variants.{BadStatement, OutOfPlace}
 use Rattle.engine.specs.Meaning.{controllerIs, recordIs, poolIs, answerIs}
-use Rattle.engine.specs.Promise.{Meets, Calls, IsRefused, addedOf}
+use Rattle.engine.specs.Promise.{Change, unchanged, Meets, Calls, Starts, IsRefused, addedOf}
 use Rattle.engine.proofs.Requests.{refused}
 use Rattle.host.specs.Statement.{IsStatement}
 use Rattle.host.proofs.Written.{not-read, is-statement}
 use Rattle.host.specs.Memory.{controllerAt}
-use Rattle.host.specs.Host.{answerNumber, valueNumber, Finished, Hosted, Fresh, CallOn, TurnOn, AddOn, NoneOn, noStatement, AddsText}
+use Rattle.host.specs.Host.{answerNumber, valueNumber, Finished, Hosted, Fresh, SetUpOn, CallOn, TurnOn, AddOn, NoneOn, noStatement, AddsText}
 
 -- ---- a refusal
 
@@ -53,7 +52,7 @@ is-six W Quiet t = absurd t
 is-six W (Refused r) t = refl
 
 -- after it the controller is as it was
-pub as-before : {W : List ℕ} {c : Controller} {o : controller.Outcome} {p : Option Stmt} {r : Outcome} {W′ : List ℕ} → Meets W c o p r W′ → answerNumber (r .answer) ≡ 6 → r .controller ≡ c
+pub as-before : {W : List ℕ} {c : Controller} {o : controller.Outcome} {p : Change} {r : Outcome} {W′ : List ℕ} → Meets W c o p r W′ → answerNumber (r .answer) ≡ 6 → r .controller ≡ c
 as-before {W} {c} {o} {p} {r} {W′} m e = m .refused (subst IsRefused (m .answer) (six W′ (r .answer) e)) .0
 
 -- ---- the two ways in which a call ends
@@ -85,7 +84,12 @@ hosted {o} {F} {I} {n} {F′} {I′} {value} Met c e m b f = record {
     kept : n ≡ 6 → (F′ ≡ F) × (I′ ≡ I) → controllerAt F′ I′ ≡ o .controller
     kept s h = ap (λ G. controllerAt G I′) (h .0) ∙ ap (controllerAt F) (h .1) ∙ sym e ∙ sym (b (sym (f .answered) ∙ s))
 
--- setup and the requests
+pub setup-hosted : {o : Outcome} {F I : List ℕ} {n : ℕ} {F′ I′ value : List ℕ} (number members sender : ℕ) (c : Controller) → c ≡ controllerAt F I → SetUpOn number members sender c o
+    → Finished o F I n F′ I′ value → Hosted (SetUpOn number members sender (controllerAt F I)) F I n F′ I′ value
+unfolding Starts
+setup-hosted number members sender c e m h = hosted (SetUpOn number members sender) c e m (as-before (m [])) h
+
+-- the requests
 pub call-hosted : {o : Outcome} {F I : List ℕ} {n : ℕ} {F′ I′ value : List ℕ} (f : controller.Controller → List Stmt → controller.Outcome) (c : Controller) → c ≡ controllerAt F I → Calls (f (controllerIs c)) c o
     → Finished o F I n F′ I′ value → Hosted (CallOn f (controllerAt F I)) F I n F′ I′ value
 unfolding Calls
@@ -114,11 +118,11 @@ module _ (c : Controller) (X : List Stmt) where
   unfolding noStatement controllerIs call.add
   add-none room s e = rw e
 
-  nothing-added : (s : Stmt) → addedOf (noStatement (controllerIs c) X .answer) s ≡ none
+  nothing-added : (s : Stmt) → addedOf (noStatement (controllerIs c) X .answer) s ≡ unchanged
   unfolding noStatement controllerIs
   nothing-added s = go (c .ready)
     where
-      go : (b : Bool) → addedOf ((if b then call.refuse (controllerIs c) X controller.badStatement else call.refuse (controllerIs c) X controller.outOfPlace) .answer) s ≡ none
+      go : (b : Bool) → addedOf ((if b then call.refuse (controllerIs c) X controller.badStatement else call.refuse (controllerIs c) X controller.outOfPlace) .answer) s ≡ unchanged
       go true = refl
       go false = refl
 

@@ -2,7 +2,6 @@
 -- Assumes nothing.
 use mathlib.Core.Path.{_≡_}
 use mathlib.Core.List.{List, [], _∷_}
-use mathlib.Core.Option.{none}
 use Prim.Native.Nat.{ℕ, _+_, _*_}
 use Rattle.protocol.specs.Statement.{Stmt}
 use Rattle.protocol.specs.Controller as controller
@@ -15,8 +14,7 @@ use Rattle.engine.specs.declared.Outcome.{Outcome}
 use Rattle.engine.specs.declared.Answer.{Answer}
 use Rattle.engine.specs.declared.Answer.the-variants.{Taken, Signed, Entered, Delivered, Left, Quiet, Refused}
 use Rattle.engine.specs.Meaning.{controllerIs, recordIs, poolIs, answerIs}
-use Rattle.engine.specs.Promise.{Meets, Calls, Turns, Adds}
-use Rattle.engine.specs.Runs.{Called}
+use Rattle.engine.specs.Promise.{unchanged, Meets, Calls, Starts, Turns, Adds, Called}
 use Rattle.host.specs.Statement.{IsStatement}
 use Rattle.host.specs.Memory.{controllerAt}
 
@@ -68,12 +66,15 @@ pub record Fresh (F I : List ℕ) : Type 0 where
   pub controller : controllerIs (controllerAt F I) ≡ controller.notSetUp
   pub statements : controllerAt F I .statements .len ≡ 0
 
--- Setup and the requests: f is what the protocol says of the controller and its record.
-abbrev pub CallOn : (controller.Controller → List Stmt → controller.Outcome) → Controller → Outcome → Type 0
-CallOn f c = Calls (f (controllerIs c)) c
+abbrev pub SetUpOn : ℕ → ℕ → ℕ → Controller → Outcome → Type 0
+SetUpOn number members sender c = Starts (λ X. call.setup (controllerIs c) X number members sender) c
 
 abbrev pub SetsUp : List ℕ → List ℕ → ℕ → ℕ → ℕ → ℕ → List ℕ → List ℕ → List ℕ → Type 0
-SetsUp F I number members sender = Hosted (CallOn (λ d X. call.setup d X number members sender) (controllerAt F I)) F I
+SetsUp F I number members sender = Hosted (SetUpOn number members sender (controllerAt F I)) F I
+
+-- The requests: f is what the protocol says of the controller and its record.
+abbrev pub CallOn : (controller.Controller → List Stmt → controller.Outcome) → Controller → Outcome → Type 0
+CallOn f c = Calls (f (controllerIs c)) c
 
 abbrev pub Joins : List ℕ → List ℕ → ℕ → List ℕ → List ℕ → List ℕ → Type 0
 Joins F I = Hosted (CallOn call.requestJoin (controllerAt F I)) F I
@@ -100,7 +101,7 @@ unfoldable pub noStatement : controller.Controller → List Stmt → controller.
 noStatement d X = call.afterSetup d X (call.refuse d X controller.badStatement)
 
 abbrev pub NoneOn : List ℕ → List ℕ → Controller → Outcome → Type 0
-NoneOn W W′ c r = Meets W c (noStatement (controllerIs c) (recordIs W c)) none r W′
+NoneOn W W′ c r = Meets W c (noStatement (controllerIs c) (recordIs W c)) unchanged r W′
 
 -- An addition by the text S: of the statement whose text it is, if that keeps the field rules.
 pub record AddsText (S W W′ F I : List ℕ) (answer : ℕ) (F′ I′ value : List ℕ) : Type 0 where
@@ -109,8 +110,10 @@ pub record AddsText (S W W′ F I : List ℕ) (answer : ℕ) (F′ I′ value : 
 
 -- ---- calls of a run
 
--- The call k of a run took place over the pool W, on the controller of F and I, and left W′, F′ and I′: with this a host's calls make up an `EngineRun` of
--- crates/engine/specs/Runs.antt, whose outcome before an event is the last answer and the controller of the memory.
-pub record CalledAt (W F I : List ℕ) (k : Call) (W′ F′ I′ : List ℕ) : Type 0 where
-  pub answer : Answer
-  pub called : Called W (controllerAt F I) k (record { answer = answer; controller = controllerAt F′ I′ }) W′
+-- The call k of a run took place over the pool W, on the controller of F and I: the host got the answer and the value, and W′, F′ and I′ are what was left.
+-- With this a host's calls make up a `HostRun` of crates/guarantee/specs/Calls.antt.
+pub record CalledAt (W F I : List ℕ) (k : Call) (answer : ℕ) (value W′ F′ I′ : List ℕ) : Type 0 where
+  pub told : Answer
+  pub answered : answer ≡ answerNumber told
+  pub valued : value ≡ valueNumber told ∷ []
+  pub called : Called W (controllerAt F I) k (record { answer = told; controller = controllerAt F′ I′ }) W′

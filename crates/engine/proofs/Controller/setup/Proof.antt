@@ -2,7 +2,7 @@ use native.Mathlib.Omega.{arith}
 use mathlib.Core.Path.{refl}
 use borrow.Author.Tests.{not-true, not-false}
 use Rattle.engine.specs.declared.Refusal.the-variants.{BadSetup}
-use Rattle.engine.proofs.Requests.{refused, began, setup-again, setup-barred, setup-taken, no-members, far-number, far-sender, allowed}
+use Rattle.engine.proofs.Requests.{barred, began, setup-again, setup-barred, setup-taken, no-members, far-number, far-sender, allowed}
 use borrow.Author.Needs.{needs}
 use Rattle.engine.proofs.Controller.setup.Statement.{statement}
 use Rattle.engine.proofs.Controller.setup.Tie as tie
@@ -18,7 +18,7 @@ refuse-requires c κs = search needs
 
 -- src/calls.rt:108:13
 returns : tie.Need-returns
-returns c = refused (c .before .before .args .self) BadSetup (c .refuse .ensures .0) (c .refuse .ensures .1) (λ X. setup-again (c .before .before .args .self) X _ _ _ (c .before .if1 .taken))
+returns c = barred (c .before .before .args .self) BadSetup (c .refuse .ensures .0) (c .refuse .ensures .1) (λ X. setup-again (c .before .before .args .self) X _ _ _ (c .before .if1 .taken))
 
 -- src/calls.rt:111:13
 refuse-requires-2 : tie.Need-refuse-requires-2
@@ -26,7 +26,7 @@ refuse-requires-2 c κs = search needs
 
 -- src/calls.rt:111:13
 returns-2 : tie.Need-returns-2
-returns-2 c = refused (c .before .before .before .args .self) BadSetup (c .refuse2 .ensures .0) (c .refuse2 .ensures .1) (λ X. setup-barred (c .before .before .before .args .self) X _ _ _ (c .before .before .if1 .left) (no-members _ _ _ (c .before .if2 .taken)))
+returns-2 c = barred (c .before .before .before .args .self) BadSetup (c .refuse2 .ensures .0) (c .refuse2 .ensures .1) (λ X. setup-barred (c .before .before .before .args .self) X _ _ _ (c .before .before .if1 .left) (no-members _ _ _ (c .before .if2 .taken)))
 
 -- src/calls.rt:114:13
 refuse-requires-3 : tie.Need-refuse-requires-3
@@ -34,7 +34,7 @@ refuse-requires-3 c κs = search needs
 
 -- src/calls.rt:114:13
 returns-3 : tie.Need-returns-3
-returns-3 c = refused (c .before .before .before .before .args .self) BadSetup (c .refuse3 .ensures .0) (c .refuse3 .ensures .1) (λ X. setup-barred (c .before .before .before .before .args .self) X _ _ _ (c .before .before .before .if1 .left) (far-number _ _ _ (c .before .if3 .taken)))
+returns-3 c = barred (c .before .before .before .before .args .self) BadSetup (c .refuse3 .ensures .0) (c .refuse3 .ensures .1) (λ X. setup-barred (c .before .before .before .before .args .self) X _ _ _ (c .before .before .before .if1 .left) (far-number _ _ _ (c .before .if3 .taken)))
 
 -- src/calls.rt:117:13
 refuse-requires-4 : tie.Need-refuse-requires-4
@@ -42,7 +42,7 @@ refuse-requires-4 c κs = search needs
 
 -- src/calls.rt:117:13
 returns-4 : tie.Need-returns-4
-returns-4 c = refused (c .before .before .before .before .before .args .self) BadSetup (c .refuse4 .ensures .0) (c .refuse4 .ensures .1) (λ X. setup-barred (c .before .before .before .before .before .args .self) X _ _ _ (c .before .before .before .before .if1 .left) (far-sender _ _ _ (c .before .if4 .taken)))
+returns-4 c = barred (c .before .before .before .before .before .args .self) BadSetup (c .refuse4 .ensures .0) (c .refuse4 .ensures .1) (λ X. setup-barred (c .before .before .before .before .before .args .self) X _ _ _ (c .before .before .before .before .if1 .left) (far-sender _ _ _ (c .before .if4 .taken)))
 
 -- src/calls.rt:119:14
 start-requires : tie.Need-start-requires

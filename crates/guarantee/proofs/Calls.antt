@@ -1,0 +1,180 @@
+-- A run whose calls are the engine's is a run of the protocol, so the promises hold of what the engine answers.
+-- Assumes nothing.
+use mathlib.Core.Path.{_≡_, refl, sym, ap, ap₂, subst, _∙_}
+use mathlib.Core.Bool.{Bool, true, false, not, _||_}
+use mathlib.Core.List.{List, [], _∷_, _++_}
+use mathlib.Core.Option.{Option, some, none}
+use Prim.Native.Nat.{ℕ, zero, suc, _≤_, _<_, min}
+use native.Mathlib.Omega.{arith}
+use lib.Dec.{T}
+use lib.ListN.{length, getD, length-append}
+use Rattle.protocol.specs.Lists.{if_then_else_, any}
+use Rattle.protocol.specs.Statement.{Stmt, sameStmt}
+use Rattle.protocol.specs.Controller as controller
+use Rattle.protocol.specs.Call.{setupAllowed, started, setup}
+use Rattle.protocol.specs.Pool.{numberOf, pooled, hasRoom}
+use Rattle.protocol.specs.Run.{Call, setupCall, turnCall, outcome, call, Run, event, returned, controllerOf, recordOf, TurnAnswers, IsRun}
+use Rattle.protocol.specs.Promises.{observed, Promises, NoConflict}
+use Rattle.protocol.proofs.Steps.{Next, waits, acts, Start, starts, begun, called, next}
+use Rattle.protocol.proofs.Promises.{promises, no-conflict}
+use Rattle.protocol.proofs.Carried.{carried, carried-no-conflict}
+use Rattle.views.specs.Table.{table}
+use Rattle.views.proofs.Tables.{table-length, table-cong}
+use Rattle.pool.specs.Pool.{stmtAt, poolLen, recordOf as recordAt}
+use Rattle.engine.specs.declared.Controller.{Controller}
+use Rattle.engine.specs.declared.Outcome.{Outcome}
+use Rattle.engine.specs.declared.Answer as held
+use Rattle.engine.specs.declared.Answer.the-variants.{Taken, Signed, Entered, Delivered, Left, Quiet, Refused}
+use Rattle.engine.specs.Meaning.{controllerIs, recordIs, poolIs, Whole, answerIs}
+use Rattle.engine.specs.Promise.{PoolAfter, NumbersAfter, Meets, changeOf, signedOf, startedOf}
+use Rattle.guarantee.specs.Calls.{Grows, Calls, EngineRun, EngineRuns, EngineAnswers, engineCalls}
+
+-- ---- pools
+
+-- a pool that grows changes no record over it
+grown-record : {W W′ : List ℕ} → Grows W W′ → (c : Controller) → Whole W c → (recordIs W′ c ≡ recordIs W c) × Whole W′ c
+unfolding recordIs recordAt Whole
+grown-record {W} {W′} g c w = (
+  table-cong (min (c .statements .len) 512) (λ i. stmtAt W′ (getD (c .statements .ids) i 0)) (λ i. stmtAt W (getD (c .statements .ids) i 0)) (λ i l. g .same _ (w i l)),
+  λ i l. let a = w i l in let b = g .more in omega arith,
+)
+
+-- a record without numbers
+no-numbers : (W : List ℕ) (c : Controller) → c .statements .len ≡ 0 → (recordIs W c ≡ []) × Whole W c
+unfolding recordIs recordAt Whole table
+no-numbers W c e = (ap (λ l. recordAt W (c .statements .ids) l) e, λ i l. absurd (omega arith))
+
+-- the number of a statement is one of the pool that has it
+number-within : (s : Stmt) (P : List Stmt) → numberOf s P < length (pooled s P)
+unfolding numberOf pooled any
+number-within s [] = omega arith
+number-within s (x ∷ P) = go (sameStmt s x) (any (sameStmt s) P) refl (number-within s P)
+  where
+    go : (b d : Bool) → any (sameStmt s) P ≡ d → numberOf s P < length (pooled s P)
+        → (if b then 0 else suc (numberOf s P)) < length (if b || d then x ∷ P else (x ∷ P) ++ (s ∷ []))
+    go true d e l = omega arith
+    go false true e l = let q : length (pooled s P) ≡ length P = ap (λ b. length (if b then P else P ++ (s ∷ []))) e in omega arith
+    go false false e l = let q : length (pooled s P) ≡ length (P ++ (s ∷ [])) = ap (λ b. length (if b then P else P ++ (s ∷ []))) e in omega arith
+
+pool-length : (W : List ℕ) → length (poolIs W) ≡ poolLen W
+unfolding poolIs
+pool-length W = table-length (poolLen W) (stmtAt W)
+
+-- what a turn answered means the same over a pool that has grown
+module _ {W left W′ : List ℕ} {c : Controller} {o : controller.Outcome} {r : Outcome} (m : Meets W c o (signedOf (o .answer)) r left) (g : Grows left W′) where
+  signed-same : (i : ℕ) → r .answer ≡ Signed i → answerIs W′ (Signed i) ≡ answerIs left (Signed i)
+  unfolding answerIs
+  signed-same i e =
+      let s : o .answer ≡ controller.signed (stmtAt left i) = sym (m .answer) ∙ ap (answerIs left) e in
+      let n : i ≡ numberOf (stmtAt left i) (poolIs W) = at-number (sym e ∙ m .number (stmtAt left i) s) in
+      let p : poolIs left ≡ pooled (stmtAt left i) (poolIs W) = grown-to s in
+      let q : length (poolIs left) ≡ length (pooled (stmtAt left i) (poolIs W)) = ap length p in
+      ap controller.signed (g .same i (omega (arith, pool-length left, number-within (stmtAt left i) (poolIs W))))
+    where
+      at-number : {i j : ℕ} → Signed i ≡ Signed j → i ≡ j
+      at-number e = cc
+
+      grown-to : {s : Stmt} → o .answer ≡ controller.signed s → poolIs left ≡ pooled s (poolIs W)
+      grown-to {s} e = subst (λ a. PoolAfter W (signedOf a) left) e (m .pool) .is
+
+  same-answer : answerIs W′ (r .answer) ≡ o .answer
+  unfolding answerIs
+  same-answer = go (r .answer) refl ∙ m .answer
+    where
+      go : (a : held.Answer) → r .answer ≡ a → answerIs W′ (r .answer) ≡ answerIs left (r .answer)
+      go Taken e = rw e
+      go (Signed i) e = rw e (signed-same i e)
+      go (Entered v) e = rw e
+      go (Delivered x) e = rw e
+      go Left e = rw e
+      go Quiet e = rw e
+      go (Refused q) e = rw e
+
+-- ---- one controller
+
+-- The run's state of controller k before event n is that of the engine.
+pub record Agrees (run : Run) (k : ℕ) (W : ℕ → List ℕ) (r : ℕ → Outcome) (n : ℕ) : Type 0 where
+  pub controller : controllerIs (r n .controller) ≡ controllerOf run k n
+  pub statements : recordIs (W n) (r n .controller) ≡ recordOf run k n
+  pub whole : Whole (W n) (r n .controller)
+
+-- a setup that is taken leaves nothing of what was before
+setup-anew : (k members sender : ℕ) (X : List Stmt) → Start k members sender → setup controller.notSetUp X k members sender ≡ setup controller.notSetUp [] k members sender
+unfolding setup
+setup-anew k members sender X (starts t e) = go (setupAllowed k members sender) t
+  where
+    result : Bool → List Stmt → controller.Outcome
+    result b X = if not b then record { answer = controller.refused controller.badSetup; controller = controller.notSetUp; statements = X } else record { answer = controller.taken; controller = started k members sender; statements = [] }
+
+    go : (b : Bool) → T b → result b X ≡ result b []
+    go true t = refl
+
+module _ {run : Run} (is : IsRun run) {k : ℕ} (ok : T (run .follows k)) {W : ℕ → List ℕ} {r : ℕ → Outcome} (engine : EngineRun run k W r) where
+  -- the call of event n, as the run has it
+  engine-outcome : (n : ℕ) (c : Call) → event run n ≡ some (call k c) → Agrees run k W r n
+      → outcome (hasRoom (poolIs (W n))) (controllerIs (r n .controller)) (recordIs (W n) (r n .controller)) c ≡ returned run k (suc n)
+  engine-outcome n c e a =
+      ap (λ f. outcome f (controllerIs (r n .controller)) (recordIs (W n) (r n .controller)) c) (sym (engine .room n c e))
+      ∙ ap₂ (λ d X. outcome (run .room n) d X c) (a .controller) (a .statements) ∙ sym (called is k n c e)
+
+  -- the setup
+  first : Agrees run k W r 0
+  unfolding returned outcome changeOf
+  first =
+      let s = engine .started in
+      let b = begun is k (is .numbered k ok) in
+      let o : setup (controllerIs (engine .fresh)) (recordIs (engine .pool) (engine .fresh)) k (run .members) (run .sender) ≡ returned run k 0
+      = ap (λ d. setup d (recordIs (engine .pool) (engine .fresh)) k (run .members) (run .sender)) (engine .unset) ∙ setup-anew k (run .members) (run .sender) _ b in
+      let t : returned run k 0 .answer ≡ controller.taken = is .started k (is .numbered k ok) in
+      let n = subst (λ p. NumbersAfter (engine .pool) (engine .fresh .statements) (startedOf p) (r 0 .controller .statements)) (ap (λ x. x .answer) o ∙ t) (s .called .numbers) in
+      let (x, w) = no-numbers (W 0) (r 0 .controller) n in
+      record { controller = s .called .controller ∙ ap (λ x. x .controller) o; statements = x ∙ sym (started-empty b); whole = w }
+    where
+      started-empty : Start k (run .members) (run .sender) → returned run k 0 .statements ≡ []
+      started-empty (starts t e) = ap (λ x. x .statements) e
+
+  -- THE ENGINE RUNS THE PROTOCOL: after any number of events its controller and record are the run's
+  pub agrees : (n : ℕ) → Agrees run k W r n
+  agrees zero = first
+  agrees (suc n) = go (agrees n) (next is k ok n)
+    where
+      go : Agrees run k W r n → Next is k n → Agrees run k W r (suc n)
+      go a (acts c e _) =
+          let s = engine .called n c e in
+          let o = engine-outcome n c e a in
+          let (x, w) = s .called .statements (a .whole) in
+          let (y, v) = grown-record (s .grows) (r (suc n) .controller) w in
+          record { controller = s .called .controller ∙ ap (λ x. x .controller) o; statements = y ∙ x ∙ ap (λ x. x .statements) o; whole = v }
+      go a (waits q f) =
+          let (e, g) = engine .others n f in
+          let (s, w) = grown-record g (r n .controller) (a .whole) in
+          record {
+            controller = ap (λ x. controllerIs (x .controller)) e ∙ a .controller ∙ ap (λ x. x .controller) (sym q);
+            statements = ap (λ x. recordIs (W (suc n)) (x .controller)) e ∙ s ∙ a .statements ∙ ap (λ x. x .statements) (sym q);
+            whole = subst (λ (x : Outcome). Whole (W (suc n)) (x .controller)) (sym e) w;
+          }
+
+  -- and each turn answers what the run's turn answers
+  pub answers : (n : ℕ) → event run n ≡ some (call k turnCall) → answerIs (W (suc n)) (r (suc n) .answer) ≡ returned run k (suc n) .answer
+  unfolding changeOf
+  answers n e = let s = engine .called n turnCall e in same-answer (s .called) (s .grows) ∙ ap (λ x. x .answer) (engine-outcome n turnCall e (agrees n))
+
+-- ---- the promises
+
+module _ {run : Run} (is : IsRun run) (W : ℕ → ℕ → List ℕ) (r : ℕ → ℕ → Outcome) (engines : EngineRuns run W r) where
+  there : (n k : ℕ) (a : controller.Answer) → T (run .follows k) → EngineAnswers run W r n k a → TurnAnswers run n k a
+  there n k a ok t = record { isTurn = t .isTurn; answers = sym (answers is ok (engines k ok) n (t .isTurn)) ∙ t .answers }
+
+  back : (n k : ℕ) (s : Stmt) → T (run .follows k) → TurnAnswers run n k (controller.signed s) → EngineAnswers run W r n k (controller.signed s)
+  back n k s ok t = record { isTurn = t .isTurn; answers = answers is ok (engines k ok) n (t .isTurn) ∙ t .answers }
+
+  same : (k n : ℕ) → T (run .follows k) → recordOf run k n ≡ recordIs (W k n) (r k n .controller)
+  same k n ok = sym (agrees is ok (engines k ok) n .statements)
+
+  -- WHAT THE ENGINE ANSWERS KEEPS THE PROMISES
+  pub calls-keep : Promises (engineCalls run W r)
+  calls-keep = carried (observed run) (EngineAnswers run W r) (λ k n. recordIs (W k n) (r k n .controller)) there back same (promises is)
+
+  -- and no turn is refused with 7
+  pub calls-no-conflict : NoConflict (engineCalls run W r)
+  calls-no-conflict = carried-no-conflict (observed run) (EngineAnswers run W r) (λ k n. recordIs (W k n) (r k n .controller)) there back same (no-conflict is)

@@ -1,0 +1,153 @@
+-- A host's calls are the engine's, so the promises hold of the numbers that the host gets.
+-- Assumes nothing.
+use mathlib.Core.Path.{_≡_, refl, sym, ap, ap₂, subst, _∙_}
+use mathlib.Core.List.{List, [], _∷_}
+use mathlib.Core.Option.{some}
+use Prim.Native.Nat.{ℕ, zero, suc, _+_, _*_, _/_, _%_, _<_}
+use native.Mathlib.Omega.{arith}
+use lib.Dec.{T}
+use Rattle.protocol.specs.View.{controllers, View, isView}
+use Rattle.protocol.specs.Statement.{Stmt}
+use Rattle.protocol.specs.Controller as controller
+use Rattle.protocol.specs.Run.{Call, turnCall, call, Run, event, returned, recordOf, TurnAnswers, IsRun}
+use Rattle.protocol.specs.Promises.{observed, Promises, NoConflict}
+use Rattle.protocol.proofs.Order.{fits}
+use Rattle.protocol.proofs.Steps.{Next, waits, acts, next}
+use Rattle.protocol.proofs.Model.{entered-top, top-is-view}
+use Rattle.protocol.proofs.Promises.{promises, no-conflict}
+use Rattle.protocol.proofs.Carried.{carried, carried-no-conflict}
+use Rattle.views.specs.View.{viewOf}
+use Rattle.views.specs.Held.{viewIs}
+use Rattle.engine.specs.declared.Outcome.{Outcome}
+use Rattle.engine.specs.declared.Answer.{Answer}
+use Rattle.engine.specs.declared.Answer.the-variants.{Taken, Signed, Entered, Delivered, Left, Quiet, Refused}
+use Rattle.engine.specs.declared.Refusal.{Refusal}
+use Rattle.engine.specs.declared.Refusal.the-variants as why
+use Rattle.engine.specs.Meaning.{recordIs, answerIs, refusalIs}
+use Rattle.host.specs.Memory.{controllerAt}
+use Rattle.host.specs.Host.{answerNumber, valueNumber}
+use Rattle.guarantee.specs.Calls.{Grows, Calls, EngineRun, Host, HostRun, HostRuns, refusalOf, said, HostAnswers, hostCalls}
+use Rattle.guarantee.proofs.Calls.{agrees, answers}
+
+-- ---- what the numbers say is what the engine answered
+
+-- a view of the ring is that of its word
+view-of-word : (v : View) → T (isView controllers v) → viewOf (v .joined + v .left * 65536) ≡ v
+unfolding viewOf
+view-of-word v t = go (fits t .joined) (fits t .left)
+  where
+    go : v .joined < 65536 → v .left < 65536 → viewOf (v .joined + v .left * 65536) ≡ v
+    go p q =
+        let x : (v .joined + v .left * 65536) % 65536 ≡ v .joined = omega arith in
+        let z : (v .joined + v .left * 65536) / 65536 ≡ v .left = omega arith in
+        let w : v .left % 65536 ≡ v .left = omega arith in
+        let y : (v .joined + v .left * 65536) / 65536 % 65536 ≡ v .left = ap (λ n. n % 65536) z ∙ w in
+        ap₂ (λ j l. record { joined = j; left = l }) x y
+
+refusal-said : (q : Refusal) → refusalOf (controller.refusalNumber (refusalIs q)) ≡ refusalIs q
+refusal-said why.BadSetup = refl
+refusal-said why.BadStatement = refl
+refusal-said why.Repeated = refl
+refusal-said why.Full = refl
+refusal-said why.BadRequest = refl
+refusal-said why.ManyCandidates = refl
+refusal-said why.Conflict = refl
+refusal-said why.OutOfPlace = refl
+
+-- (a view that is entered is one of the ring)
+answer-said : (W : List ℕ) (a : Answer) → ((v : View) → answerIs W a ≡ controller.entered v → T (isView controllers v)) → said W (answerNumber a) (valueNumber a) ≡ answerIs W a
+unfolding said answerNumber valueNumber answerIs
+answer-said W Taken f = refl
+answer-said W (Signed n) f = refl
+answer-said W (Entered v) f = ap controller.entered (view-of-word (viewIs v) (f (viewIs v) refl))
+answer-said W (Delivered m) f = refl
+answer-said W Left f = refl
+answer-said W Quiet f = refl
+answer-said W (Refused q) f = ap controller.refused (refusal-said q)
+
+-- ---- one controller
+
+same-call : {k : ℕ} {c d : Call} {e : _} → e ≡ some (call k c) → e ≡ some (call k d) → c ≡ d
+same-call p q = cc
+
+module _ {run : Run} (is : IsRun run) {k : ℕ} (ok : T (run .follows k)) {h : ℕ → Host} (host : HostRun run k h) where
+  -- what the engine answered last, before event n
+  pub toldBy : (n : ℕ) → Next is k n → Answer → Answer
+  toldBy n (acts c e _) a = host .called n c e .called .told
+  toldBy n (waits _ _) a = a
+
+  pub told : ℕ → Answer
+  told zero = host .started .called .told
+  told (suc n) = toldBy n (next is k ok n) (told n)
+
+  abbrev pub returns : ℕ → Outcome
+  returns n = record { answer = told n; controller = controllerAt (h n .fields) (h n .ids) }
+
+  pub engine-run : EngineRun run k (λ n. h n .pool) returns
+  unfolding toldBy told
+  engine-run = record {
+    fresh = controllerAt (host .fresh .fields) (host .fresh .ids);
+    pool = host .fresh .pool;
+    unset = host .unset .controller;
+    started = let s = host .started in record { left = s .left; called = s .called .called; grows = s .grows };
+    room = host .room;
+    called = λ n c e. by-call n c e (next is k ok n);
+    others = λ n f. waiting n f (next is k ok n);
+  }
+    where
+      after : (n : ℕ) → Next is k n → Outcome
+      after n x = record { answer = toldBy n x (told n); controller = controllerAt (h (suc n) .fields) (h (suc n) .ids) }
+
+      by-call : (n : ℕ) (c : Call) → event run n ≡ some (call k c) → (x : Next is k n) → Calls (h n .pool) (controllerAt (h n .fields) (h n .ids)) c (after n x) (h (suc n) .pool)
+      by-call n c e (acts d f y) =
+          let s = host .called n d f in
+          subst (λ b. Calls (h n .pool) (controllerAt (h n .fields) (h n .ids)) b (after n (acts d f y)) (h (suc n) .pool)) (same-call f e) (record { left = s .left; called = s .called .called; grows = s .grows })
+      by-call n c e (waits _ f) = absurd (f c e)
+
+      waiting : (n : ℕ) → ((c : Call) → ¬ (event run n ≡ some (call k c))) → (x : Next is k n) → (after n x ≡ returns n) × Grows (h n .pool) (h (suc n) .pool)
+      waiting n f (acts c e _) = absurd (f c e)
+      waiting n f (waits _ _) =
+          let w = host .others n f in
+          (ap₂ (λ F I. record { answer = told n; controller = controllerAt F I }) (w .fields) (w .ids), w .grows)
+
+  -- the host got the numbers of what the engine answered
+  numbers : (n : ℕ) (c : Call) → event run n ≡ some (call k c) → (h (suc n) .answer ≡ answerNumber (told (suc n))) × (h (suc n) .value ≡ valueNumber (told (suc n)))
+  unfolding toldBy told
+  numbers n c e = go (next is k ok n)
+    where
+      head : {a b : ℕ} → a ∷ [] ≡ b ∷ [] → a ≡ b
+      head p = cc
+
+      go : (x : Next is k n) → (h (suc n) .answer ≡ answerNumber (toldBy n x (told n))) × (h (suc n) .value ≡ valueNumber (toldBy n x (told n)))
+      go (acts d f _) = let s = host .called n d f in (s .called .answered, head (s .called .valued))
+      go (waits _ f) = absurd (f c e)
+
+  -- so they say what the run's turn answers
+  pub said-so : (n : ℕ) → event run n ≡ some (call k turnCall) → said (h (suc n) .pool) (h (suc n) .answer) (h (suc n) .value) ≡ returned run k (suc n) .answer
+  said-so n e =
+      let a = answers is ok engine-run n e in
+      let (p, q) = numbers n turnCall e in
+      ap₂ (said (h (suc n) .pool)) p q ∙ answer-said (h (suc n) .pool) (told (suc n)) (λ v f. entered-view v (record { isTurn = e; answers = sym a ∙ f })) ∙ a
+    where
+      entered-view : (v : View) → TurnAnswers run n k (controller.entered v) → T (isView controllers v)
+      entered-view v t = let (H, s, q) = entered-top is ok t in subst (λ u. T (isView controllers u)) q (top-is-view is s)
+
+-- ---- the promises
+
+module _ {run : Run} (is : IsRun run) (h : ℕ → ℕ → Host) (hosts : HostRuns run h) where
+  there : (n k : ℕ) (a : controller.Answer) → T (run .follows k) → HostAnswers run h n k a → TurnAnswers run n k a
+  there n k a ok t = record { isTurn = t .isTurn; answers = sym (said-so is ok (hosts k ok) n (t .isTurn)) ∙ t .says }
+
+  back : (n k : ℕ) (s : Stmt) → T (run .follows k) → TurnAnswers run n k (controller.signed s) → HostAnswers run h n k (controller.signed s)
+  back n k s ok t = record { isTurn = t .isTurn; says = said-so is ok (hosts k ok) n (t .isTurn) ∙ t .answers }
+
+  same : (k n : ℕ) → T (run .follows k) → recordOf run k n ≡ recordIs (h k n .pool) (controllerAt (h k n .fields) (h k n .ids))
+  same k n ok = sym (agrees is ok (engine-run is ok (hosts k ok)) n .statements)
+
+  -- WHAT A HOST IS TOLD KEEPS THE PROMISES
+  pub hosts-keep : Promises (hostCalls run h)
+  hosts-keep = carried (observed run) (HostAnswers run h) (λ k n. recordIs (h k n .pool) (controllerAt (h k n .fields) (h k n .ids))) there back same (promises is)
+
+  -- and no turn is refused with 7
+  pub hosts-no-conflict : NoConflict (hostCalls run h)
+  hosts-no-conflict = carried-no-conflict (observed run) (HostAnswers run h) (λ k n. recordIs (h k n .pool) (controllerAt (h k n .fields) (h k n .ids))) there back same (no-conflict is)

@@ -1,0 +1,128 @@
+-- A run whose calls are the engine's, or a host's, and what is seen of it (document 01, "A run").
+-- Assumes nothing.
+use mathlib.Core.Path.{_≡_}
+use mathlib.Core.List.{List, [], _∷_}
+use mathlib.Core.Option.{some}
+use Prim.Native.Nat.{ℕ, suc, _≤_, _<_}
+use lib.Dec.{T, eqb}
+use Rattle.protocol.specs.Lists.{if_then_else_}
+use Rattle.protocol.specs.Controller.{Answer, taken, signed, entered, delivered, left, quiet, refused, Refusal, badSetup, badStatement, repeated, full, badRequest, manyCandidates, conflict, outOfPlace, notSetUp}
+use Rattle.protocol.specs.Pool.{hasRoom}
+use Rattle.protocol.specs.Run.{Call, setupCall, turnCall, call, Run, ring, event, statements}
+use Rattle.protocol.specs.Promises.{Observed}
+use Rattle.views.specs.View.{viewOf}
+use Rattle.pool.specs.Pool.{stmtAt, poolLen}
+use Rattle.engine.specs.declared.Controller.{Controller}
+use Rattle.engine.specs.declared.Outcome.{Outcome}
+use Rattle.engine.specs.Meaning.{controllerIs, recordIs, poolIs, answerIs}
+use Rattle.engine.specs.Promise.{Called}
+use Rattle.host.specs.Memory.{controllerAt}
+use Rattle.host.specs.Host.{Fresh, CalledAt}
+
+-- The pool has all that it had, under the same numbers.
+pub record Grows (W W′ : List ℕ) : Type 0 where
+  pub more : poolLen W ≤ poolLen W′
+  pub same : (n : ℕ) → n < poolLen W → stmtAt W′ n ≡ stmtAt W n
+
+-- The engine was called so on c over the pool W, and returned r. Before the next event the pool is W′: the host may put statements into it after the call.
+pub record Calls (W : List ℕ) (c : Controller) (k : Call) (r : Outcome) (W′ : List ℕ) : Type 0 where
+  pub left : List ℕ
+  pub called : Called W c k r left
+  pub grows : Grows left W′
+
+-- The calls on controller k. W n is its pool before event n, and r n what the last call of the engine on it returned before that.
+pub record EngineRun (run : Run) (k : ℕ) (W : ℕ → List ℕ) (r : ℕ → Outcome) : Type 0 where
+  -- "One taken setup starts every rule-follower": the first call, on a controller that is not set up, over any pool.
+  pub fresh : Controller
+  pub pool : List ℕ
+  pub unset : controllerIs fresh ≡ notSetUp
+  pub started : Calls pool fresh (setupCall k (run .members) (run .sender)) (r 0) (W 0)
+  -- What the run says of the pool's room is asked at the calls on k alone: controllers may share a pool or have one each.
+  pub room : (n : ℕ) (c : Call) → event run n ≡ some (call k c) → run .room n ≡ hasRoom (poolIs (W n))
+  -- "Each call gets the controller and record that the last call on that rule-follower returned".
+  pub called : (n : ℕ) (c : Call) → event run n ≡ some (call k c) → Calls (W n) (r n .controller) c (r (suc n)) (W (suc n))
+  -- "nobody else writes them meanwhile": another event may put statements into the pool.
+  pub others : (n : ℕ) → ((c : Call) → ¬ (event run n ≡ some (call k c))) → (r (suc n) ≡ r n) × Grows (W n) (W (suc n))
+
+-- The calls on every rule-follower.
+abbrev pub EngineRuns : Run → (ℕ → ℕ → List ℕ) → (ℕ → ℕ → Outcome) → Type 0
+EngineRuns run W r = (k : ℕ) → T (run .follows k) → EngineRun run k (W k) (r k)
+
+-- Event n is a turn of controller k, and the engine answered a. A signed statement is answered by its number in the pool.
+pub record EngineAnswers (run : Run) (W : ℕ → ℕ → List ℕ) (r : ℕ → ℕ → Outcome) (n k : ℕ) (a : Answer) : Type 0 where
+  pub isTurn : event run n ≡ some (call k turnCall)
+  pub answers : answerIs (W k (suc n)) (r k (suc n) .answer) ≡ a
+
+-- The run as it is seen in what the engine answers and returns.
+abbrev pub engineCalls : Run → (ℕ → ℕ → List ℕ) → (ℕ → ℕ → Outcome) → Observed
+engineCalls run W r = record {
+  follows = run .follows;
+  ring = ring run;
+  sender = run .sender;
+  statements = statements run;
+  Answers = EngineAnswers run W r;
+  recordOf = λ k n. recordIs (W k n) (r k n .controller);
+}
+
+-- ---- a host's calls
+
+-- What a host has of one controller: the words of its pool, the controller's words and numbers, and the answer and the value of the last call on it.
+pub record Host : Type 0 where
+  pub pool : List ℕ
+  pub fields : List ℕ
+  pub ids : List ℕ
+  pub answer : ℕ
+  pub value : ℕ
+
+-- A call took the host from h to h′. After it the host may have put statements into the pool.
+pub record HostCalls (h : Host) (k : Call) (h′ : Host) : Type 0 where
+  pub left : List ℕ
+  pub called : CalledAt (h .pool) (h .fields) (h .ids) k (h′ .answer) (h′ .value ∷ []) left (h′ .fields) (h′ .ids)
+  pub grows : Grows left (h′ .pool)
+
+-- No call took place: the pool alone may have grown.
+pub record HostWaits (h h′ : Host) : Type 0 where
+  pub fields : h′ .fields ≡ h .fields
+  pub ids : h′ .ids ≡ h .ids
+  pub grows : Grows (h .pool) (h′ .pool)
+
+-- The calls on controller k, where h n is what the host has of it before event n.
+pub record HostRun (run : Run) (k : ℕ) (h : ℕ → Host) : Type 0 where
+  pub fresh : Host
+  pub unset : Fresh (fresh .fields) (fresh .ids)
+  pub started : HostCalls fresh (setupCall k (run .members) (run .sender)) (h 0)
+  pub room : (n : ℕ) (c : Call) → event run n ≡ some (call k c) → run .room n ≡ hasRoom (poolIs (h n .pool))
+  pub called : (n : ℕ) (c : Call) → event run n ≡ some (call k c) → HostCalls (h n) c (h (suc n))
+  pub others : (n : ℕ) → ((c : Call) → ¬ (event run n ≡ some (call k c))) → HostWaits (h n) (h (suc n))
+
+-- The calls on every rule-follower.
+abbrev pub HostRuns : Run → (ℕ → ℕ → Host) → Type 0
+HostRuns run h = (k : ℕ) → T (run .follows k) → HostRun run k (h k)
+
+-- The refusal of a number, as `refusalNumber` gives them.
+abbrev pub refusalOf : ℕ → Refusal
+refusalOf n =
+    if eqb n 1 then badSetup else if eqb n 2 then badStatement else if eqb n 3 then repeated else if eqb n 4 then full
+    else if eqb n 5 then badRequest else if eqb n 6 then manyCandidates else if eqb n 7 then conflict else outOfPlace
+
+-- What an answer and a value say: a statement by its number in the pool W, a view by its word, a payload as it is, a refusal by its number.
+unfoldable pub said : List ℕ → ℕ → ℕ → Answer
+said W answer value =
+    if eqb answer 0 then taken else if eqb answer 1 then signed (stmtAt W value) else if eqb answer 2 then entered (viewOf value)
+    else if eqb answer 3 then delivered value else if eqb answer 4 then left else if eqb answer 5 then quiet else refused (refusalOf value)
+
+-- Event n is a turn of controller k, and the numbers that the host got say a.
+pub record HostAnswers (run : Run) (h : ℕ → ℕ → Host) (n k : ℕ) (a : Answer) : Type 0 where
+  pub isTurn : event run n ≡ some (call k turnCall)
+  pub says : said (h k (suc n) .pool) (h k (suc n) .answer) (h k (suc n) .value) ≡ a
+
+-- The run as a host sees it.
+abbrev pub hostCalls : Run → (ℕ → ℕ → Host) → Observed
+hostCalls run h = record {
+  follows = run .follows;
+  ring = ring run;
+  sender = run .sender;
+  statements = statements run;
+  Answers = HostAnswers run h;
+  recordOf = λ k n. recordIs (h k n .pool) (controllerAt (h k n .fields) (h k n .ids));
+}
