@@ -3,17 +3,17 @@
 use mathlib.Core.Path.{_≡_, refl, sym, ap, ap₂, subst, _∙_}
 use mathlib.Core.Bool.{Bool, true, false, not, _||_}
 use mathlib.Core.List.{List, [], _∷_, _++_}
-use mathlib.Core.Option.{Option, some, none}
-use Prim.Native.Nat.{ℕ, zero, suc, _≤_, _<_, min}
+use mathlib.Core.Option.{some}
+use Prim.Native.Nat.{ℕ, zero, suc, _<_, min}
 use native.Mathlib.Omega.{arith}
 use lib.Dec.{T}
-use lib.ListN.{length, getD, length-append}
+use lib.ListN.{length, getD}
 use Rattle.protocol.specs.Lists.{if_then_else_, any}
 use Rattle.protocol.specs.Statement.{Stmt, sameStmt}
 use Rattle.protocol.specs.Controller as controller
 use Rattle.protocol.specs.Call.{setupAllowed, started, setup}
 use Rattle.protocol.specs.Pool.{numberOf, pooled, hasRoom}
-use Rattle.protocol.specs.Run.{Call, setupCall, turnCall, outcome, call, Run, event, returned, controllerOf, recordOf, TurnAnswers, IsRun}
+use Rattle.protocol.specs.Run.{Call, turnCall, outcome, call, Run, event, returned, controllerOf, recordOf, TurnAnswers, IsRun}
 use Rattle.protocol.specs.Promises.{observed, Promises, NoConflict}
 use Rattle.protocol.proofs.Steps.{Next, waits, acts, Start, starts, begun, called, next}
 use Rattle.protocol.proofs.Promises.{promises, no-conflict}
@@ -27,7 +27,7 @@ use Rattle.engine.specs.declared.Answer as held
 use Rattle.engine.specs.declared.Answer.the-variants.{Taken, Signed, Entered, Delivered, Left, Quiet, Refused}
 use Rattle.engine.specs.Meaning.{controllerIs, recordIs, poolIs, Whole, answerIs}
 use Rattle.engine.specs.Promise.{PoolAfter, NumbersAfter, Meets, changeOf, signedOf, startedOf}
-use Rattle.guarantee.specs.Calls.{Grows, Calls, EngineRun, EngineRuns, EngineAnswers, engineCalls}
+use Rattle.guarantee.specs.Calls.{Grows, EngineRun, EngineRuns, EngineAnswers, engineCalls}
 
 -- ---- pools
 
