@@ -1,5 +1,4 @@
 use native.Mathlib.Omega.{arith}
-use native.Mathlib.Omega.{arith}
 use mathlib.Core.Path.{sym}
 use lib.Seq.{length-take-le}
 use Rattle.bench.proofs.Answers.{answer-within}
@@ -8,7 +7,7 @@ use Rattle.ring_bench.proofs.print_rows.Statement.{statement}
 use Rattle.ring_bench.proofs.print_rows.Tie as tie
 use Rattle.ring_bench.proofs.print_rows.Reads as reads
 use Rattle.ring_bench.proofs.print_rows.Lts as lts
-use Rattle.bench.proofs.run.run.Reads as run-reads
+use Rattle.bench.proofs.lines.run.Reads as run-reads
 use Rattle.io.proofs.write_all.Reads as write-all-reads
 use Rattle.os.proofs.fail.Reads as fail-reads
 

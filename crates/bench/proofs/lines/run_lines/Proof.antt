@@ -6,8 +6,8 @@ use Prim.Native.Nat.{_-_}
 use lib.ListN.{length}
 use Rattle.bench.specs.Running.{benchIs, Kept, Fulls, Going}
 use Rattle.bench.proofs.Runs.{kept-first, going-first, next-within, next-moves, line-fits, line-seat, line-on, unread-on, named-at, going-room, going-long, going-end, left-one, left-all, kept-one, kept-all, fulls-none, fulls-one, needless-on}
-use Rattle.bench.proofs.run.run_lines.Statement.{statement}
-use Rattle.bench.proofs.run.run_lines.Tie as tie
+use Rattle.bench.proofs.lines.run_lines.Statement.{statement}
+use Rattle.bench.proofs.lines.run_lines.Tie as tie
 
 abbrev Inv-loop : tie.InvT-loop
 Inv-loop schedule rows₀ seats₀ full₀ words₀ setting₀ at₀ n₀ out₀ rows seats full words setting at n out = Kept words seats × Going schedule at n (benchIs setting words seats) rows₀ rows out × Fulls seats full

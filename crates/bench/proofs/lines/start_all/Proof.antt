@@ -3,10 +3,10 @@ use native.Mathlib.Omega.{arith}
 use mathlib.Core.Path.{_≡_, refl, sym, ap, _∙_}
 use Prim.Native.Nat.{_-_, _≤_}
 use Rattle.bench.proofs.Starts.{StartedTo, started-none, started-next, started-all}
-use Rattle.bench.proofs.run.start_all.Statement.{statement}
-use Rattle.bench.proofs.run.start_all.Tie as tie
-use Rattle.bench.proofs.run.start_all.Reads as reads
-use Rattle.bench.proofs.run.start_all.Lts as lts
+use Rattle.bench.proofs.lines.start_all.Statement.{statement}
+use Rattle.bench.proofs.lines.start_all.Tie as tie
+use Rattle.bench.proofs.lines.start_all.Reads as reads
+use Rattle.bench.proofs.lines.start_all.Lts as lts
 use Rattle.engine.proofs.Controller.new.Reads as new-reads
 use Rattle.engine.proofs.Controller.setup.Reads as setup-reads
 

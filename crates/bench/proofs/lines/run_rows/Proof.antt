@@ -1,8 +1,8 @@
 use borrow.Author.Needs.{needs}
 use native.Mathlib.Omega.{arith}
 use Rattle.bench.proofs.Runs.{printed-empty, printed-long, printed-run}
-use Rattle.bench.proofs.run.run_rows.Statement.{statement}
-use Rattle.bench.proofs.run.run_rows.Tie as tie
+use Rattle.bench.proofs.lines.run_rows.Statement.{statement}
+use Rattle.bench.proofs.lines.run_rows.Tie as tie
 
 -- src/run.rt:161:9
 put-header-requires : tie.Need-put-header-requires

@@ -3,11 +3,11 @@ use native.Mathlib.Omega.{arith}
 use mathlib.Core.Path.{_≡_, refl, sym, ap, _∙_}
 use Rattle.bench.specs.Seats.{valueOf}
 use Rattle.bench.specs.declared.row.Value.the-variants.{Number}
-use Rattle.bench.proofs.run.value_of.Statement.{statement}
-use Rattle.bench.proofs.run.value_of.Tie as tie
-use Rattle.bench.proofs.run.value_of.Reads as reads
-use Rattle.bench.proofs.run.value_of.Lts as lts
-use Rattle.bench.proofs.run.refusal_number.Reads as refusal-number-reads
+use Rattle.bench.proofs.lines.value_of.Statement.{statement}
+use Rattle.bench.proofs.lines.value_of.Tie as tie
+use Rattle.bench.proofs.lines.value_of.Reads as reads
+use Rattle.bench.proofs.lines.value_of.Lts as lts
+use Rattle.bench.proofs.lines.refusal_number.Reads as refusal-number-reads
 
 -- src/run.rt:60:26
 enum-told : tie.Need-enum-told

@@ -1,7 +1,7 @@
 use borrow.Author.Needs.{needs}
 use Rattle.bench.proofs.Rows.{row-put}
-use Rattle.bench.proofs.run.put_step.Statement.{statement}
-use Rattle.bench.proofs.run.put_step.Tie as tie
+use Rattle.bench.proofs.lines.put_step.Statement.{statement}
+use Rattle.bench.proofs.lines.put_step.Tie as tie
 
 -- src/run.rt:76:38
 word-of-requires : tie.Need-word-of-requires
