@@ -47,6 +47,7 @@ use Rattle.bench.specs.declared.state.Setting.{Setting}
 use Rattle.bench.specs.declared.state.Stepped.{Stepped}
 use Rattle.schedule.specs.Line.{Line, setup, all, lie, noStatement, ended}
 use Rattle.schedule.specs.Reading.{meant, Tells, Lying, LiedOf}
+use Rattle.schedule.proofs.Lies.{lie-untold}
 use Rattle.bench.specs.Bench as bench
 use Rattle.bench.specs.Bench.{Seat, emptySeat, Bench, step}
 use Rattle.bench.specs.Seats.{seatIs, benchOf, Distinct, Sound, Grows, Full, Seated, Gives, keptIs, filledIs, SeatedAs, RefusedAs, Keeps, Knows, Needless, Advanced, AdvancedBy, Fit, seatOf}
@@ -382,5 +383,5 @@ module _ {W W′ : List ℕ} {g : Setting} {c : Controller} {r : Stepped} (T′ 
   pub at-told : (l : ReadStatement) → LiedOf T′ l → l .ok ≡ true → Advanced W g c 0 (some (lie (stmtOf (l .statement)))) r W′ → AdvancedBy W g c 0 T′ r W′
   at-told l of e a = record { line = lie (stmtOf (l .statement)); reads = of .told e; advanced = a }
 
-  pub at-untold : (l : ReadStatement) → LiedOf T′ l → l .ok ≡ false → Advanced W g c 0 (some noStatement) r W′ → AdvancedBy W g c 0 T′ r W′
-  at-untold l of e a = record { line = noStatement; reads = of .untold e; advanced = a }
+  pub at-untold : Lying T′ → (l : ReadStatement) → LiedOf T′ l → l .ok ≡ false → Advanced W g c 0 (some noStatement) r W′ → AdvancedBy W g c 0 T′ r W′
+  at-untold t l of e a = record { line = noStatement; reads = lie-untold T′ t (of .untold e); advanced = a }

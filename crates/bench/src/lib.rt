@@ -1,5 +1,8 @@
 // The bench: a schedule to its rows.
-pub mod row;
-pub mod run;
-pub mod seat;
-pub mod state;
+mod lines;
+mod row;
+mod seat;
+mod state;
+
+pub use lines::ROWS_MAX;
+pub use lines::run;

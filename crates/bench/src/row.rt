@@ -79,7 +79,7 @@ fn put_value(out: &mut [u8], at: usize, value: Value) -> usize
 }
 
 // Writes a row and its newline, and answers the next position. No schedule has 100000 lines, and no controller is above 16.
-pub fn put_row(out: &mut [u8], at: usize, n: u64, who: u64, word: Word, value: Value) -> usize
+fn put_row(out: &mut [u8], at: usize, n: u64, who: u64, word: Word, value: Value) -> usize
     requires { ⌜ (at + 40 ≤ length (now out)) × (n < 100000) × (who < 100) ⌝ }
     ensures { λ r. ⌜ (r ≡ at + length (rowOf n who word value)) × (now (out .exit) ≡ sets (now (out .entry)) at (rowOf n who word value)) × (length (rowOf n who word value) ≤ 40) ⌝ }
 {

@@ -21,12 +21,12 @@ pub struct Replied {
 }
 
 // A record with what it lacked of the pool, and how many statements that were.
-pub struct Missing {
-    pub statements: Record,
-    pub count: usize,
+struct Missing {
+    statements: Record,
+    count: usize,
 }
 
-pub fn refused(c: Controller, r: Refusal) -> Replied
+fn refused(c: Controller, r: Refusal) -> Replied
     ensures { λ o. ⌜ (o .answer ≡ Answer.Refused r) × (o .number ≡ 0) × (o .controller ≡ c) ⌝ }
 {
     Replied {
@@ -37,7 +37,7 @@ pub fn refused(c: Controller, r: Refusal) -> Replied
     }
 }
 
-pub fn taken(c: Controller, n: u64, changed: bool) -> Replied
+fn taken(c: Controller, n: u64, changed: bool) -> Replied
     ensures { λ o. ⌜ (o .answer ≡ Answer.Taken) × (o .number ≡ n) × (o .controller ≡ c) × (o .changed ≡ changed) ⌝ }
 {
     Replied {

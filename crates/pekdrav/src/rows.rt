@@ -7,5 +7,5 @@ ghost use Rattle.bench.specs.Rows.{Answered};
 pub extern "C" fn pekdrav_bench(schedule: &[u8], rows: &mut [u8]) -> usize
     ensures { λ r. ⌜ Answered (now (schedule .entry)) (now (rows .entry)) r (now (rows .exit)) ⌝ }
 {
-    bench::run::run(schedule, rows)
+    bench::run(schedule, rows)
 }

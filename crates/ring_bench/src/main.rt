@@ -4,7 +4,6 @@ ghost use Prim.Native.Nat.{_-_, _≤_};
 ghost use lib.ListN.{length};
 ghost use Rattle.bench.specs.Rows.{Answered};
 ghost use Rattle.ring_bench.specs.Program.{Within};
-use bench::run;
 use libc::STDERR_FILENO;
 use libc::STDIN_FILENO;
 use libc::STDOUT_FILENO;
@@ -53,7 +52,7 @@ fn read_all(fd: i32, text: &mut [u8]) -> Input
 fn print_rows(schedule: &[u8], rows: &mut [u8]) -> usize
     ensures { λ r. ⌜ Answered (now (schedule .entry)) (now (rows .entry)) r (now (rows .exit)) ⌝ }
 {
-    let n = run::run(schedule, rows);
+    let n = bench::run(schedule, rows);
     if !io::write_all(STDOUT_FILENO, &rows[..n]) {
         os::fail(b"standard output");
     }
@@ -69,7 +68,7 @@ fn run_input(fd: i32, name: &[u8]) {
         return;
     };
     // Room for the rows of any schedule; with it the program takes about 3 MB of the stack's 8 MB.
-    let mut rows = [0u8; run::ROWS_MAX];
+    let mut rows = [0u8; bench::ROWS_MAX];
     print_rows(&text[..n], &mut rows);
 }
 

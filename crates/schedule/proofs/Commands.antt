@@ -9,7 +9,7 @@ use lib.ListN.{length, drop, drop-of-length-le}
 use lib.Seq.{drop-append-seam}
 use types.Run.{OneOf, miss}
 use denote.Enum.Declared.{tagOf}
-use Rattle.schedule.proofs.line.Verb as verb
+use Rattle.schedule.proofs.verb.Verb as verb
 use Rattle.text.specs.Text.{decText, hexText}
 use Rattle.statements.specs.declared.Part.{Part}
 use Rattle.statements.specs.Text.{parted}
@@ -18,8 +18,8 @@ use Rattle.statements.proofs.Views.{ok-before}
 use Rattle.schedule.specs.declared.line.Line as held
 use Rattle.schedule.specs.declared.line.Line.the-variants as is
 use Rattle.schedule.specs.declared.line.Parsed.the-variants.{Readable, Unreadable}
-use Rattle.schedule.specs.declared.line.Verb.{Verb}
-use Rattle.schedule.specs.declared.line.Verb.the-variants.{Setup, Join, Leave, Send, Give, All, Turn, Lie, Unknown}
+use Rattle.schedule.specs.declared.verb.Verb.{Verb}
+use Rattle.schedule.specs.declared.verb.Verb.the-variants.{Setup, Join, Leave, Send, Give, All, Turn, Lie, Unknown}
 use Rattle.schedule.specs.Line.{setupWord, ended, Written}
 use Rattle.schedule.specs.Reading.{wordOf, verbOf, LastAt, SetAt, IsNamed, IsNumbered, NamedBy, NumberedBy, SetBy, LieBy, Understood}
 use Rattle.schedule.proofs.Words.{begins, ended-same, OfVerb, reads-none}

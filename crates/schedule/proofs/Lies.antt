@@ -4,7 +4,7 @@ use Prim.Native.Nat.{ℕ, _-_, _<_, _≤_}
 use native.Mathlib.Omega.{arith}
 use mathlib.Core.Path.{_≡_, refl, sym, ap, _∙_}
 use mathlib.Core.Bool.{Bool, true, false, _&&_, true≢false, false≢true}
-use mathlib.Core.List.{List, _∷_, _++_}
+use mathlib.Core.List.{List, [], _∷_, _++_}
 use lib.Dec.{T, ltb, ltb→lt}
 use lib.ListN.{length, take, drop, length-drop}
 use lib.Seq.{take-all}
@@ -19,12 +19,13 @@ use Rattle.statements.specs.Meaning.{stmtOf}
 use Rattle.statements.specs.Promise.{ReadOf}
 use Rattle.schedule.specs.declared.line.Line.the-variants as is
 use Rattle.schedule.specs.declared.line.Parsed.the-variants.{Readable, Unreadable}
-use Rattle.schedule.specs.declared.line.Verb.the-variants.{Lie}
+use Rattle.schedule.specs.declared.verb.Verb.the-variants.{Lie}
 use Rattle.schedule.specs.Line.{lie, noStatement, lieWord, ended, Written}
-use Rattle.schedule.specs.Reading.{LieBy, Lying, LiedOf, Understood}
-use Rattle.schedule.proofs.Words.{begins, ended-same, reads-none}
+use Rattle.schedule.specs.Reading.{startsWith, LieBy, Lying, LiedOf, Understood}
+use Rattle.schedule.proofs.Words.{starts-only, begins, ended-same, reads-none}
 use Rattle.schedule.proofs.Commands.{follows, put-together}
 use Rattle.statements.proofs.Fits.{keeps-fits}
+use Rattle.statements.proofs.Written.{text-size}
 
 is-true : (b : Bool) → T b → b ≡ true
 is-true true t = refl
@@ -52,44 +53,58 @@ module _ (T′ : List ℕ) (by : LieBy T′) where
   with-comma e = record { reads = (drop 4 T′, put-together T′ lieWord (44 ∷ drop 4 T′) (begins T′ Lie (by .word)) (comma-only T′ 3 e)) }
 
 -- ---- its statement
-module _ (T′ : List ℕ) (lying : Lying T′) where
-  -- the lie is its word, a comma and what stands after it
-  is-lie : T′ ≡ lieWord ++ 44 ∷ lying .tells .0
-  unfolding parted
-  is-lie = ended-same T′ (lieWord ++ 44 ∷ lying .tells .0) (lying .tells .1)
 
-  pub all-within : 4 ≤ length T′
-  all-within = omega (arith, ap length is-lie)
+-- "lie,"
+abbrev pub lieStart : List ℕ
+lieStart = lieWord ++ 44 ∷ []
 
-  whole : ended T′ ≡ ended (lieWord ++ 44 ∷ drop 4 T′)
-  whole = ap ended is-lie ∙ ap (λ (t : List ℕ). ended (lieWord ++ 44 ∷ drop 4 t)) (sym is-lie)
+-- the empty text is no statement's
+empty-none : (r : ReadStatement) → ReadOf [] r → ¬ (r .ok ≡ true)
+empty-none r of e = omega (arith, ap length (of .only e), text-size (r .statement))
+
+module _ (T′ : List ℕ) where
+  pub not-lie : startsWith T′ lieStart ≡ false → (r : ReadStatement) → ReadOf [] r → LiedOf T′ r
+  unfolding parted startsWith
+  not-lie e r of = record {
+    told = λ o. absurd (empty-none r of o);
+    untold = λ _ s w. false≢true (sym e ∙ ap (λ (t : List ℕ). startsWith t lieStart) (ended-same T′ (lieStart ++ text s) (w .1)));
+    near = λ o. absurd (empty-none r of o);
+    short = of .short;
+  }
+
+  pub all-within : startsWith T′ lieStart ≡ true → 4 ≤ length T′
+  all-within e = omega (arith, ap length (starts-only T′ lieStart e))
 
   module _ (r : ReadStatement) (of : ReadOf (drop 4 T′) r) where
     abbrev keeps : Bool
     keeps = r .ok && fieldRules 16 (stmtOf (r .statement))
 
-    lie-read : keeps ≡ true → Written (lie (stmtOf (r .statement))) (ended T′)
+    lie-read : startsWith T′ lieStart ≡ true → keeps ≡ true → Written (lie (stmtOf (r .statement))) (ended T′)
     unfolding parted
-    lie-read e =
+    lie-read b e =
         let g = both (r .ok) (fieldRules 16 (stmtOf (r .statement))) e in
-        (g .1, whole ∙ ap (λ (t : List ℕ). ended (lieWord ++ 44 ∷ t)) (of .only (g .0)))
+        (g .1, put-together T′ lieStart (text (stmtOf (r .statement))) (starts-only T′ lieStart b) (of .only (g .0)))
 
     kept-true : (s : Stmt) → T (fieldRules 16 s) → drop 4 T′ ≡ text s → keeps ≡ true
     kept-true s f e =
         let g = of .back s (keeps-fits s f) e in
         rw (g .0) (ap (fieldRules 16) (g .1) ∙ is-true (fieldRules 16 s) f)
 
-    lie-none : keeps ≡ false → Written noStatement (ended T′)
+    lie-none : keeps ≡ false → (s : Stmt) → ¬ Written (lie s) (ended T′)
     unfolding parted
-    lie-none e = (drop 4 T′, whole, λ s f d. true≢false (sym (kept-true s f d) ∙ e))
+    lie-none e s w = true≢false (sym (kept-true s (w .0) (follows T′ lieStart (text s) (w .1))) ∙ e)
 
-    pub lie-told : (ok : Bool) → ok ≡ keeps → LiedOf T′ (record { ok = ok; statement = r .statement })
-    lie-told ok q = record {
-      told = λ e. lie-read (sym q ∙ e);
+    pub lie-told : startsWith T′ lieStart ≡ true → (ok : Bool) → ok ≡ keeps → LiedOf T′ (record { ok = ok; statement = r .statement })
+    lie-told b ok q = record {
+      told = λ e. lie-read b (sym q ∙ e);
       untold = λ e. lie-none (sym q ∙ e);
       near = λ e. near-origin (r .statement) (both (r .ok) (fieldRules 16 (stmtOf (r .statement))) (sym q ∙ e) .1);
       short = of .short;
     }
+
+  -- a lie of no statement
+  pub lie-untold : Lying T′ → ((s : Stmt) → ¬ Written (lie s) (ended T′)) → Written noStatement (ended T′)
+  lie-untold l n = (l .tells .0, l .tells .1, λ s f e. n s (f, l .tells .1 ∙ ap (λ (t : List ℕ). ended (parted (lieWord ∷ t ∷ []))) e))
 
 -- what stands after the comma, as the part of a slice
 pub after-comma : (S : List ℕ) (r : ReadStatement) → ReadOf (take (length S - 4) (drop 4 S)) r → ReadOf (drop 4 S) r

@@ -13,13 +13,13 @@ use borrow.Author.Tests.{eqb-true}
 use Rattle.protocol.specs.Statement.{Stmt}
 use Rattle.text.specs.Text.{decText, hexText}
 use Rattle.statements.specs.Text.{parted, text}
-use Rattle.schedule.specs.declared.line.Verb.{Verb}
-use Rattle.schedule.specs.declared.line.Verb.the-variants.{Setup, Join, Leave, Send, Give, All, Turn, Lie, Unknown}
+use Rattle.schedule.specs.declared.verb.Verb.{Verb}
+use Rattle.schedule.specs.declared.verb.Verb.the-variants.{Setup, Join, Leave, Send, Give, All, Turn, Lie, Unknown}
 use Rattle.schedule.specs.Line.{Line, setup, join, leave, send, give, all, turn, lie, noStatement, setupWord, joinWord, leaveWord, sendWord, giveWord, allWord, turnWord, lieWord, ended, Written, Reads}
 use Rattle.schedule.specs.Reading.{startsWith, wordOf, verbOf}
 
 -- ---- a text begins with its word
-starts-only : (T w : List ℕ) → startsWith T w ≡ true → T ≡ w ++ drop (length w) T
+pub starts-only : (T w : List ℕ) → startsWith T w ≡ true → T ≡ w ++ drop (length w) T
 unfolding startsWith
 starts-only T [] e = refl
 starts-only [] (c ∷ w) e = absurd (false≢true e)

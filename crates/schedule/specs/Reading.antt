@@ -7,6 +7,7 @@ use mathlib.Core.List.{List, [], _∷_, _++_}
 use mathlib.Core.Option.{Option, some, none}
 use lib.Dec.{eqb}
 use lib.ListN.{length, take, drop}
+use Rattle.protocol.specs.Statement.{Stmt}
 use Rattle.text.specs.Text.{decText, hexText}
 use Rattle.statements.specs.declared.Part.{Part}
 use Rattle.statements.specs.declared.ReadStatement.{ReadStatement}
@@ -17,9 +18,9 @@ use Rattle.schedule.specs.declared.line.Line.the-variants as is
 use Rattle.schedule.specs.declared.line.Parsed.{Parsed}
 use Rattle.schedule.specs.declared.line.Parsed.the-variants.{Readable, Unreadable}
 use Rattle.schedule.specs.declared.line.ReadLine.{ReadLine}
-use Rattle.schedule.specs.declared.line.Verb.{Verb}
-use Rattle.schedule.specs.declared.line.Verb.the-variants.{Setup, Join, Leave, Send, Give, All, Turn, Lie, Unknown}
-use Rattle.schedule.specs.Line.{Line, setup, join, leave, send, give, all, turn, lie, noStatement, setupWord, joinWord, leaveWord, sendWord, giveWord, allWord, turnWord, lieWord, ended, Written, Reads, lines}
+use Rattle.schedule.specs.declared.verb.Verb.{Verb}
+use Rattle.schedule.specs.declared.verb.Verb.the-variants.{Setup, Join, Leave, Send, Give, All, Turn, Lie, Unknown}
+use Rattle.schedule.specs.Line.{Line, setup, join, leave, send, give, all, turn, lie, setupWord, joinWord, leaveWord, sendWord, giveWord, allWord, turnWord, lieWord, ended, Written, Reads, lines}
 
 -- ---- what was read
 
@@ -59,10 +60,10 @@ pub record LineOf (S : List ℕ) (r : ReadLine) : Type 0 where
 pub record Lying (T : List ℕ) : Type 0 where
   pub tells : Tells none (ended T)
 
--- READING A LIE'S STATEMENT: the line T is the lie of the statement r, which keeps the field rules, or its text is no such statement's.
+-- READING A LIE'S STATEMENT: T is the lie of the statement r, which keeps the field rules, or the lie of none. It may be any text.
 pub record LiedOf (T : List ℕ) (r : ReadStatement) : Type 0 where
   pub told : r .ok ≡ true → Reads (ended T) (some (lie (stmtOf (r .statement))))
-  pub untold : r .ok ≡ false → Reads (ended T) (some noStatement)
+  pub untold : r .ok ≡ false → (s : Stmt) → ¬ Reads (ended T) (some (lie s))
   pub near : r .ok ≡ true → r .statement .origin < 16
   pub short : r .statement .history .len ≤ 16
 

@@ -1,7 +1,10 @@
 // The lines of a schedule. A line is read from the part of the schedule that begins with it; its end is looked for once, and its fields
 // within it.
 ghost use mathlib.Core.Path.{_≡_};
-ghost use Rattle.schedule.specs.Reading.{bodyLength, startsWith, verbOf, LastAt, SetAt, NamedBy, NumberedBy, SetBy, LieBy, Lying, LiedOf, Understood, LineOf};
+ghost use Rattle.schedule.specs.Reading.{bodyLength, LastAt, SetAt, NamedBy, NumberedBy, SetBy, LieBy, LiedOf, Understood, LineOf};
+use crate::verb::Verb;
+use crate::verb::starts_with;
+use crate::verb::verb_of;
 use statements::Part;
 use statements::ReadStatement;
 use text::Read;
@@ -29,19 +32,6 @@ pub struct ReadLine {
     pub next: usize,
 }
 
-// The word that a line begins with.
-pub enum Verb {
-    Setup,
-    Join,
-    Leave,
-    Send,
-    Give,
-    All,
-    Turn,
-    Lie,
-    Unknown,
-}
-
 // How many bytes stand before the newline, or before the end where there is none.
 fn line_end(s: &[u8]) -> usize
     ensures { λ r. ⌜ r ≡ bodyLength (now (s .entry)) ⌝ }
@@ -54,52 +44,6 @@ fn line_end(s: &[u8]) -> usize
         i += 1;
     }
     i
-}
-
-fn starts_with(s: &[u8], word: &[u8]) -> bool
-    ensures { λ r. ⌜ r ≡ startsWith (now (s .entry)) (now (word .entry)) ⌝ }
-{
-    if s.len() < word.len() {
-        return false;
-    }
-    let mut i = 0usize;
-    while i < word.len() {
-        if s[i] != word[i] {
-            return false;
-        }
-        i += 1;
-    }
-    true
-}
-
-fn verb_of(line: &[u8]) -> Verb
-    ensures { λ r. ⌜ r ≡ verbOf (now (line .entry)) ⌝ }
-{
-    if starts_with(line, b"setup") {
-        return Verb::Setup;
-    }
-    if starts_with(line, b"join") {
-        return Verb::Join;
-    }
-    if starts_with(line, b"leave") {
-        return Verb::Leave;
-    }
-    if starts_with(line, b"send") {
-        return Verb::Send;
-    }
-    if starts_with(line, b"give") {
-        return Verb::Give;
-    }
-    if starts_with(line, b"all") {
-        return Verb::All;
-    }
-    if starts_with(line, b"turn") {
-        return Verb::Turn;
-    }
-    if starts_with(line, b"lie") {
-        return Verb::Lie;
-    }
-    Verb::Unknown
 }
 
 // A comma and a number, to the line's end.
@@ -241,11 +185,14 @@ pub fn read_line(s: &[u8]) -> ReadLine
     }
 }
 
-// The statement of a line that is a lie; `ok` where its text is that of a statement that keeps the field rules.
+// The statement of a lie; `ok` just where the line is one, and its text that of a statement that keeps the field rules.
 pub fn lied(line: &[u8]) -> ReadStatement
-    requires { ⌜ Lying (now line) ⌝ }
     ensures { λ r. ⌜ LiedOf (now (line .entry)) r ⌝ }
 {
+    if !starts_with(line, b"lie,") {
+        // The empty text is no statement's.
+        return statements::read(b"");
+    }
     let r = statements::read(&line[4..]);
     let st = r.statement;
     ReadStatement {

@@ -1,4 +1,4 @@
--- `bench::lent::lend_turn` meets its contract: a walk of its MIR, by hand. The local is lent to `turn_one` for a lifetime that is made for the call, and comes back at the last value that `turn_one`'s contract says; the pool is given to `turn_one` at its own
+-- `lent::lend_turn` meets its contract: a walk of its MIR, by hand. The local is lent to `turn_one` for a lifetime that is made for the call, and comes back at the last value that `turn_one`'s contract says; the pool is given to `turn_one` at its own
 -- lifetime, share and name.
 -- All that the proof knows of `turn_one` is that it meets its contract.
 -- Assumes nothing.

@@ -1,4 +1,4 @@
--- `bench::lent::turn_one` meets its contract: a walk of its MIR, by hand. The controller's borrow is opened, and the whole value is copied out; the pool is given to the engine's `turn` at its own lifetime, share and name, and is not needed again; the controller
+-- `lent::turn_one` meets its contract: a walk of its MIR, by hand. The controller's borrow is opened, and the whole value is copied out; the pool is given to the engine's `turn` at its own lifetime, share and name, and is not needed again; the controller
 -- that `turn` returned is stored whole in the cell, and the borrow is closed at it.
 -- All that the proof knows of `turn` is that it meets its contract. Nothing here looks into a `Controller`, an `Answer` or the pool: their laws come from the modules that `rattle check` makes of the types.
 -- Assumes nothing.

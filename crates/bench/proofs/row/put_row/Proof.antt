@@ -13,35 +13,27 @@ use Rattle.bench.proofs.row.put_word.Reads as put-word-reads
 use Rattle.statements.proofs.put_number.Reads as put-number-reads
 use Rattle.text.proofs.write_dec.Reads as write-dec-reads
 
--- src/row.rt:70:9
 write-dec-requires : tie.Need-write-dec-requires
 write-dec-requires c κs = omega (arith, c .before .before .pre .0, line-most (c .before .before .args .n) (c .before .before .pre .1))
 
--- src/row.rt:71:9
 put-number-requires : tie.Need-put-number-requires
 put-number-requires c κs = omega (arith, c .before .before .before .before .before .before .pre .0, line-most (c .before .before .before .before .before .before .args .n) (c .before .before .before .before .before .before .pre .1), who-most (c .before .before .before .before .before .before .args .who) (c .before .before .before .before .before .before .pre .2), word-most (c .before .before .before .before .before .before .args .word), c .before .before .before .write-dec .ensures .0, c .before .before .before .write-dec .kept)
 
--- src/row.rt:72:9
 put-word-requires : tie.Need-put-word-requires
 put-word-requires c κs = omega (arith, c .before .before .before .before .before .before .before .before .before .before .pre .0, line-most (c .before .before .before .before .before .before .before .before .before .before .args .n) (c .before .before .before .before .before .before .before .before .before .before .pre .1), who-most (c .before .before .before .before .before .before .before .before .before .before .args .who) (c .before .before .before .before .before .before .before .before .before .before .pre .2), word-most (c .before .before .before .before .before .before .before .before .before .before .args .word), c .before .before .before .before .before .before .before .write-dec .ensures .0, c .before .before .before .before .before .before .before .write-dec .kept, c .before .before .before .put-number .ensures .0, c .before .before .before .put-number .kept)
 
--- src/row.rt:73:9
 put-value-requires : tie.Need-put-value-requires
 put-value-requires c κs = omega (arith, c .before .before .before .before .before .before .before .before .before .before .before .before .before .before .pre .0, line-most (c .before .before .before .before .before .before .before .before .before .before .before .before .before .before .args .n) (c .before .before .before .before .before .before .before .before .before .before .before .before .before .before .pre .1), who-most (c .before .before .before .before .before .before .before .before .before .before .before .before .before .before .args .who) (c .before .before .before .before .before .before .before .before .before .before .before .before .before .before .pre .2), word-most (c .before .before .before .before .before .before .before .before .before .before .before .before .before .before .args .word), c .before .before .before .before .before .before .before .before .before .before .before .write-dec .ensures .0, c .before .before .before .before .before .before .before .before .before .before .before .write-dec .kept, c .before .before .before .before .before .before .before .put-number .ensures .0, c .before .before .before .before .before .before .before .put-number .kept, c .before .before .before .put-word .ensures .0, c .before .before .before .put-word .kept)
 
--- src/row.rt:74:5
 slice-write-out : tie.Need-slice-write-out
 slice-write-out c = omega (arith, c .before .before .before .before .before .before .before .before .before .before .before .before .before .before .before .before .before .pre .0, line-most (c .before .before .before .before .before .before .before .before .before .before .before .before .before .before .before .before .before .args .n) (c .before .before .before .before .before .before .before .before .before .before .before .before .before .before .before .before .before .pre .1), who-most (c .before .before .before .before .before .before .before .before .before .before .before .before .before .before .before .before .before .args .who) (c .before .before .before .before .before .before .before .before .before .before .before .before .before .before .before .before .before .pre .2), word-most (c .before .before .before .before .before .before .before .before .before .before .before .before .before .before .before .before .before .args .word), c .before .before .before .before .before .before .before .before .before .before .before .before .before .before .write-dec .ensures .0, c .before .before .before .before .before .before .before .before .before .before .before .before .before .before .write-dec .kept, c .before .before .before .before .before .before .before .before .before .before .put-number .ensures .0, c .before .before .before .before .before .before .before .before .before .before .put-number .kept, c .before .before .before .before .before .before .put-word .ensures .0, c .before .before .before .before .before .before .put-word .kept, c .before .before .put-value .ensures .0, c .before .before .put-value .kept, c .before .before .put-value .ensures .2)
 
--- src/row.rt:75:5
 add-result : tie.Need-add-result
 add-result c = omega (arith, c .before .before .before .before .before .before .before .before .before .before .before .before .before .before .before .before .before .pre .0, line-most (c .before .before .before .before .before .before .before .before .before .before .before .before .before .before .before .before .before .args .n) (c .before .before .before .before .before .before .before .before .before .before .before .before .before .before .before .before .before .pre .1), who-most (c .before .before .before .before .before .before .before .before .before .before .before .before .before .before .before .before .before .args .who) (c .before .before .before .before .before .before .before .before .before .before .before .before .before .before .before .before .before .pre .2), word-most (c .before .before .before .before .before .before .before .before .before .before .before .before .before .before .before .before .before .args .word), c .before .before .before .before .before .before .before .before .before .before .before .before .before .before .write-dec .ensures .0, c .before .before .before .before .before .before .before .before .before .before .before .before .before .before .write-dec .kept, c .before .before .before .before .before .before .before .before .before .before .put-number .ensures .0, c .before .before .before .before .before .before .before .before .before .before .put-number .kept, c .before .before .before .before .before .before .put-word .ensures .0, c .before .before .before .before .before .before .put-word .kept, c .before .before .put-value .ensures .0, c .before .before .put-value .kept, c .before .before .put-value .ensures .2)
 
--- src/row.rt:66:1
 same-length : tie.Need-same-length
 same-length c = length-set (c .before .before .put-value .last .0) (c .before .before .put-value .result) 10 ∙ c .before .before .put-value .kept .0 ∙ c .before .before .before .before .before .before .put-word .kept .0 ∙ c .before .before .before .before .before .before .before .before .before .before .put-number .kept .0 ∙ c .before .before .before .before .before .before .before .before .before .before .before .before .before .before .write-dec .kept .0
 
--- src/row.rt:66:1
 returns : tie.Need-returns
 returns c = (omega (arith, row-size (c .before .before .before .before .before .before .before .before .before .before .before .before .before .before .before .before .before .args .n) (c .before .before .before .before .before .before .before .before .before .before .before .before .before .before .before .before .before .args .who) (c .before .before .before .before .before .before .before .before .before .before .before .before .before .before .before .before .before .args .word) (c .before .before .before .before .before .before .before .before .before .before .before .before .before .before .before .before .before .args .value), c .before .before .before .before .before .before .before .before .before .before .before .before .before .before .write-dec .ensures .0, c .before .before .before .before .before .before .before .before .before .before .put-number .ensures .0, c .before .before .before .before .before .before .put-word .ensures .0, c .before .before .put-value .ensures .0), rw (c .before .before .put-value .ensures .1) (rw (c .before .before .before .before .before .before .put-word .ensures .1) (rw (c .before .before .before .before .before .before .before .before .before .before .put-number .ensures .1) (rw (c .before .before .before .before .before .before .before .before .before .before .before .before .before .before .write-dec .ensures .1) (row-runs (c .before .before .before .before .before .before .before .before .before .before .before .before .before .before .before .before .before .args .n) (c .before .before .before .before .before .before .before .before .before .before .before .before .before .before .before .before .before .args .who) (c .before .before .before .before .before .before .before .before .before .before .before .before .before .before .before .before .before .args .word) (c .before .before .before .before .before .before .before .before .before .before .before .before .before .before .before .before .before .args .value) (c .before .before .before .before .before .before .before .before .before .before .before .before .before .before .before .before .before .args .out .now) (c .before .before .before .before .before .before .before .before .before .before .before .before .before .before .before .before .before .args .at) _ _ _ _ (c .before .before .before .before .before .before .before .before .before .before .before .before .before .before .write-dec .ensures .0) (c .before .before .before .before .before .before .before .before .before .before .put-number .ensures .0) (c .before .before .before .before .before .before .put-word .ensures .0) (c .before .before .put-value .ensures .0))))), omega (arith, row-size (c .before .before .before .before .before .before .before .before .before .before .before .before .before .before .before .before .before .args .n) (c .before .before .before .before .before .before .before .before .before .before .before .before .before .before .before .before .before .args .who) (c .before .before .before .before .before .before .before .before .before .before .before .before .before .before .before .before .before .args .word) (c .before .before .before .before .before .before .before .before .before .before .before .before .before .before .before .before .before .args .value), c .before .before .before .before .before .before .before .before .before .before .before .before .before .before .before .before .before .pre .0, line-most (c .before .before .before .before .before .before .before .before .before .before .before .before .before .before .before .before .before .args .n) (c .before .before .before .before .before .before .before .before .before .before .before .before .before .before .before .before .before .pre .1), who-most (c .before .before .before .before .before .before .before .before .before .before .before .before .before .before .before .before .before .args .who) (c .before .before .before .before .before .before .before .before .before .before .before .before .before .before .before .before .before .pre .2), word-most (c .before .before .before .before .before .before .before .before .before .before .before .before .before .before .before .before .before .args .word), c .before .before .before .before .before .before .before .before .before .before .before .before .before .before .write-dec .ensures .0, c .before .before .before .before .before .before .before .before .before .before .before .before .before .before .write-dec .kept, c .before .before .before .before .before .before .before .before .before .before .put-number .ensures .0, c .before .before .before .before .before .before .before .before .before .before .put-number .kept, c .before .before .before .before .before .before .put-word .ensures .0, c .before .before .before .before .before .before .put-word .kept, c .before .before .put-value .ensures .0, c .before .before .put-value .kept, c .before .before .put-value .ensures .2))
 

@@ -15,39 +15,30 @@ Inv-loop words n marks more₀ count₀ i₀ more count i = (i ≤ n) × (count 
 abbrev μ-loop : tie.MeasureT-loop
 μ-loop words n marks more₀ count₀ i₀ more count i = n - i
 
--- src/seat.rt:133:9
 unmarked-requires : tie.Need-unmarked-requires Inv-loop μ-loop
 unmarked-requires c κs = (omega arith, omega (arith, c .before .pre .3, pool-most (c .before .args .words .now)))
 
--- src/seat.rt:134:5
 loop-holds : tie.Need-loop-holds Inv-loop μ-loop
 loop-holds c = (c .unmarked .ensures .most, omega arith, fill-over _ (c .before .before .args .rec) (c .before .before .pre .0) (c .before .before .pre .1) _ (c .before .before .pre .2) 0 _ 0 _ (omega (arith, c .unmarked .ensures .most, c .before .before .pre .3)) (omega arith) (c .unmarked .ensures .passed) (fill-first _ (c .before .before .args .rec) (c .before .before .pre .1)), c .unmarked .ensures .free)
 
--- src/seat.rt:135:37
 cast-push : tie.Need-cast-push Inv-loop μ-loop
 cast-push c = omega (arith, c .before .before .before .before .pre .3, pool-most (c .before .before .before .before .args .words .now))
 
--- src/seat.rt:135:13
 push-requires : tie.Need-push-requires Inv-loop μ-loop
 push-requires c κs = search needs
 
--- src/seat.rt:137:9
 add-count : tie.Need-add-count Inv-loop μ-loop
 add-count c = omega (arith, c .before .before .before .before .before .pre .3, pool-most (c .before .before .before .before .before .args .words .now))
 
--- src/seat.rt:138:30
 add-unmarked : tie.Need-add-unmarked Inv-loop μ-loop
 add-unmarked c = omega (arith, c .before .before .before .before .before .before .pre .3, pool-most (c .before .before .before .before .before .before .args .words .now))
 
--- src/seat.rt:138:9
 unmarked-requires-2 : tie.Need-unmarked-requires-2 Inv-loop μ-loop
 unmarked-requires-2 c κs = (omega arith, omega (arith, c .before .before .before .before .before .before .pre .3, pool-most (c .before .before .before .before .before .before .args .words .now)))
 
--- src/seat.rt:134:5
 loop-less : tie.Need-loop-less Inv-loop μ-loop
 loop-less c = omega (arith, c .unmarked2 .ensures .from, c .unmarked2 .ensures .most)
 
--- src/seat.rt:134:5
 loop-again : tie.Need-loop-again Inv-loop μ-loop
 loop-again c = (
   c .unmarked2 .ensures .most,
@@ -57,7 +48,6 @@ loop-again c = (
   c .unmarked2 .ensures .free,
 )
 
--- src/seat.rt:127:1
 returns : tie.Need-returns Inv-loop μ-loop
 returns c = fill-end _ (c .before .before .before .before .args .rec) _ _ _ _ (omega arith) (c .before .loop .inv .2)
 

@@ -13,63 +13,48 @@ use Rattle.bench.proofs.seat.taken.Reads as taken-reads
 use Rattle.pool.proofs.push.Reads as push-reads
 use Rattle.pool.proofs.pool_len.Reads as pool-len-reads
 
--- src/seat.rt:159:9
 refused-requires : tie.Need-refused-requires
 refused-requires c κs = search needs
 
--- src/seat.rt:159:9
 returns : tie.Need-returns
 returns c = give-unready (c .before .before .args .words .now) (c .before .before .args .ready) (c .before .before .args .c) (c .before .before .args .k) (c .before .before .args .n) _ (c .refused .ensures) (c .before .before .pre) (not-true _ (c .before .if1 .taken))
 
--- src/seat.rt:161:13
 pool-len-requires : tie.Need-pool-len-requires
 pool-len-requires c κs = search needs
 
--- src/seat.rt:162:9
 refused-requires-2 : tie.Need-refused-requires-2
 refused-requires-2 c κs = search needs
 
--- src/seat.rt:162:9
 returns-2 : tie.Need-returns-2
 returns-2 c = give-unknown (c .before .before .before .before .args .words .now) (c .before .before .before .before .args .ready) (c .before .before .before .before .args .c) (c .before .before .before .before .args .k) (c .before .before .before .before .args .n) _ (c .before .before .before .before .pre) (not-false _ (c .before .before .before .if1 .left)) (c .refused2 .ensures) (omega (arith, c .before .before .pool-len .ensures .0, c .before .if2 .taken))
 
--- src/seat.rt:165:31
 cast-has-number : tie.Need-cast-has-number
 cast-has-number c = omega (arith, c .before .before .pool-len .ensures .1, c .before .if2 .left)
 
--- src/seat.rt:165:8
 has-number-requires : tie.Need-has-number-requires
 has-number-requires c κs = search needs
 
--- src/seat.rt:166:9
 refused-requires-3 : tie.Need-refused-requires-3
 refused-requires-3 c κs = search needs
 
--- src/seat.rt:166:9
 returns-3 : tie.Need-returns-3
 returns-3 c = give-again (c .before .before .before .before .before .before .before .args .words .now) (c .before .before .before .before .before .before .before .args .ready) (c .before .before .before .before .before .before .before .args .c) (c .before .before .before .before .before .before .before .args .k) (c .before .before .before .before .before .before .before .args .n) _ (c .before .before .before .before .before .before .before .pre) (not-false _ (c .before .before .before .before .before .before .if1 .left)) (c .refused3 .ensures) (omega (arith, c .before .before .before .before .before .pool-len .ensures .0, c .before .before .before .before .if2 .left)) (sym (c .before .before .has-number .ensures) ∙ c .before .if3 .taken)
 
--- src/seat.rt:169:9
 refused-requires-4 : tie.Need-refused-requires-4
 refused-requires-4 c κs = search needs
 
--- src/seat.rt:169:9
 returns-4 : tie.Need-returns-4
 returns-4 c = give-full (c .before .before .before .before .before .before .before .before .before .args .words .now) (c .before .before .before .before .before .before .before .before .before .args .ready) (c .before .before .before .before .before .before .before .before .before .args .c) (c .before .before .before .before .before .before .before .before .before .args .k) (c .before .before .before .before .before .before .before .before .before .args .n) _ (c .before .before .before .before .before .before .before .before .before .pre) (not-false _ (c .before .before .before .before .before .before .before .before .if1 .left)) (c .refused4 .ensures) (omega (arith, c .before .before .before .before .before .before .before .pool-len .ensures .0, c .before .before .before .before .before .before .if2 .left)) (sym (c .before .before .before .before .has-number .ensures) ∙ c .before .before .before .if3 .left) (c .before .if4 .taken)
 
--- src/seat.rt:171:39
 cast-push : tie.Need-cast-push
 cast-push c = omega (arith, c .before .before .before .before .before .before .pool-len .ensures .1, c .before .before .before .before .before .if2 .left)
 
--- src/seat.rt:171:9
 push-requires : tie.Need-push-requires
 push-requires c κs = search needs
 
--- src/seat.rt:172:5
 taken-requires : tie.Need-taken-requires
 taken-requires c κs = search needs
 
--- src/seat.rt:154:1
 returns-5 : tie.Need-returns-5
 returns-5 c = give-taken (c .before .before .before .before .before .before .before .before .before .before .before .before .args .words .now) (c .before .before .before .before .before .before .before .before .before .before .before .before .args .ready) (c .before .before .before .before .before .before .before .before .before .before .before .before .args .c) (c .before .before .before .before .before .before .before .before .before .before .before .before .args .k) (c .before .before .before .before .before .before .before .before .before .before .before .before .args .n) _ (c .before .before .before .before .before .before .before .before .before .before .before .before .pre) (not-false _ (c .before .before .before .before .before .before .before .before .before .before .before .if1 .left)) _ (c .taken .ensures) (omega (arith, c .before .before .before .before .before .before .before .before .before .before .pool-len .ensures .0, c .before .before .before .before .before .before .before .before .before .if2 .left)) (sym (c .before .before .before .before .before .before .before .has-number .ensures) ∙ c .before .before .before .before .before .before .if3 .left) (omega (arith, c .before .before .before .before .if4 .left)) (c .before .before .before .push .ensures)
 

@@ -13,74 +13,57 @@ use Rattle.pool.proofs.append.Reads as append-reads
 use Rattle.pool.proofs.find.Reads as find-reads
 use Rattle.views.proofs.View.has_member.Reads as has-member-reads
 
--- src/state.rt:117:15
 cast-who : tie.Need-cast-who
 cast-who c = search needs
 
--- src/state.rt:119:9
 refused-requires : tie.Need-refused-requires
 refused-requires c κs = search needs
 
--- src/state.rt:119:9
 returns : tie.Need-returns
 returns c = (lie-early _ _ _ (c .before .before .before .before .args .st) _ (c .before .before .before .before .pre .0) (c .before .before .before .before .pre .2) (c .refused .ensures .0) (not-true _ (c .before .if1 .taken)), c .refused .ensures .1)
 
--- src/state.rt:125:9
 has-member-requires : tie.Need-has-member-requires
 has-member-requires c κs = search needs
 
--- src/state.rt:126:9
 refused-requires-2 : tie.Need-refused-requires-2
 refused-requires-2 c κs = search needs
 
--- src/state.rt:126:9
 returns-2 : tie.Need-returns-2
 returns-2 c = (lie-unmarked _ _ _ (c .before .before .before .before .before .before .args .st) _ (c .before .before .before .before .before .before .pre .0) (c .before .before .before .before .before .before .pre .2) (not-false _ (c .before .before .before .if1 .left)) (c .refused2 .ensures .0) (marked-is _ _ _ (c .before .before .has-member .ensures) ∙ not-true _ (c .before .if2 .taken)), c .refused2 .ensures .1)
 
--- src/state.rt:128:9
 find-requires : tie.Need-find-requires
 find-requires c κs = search needs
 
--- src/state.rt:130:35
 enum-told : tie.Need-enum-told
 enum-told c = search needs
 
--- src/state.rt:130:9
 refused-requires-3 : tie.Need-refused-requires-3
 refused-requires-3 c κs = search needs
 
--- src/state.rt:130:9
 returns-3 : tie.Need-returns-3
 returns-3 c = (lie-again _ _ _ (c .before .before .before .before .before .before .before .before .before .before .args .st) _ (c .before .before .before .before .before .before .before .before .before .before .pre .0) (c .before .before .before .before .before .before .before .before .before .before .pre .2) (not-false _ (c .before .before .before .before .before .before .before .if1 .left)) (marked-is _ _ _ (c .before .before .before .before .before .before .has-member .ensures) ∙ not-false _ (c .before .before .before .before .before .if2 .left)) (c .refused3 .ensures .0) _ (sym (c .before .enum-told .given .1) ∙ c .before .before .before .find .ensures), c .refused3 .ensures .1)
 
 enum-told-2 : tie.Need-enum-told-2
 enum-told-2 c = search needs
 
--- src/state.rt:132:9
 append-requires : tie.Need-append-requires
 append-requires c κs = search needs
 
--- src/state.rt:133:20
 enum-known-placed : tie.Need-enum-known-placed
 enum-known-placed c = search needs
 
--- src/state.rt:134:35
 enum-told-3 : tie.Need-enum-told-3
 enum-told-3 c = search needs
 
--- src/state.rt:134:9
 refused-requires-4 : tie.Need-refused-requires-4
 refused-requires-4 c κs = search needs
 
--- src/state.rt:134:9
 returns-4 : tie.Need-returns-4
 returns-4 c = (lie-full _ _ _ (c .before .before .before .before .before .before .before .before .before .before .before .before .before .before .args .st) _ (c .before .before .before .before .before .before .before .before .before .before .before .before .before .before .pre .0) (c .before .before .before .before .before .before .before .before .before .before .before .before .before .before .pre .2) (not-false _ (c .before .before .before .before .before .before .before .before .before .before .before .if1 .left)) (marked-is _ _ _ (c .before .before .before .before .before .before .before .before .before .before .has-member .ensures) ∙ not-false _ (c .before .before .before .before .before .before .before .before .before .if2 .left)) _ (found-none _ (sym (c .before .before .before .before .before .enum-told2 .given .1) ∙ c .before .before .before .before .before .before .before .find .ensures)) (c .refused4 .ensures .0) (appended (c .before .before .before .append .ensures) (c .before .enum-told3 .given .1)), c .refused4 .ensures .1)
 
--- src/state.rt:139:17
 cast-t20 : tie.Need-cast-t20
 cast-t20 c = search needs
 
--- src/state.rt:113:1
 returns-5 : tie.Need-returns-5
 returns-5 c = (lie-taken _ _ (c .before .before .before .before .before .before .before .before .before .before .before .before .before .before .args .g) (c .before .before .before .before .before .before .before .before .before .before .before .before .before .before .args .c) (c .before .before .before .before .before .before .before .before .before .before .before .before .before .before .args .st) (c .before .before .before .before .before .before .before .before .before .before .before .before .before .before .pre .0) (c .before .before .before .before .before .before .before .before .before .before .before .before .before .before .pre .2) (c .before .before .before .before .before .before .before .before .before .before .before .before .before .before .pre .1) (not-false _ (c .before .before .before .before .before .before .before .before .before .before .before .if1 .left)) (marked-is _ _ _ (c .before .before .before .before .before .before .before .before .before .before .has-member .ensures) ∙ not-false _ (c .before .before .before .before .before .before .before .before .before .if2 .left)) _ (found-none _ (sym (c .before .before .before .before .before .enum-told2 .given .1) ∙ c .before .before .before .before .before .before .before .find .ensures)) (appended (c .before .before .before .append .ensures) (c .before .placed .given .1)) _, refl)
 

@@ -9,19 +9,15 @@ use Rattle.bench.proofs.state.no_statement.Reads as reads
 use Rattle.bench.proofs.state.no_statement.Lts as lts
 use Rattle.bench.proofs.state.refused.Reads as refused-reads
 
--- src/state.rt:152:9
 refused-requires : tie.Need-refused-requires
 refused-requires c κs = search needs
 
--- src/state.rt:152:9
 returns : tie.Need-returns
 returns c = (no-statement-early _ _ _ _ (c .before .before .before .pre) (c .refused .ensures .0) (not-true _ (c .before .if1 .taken)), c .refused .ensures .1)
 
--- src/state.rt:154:5
 refused-requires-2 : tie.Need-refused-requires-2
 refused-requires-2 c κs = search needs
 
--- src/state.rt:147:1
 returns-2 : tie.Need-returns-2
 returns-2 c = (no-statement-bad _ _ _ _ (c .before .before .before .pre) (c .refused2 .ensures .0) (not-false _ (c .before .if1 .left)), c .refused2 .ensures .1)
 

@@ -1,5 +1,5 @@
 use mathlib.Core.Path.{refl}
-use Rattle.schedule.specs.declared.line.Verb.the-variants.{Join, Leave, Send, Give, All, Turn}
+use Rattle.schedule.specs.declared.verb.Verb.the-variants.{Join, Leave, Send, Give, All, Turn}
 use Rattle.schedule.proofs.Commands.{named-by, numbered-by, set-by, lie-by, unknown}
 use borrow.Author.Needs.{needs}
 use Rattle.schedule.proofs.line.read_body.Statement.{statement}

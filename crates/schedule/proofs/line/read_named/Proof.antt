@@ -1,5 +1,5 @@
 use borrow.Author.Tests.{not-true, not-false}
-use Rattle.schedule.specs.declared.line.Verb.the-variants.{Join, Leave, All, Turn}
+use Rattle.schedule.specs.declared.verb.Verb.the-variants.{Join, Leave, All, Turn}
 use Rattle.schedule.proofs.Commands.{named-some, named-none, last-named}
 use borrow.Author.Needs.{needs}
 use Rattle.schedule.proofs.line.read_named.Statement.{statement}

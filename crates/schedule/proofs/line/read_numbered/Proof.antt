@@ -1,5 +1,5 @@
 use borrow.Author.Tests.{not-true, not-false}
-use Rattle.schedule.specs.declared.line.Verb.the-variants.{Send, Give}
+use Rattle.schedule.specs.declared.verb.Verb.the-variants.{Send, Give}
 use Rattle.schedule.proofs.Commands.{numbered-some, numbered-none, last-numbered}
 use borrow.Author.Needs.{needs}
 use Rattle.schedule.proofs.line.read_numbered.Statement.{statement}

@@ -175,7 +175,7 @@ fn run_lines(schedule: &[u8], rows: &mut [u8]) -> usize
 
 // Of the rows of a schedule, writes what has room, and answers how many bytes they all have. No schedule has more than 65,536 lines, and
 // no row more than 40 bytes.
-pub fn run_rows(schedule: &[u8], rows: &mut [u8]) -> usize
+fn run_rows(schedule: &[u8], rows: &mut [u8]) -> usize
     ensures { λ r. ⌜ Wrote (now (schedule .entry)) (now (rows .entry)) r (now (rows .exit)) ⌝ }
 {
     row::put_header(rows);

@@ -1,8 +1,8 @@
 use borrow.Author.Needs.{needs}
 use native.Mathlib.Omega.{arith}
 use Rattle.bench.proofs.Answers.{large-room}
-use Rattle.bench.proofs.run.run.Statement.{statement}
-use Rattle.bench.proofs.run.run.Tie as tie
+use Rattle.bench.proofs.lines.run.Statement.{statement}
+use Rattle.bench.proofs.lines.run.Tie as tie
 
 pub run-spec : {M : Type 1} → statement M
 run-spec =

@@ -1,46 +1,36 @@
 use borrow.Author.Needs.{needs}
 use native.Mathlib.Omega.{arith}
 use Rattle.bench.proofs.Runs.{printed-empty, printed-long, printed-run}
-use Rattle.bench.proofs.run.run_rows.Statement.{statement}
-use Rattle.bench.proofs.run.run_rows.Tie as tie
+use Rattle.bench.proofs.lines.run_rows.Statement.{statement}
+use Rattle.bench.proofs.lines.run_rows.Tie as tie
 
--- src/run.rt:161:9
 put-header-requires : tie.Need-put-header-requires
 put-header-requires c κs = search needs
 
--- src/run.rt:163:9
 put-row-within-requires : tie.Need-put-row-within-requires
 put-row-within-requires c κs = search needs
 
--- src/run.rt:163:9
 same-length : tie.Need-same-length
 same-length c = search needs
 
--- src/run.rt:163:9
 returns : tie.Need-returns
 returns c = printed-empty (c .before .before .before .before .before .before .before .before .before .before .before .args .schedule .now) (c .before .before .before .before .before .before .before .before .before .before .before .args .rows .now) _ _ _ (c .before .before .before .before .before .before .before .put-header .ensures .1) (c .before .before .put-row-within .ensures) (c .before .before .before .before .if1 .taken)
 
--- src/run.rt:166:9
 put-row-within-requires-2 : tie.Need-put-row-within-requires-2
 put-row-within-requires-2 c κs = search needs
 
--- src/run.rt:166:9
 same-length-2 : tie.Need-same-length-2
 same-length-2 c = search needs
 
--- src/run.rt:166:9
 returns-2 : tie.Need-returns-2
 returns-2 c = printed-long (c .before .before .before .before .before .before .before .before .before .before .before .before .args .schedule .now) (c .before .before .before .before .before .before .before .before .before .before .before .before .args .rows .now) _ _ _ (c .before .before .before .before .before .before .before .before .put-header .ensures .1) (c .before .before .put-row-within2 .ensures) (c .before .before .before .before .if2 .taken)
 
--- src/run.rt:168:5
 run-lines-requires : tie.Need-run-lines-requires
 run-lines-requires c κs = search needs
 
--- src/run.rt:157:1
 same-length-3 : tie.Need-same-length-3
 same-length-3 c = search needs
 
--- src/run.rt:157:1
 returns-3 : tie.Need-returns-3
 returns-3 c = printed-run (c .before .before .before .before .before .before .before .before .before .before .before .before .args .schedule .now) (c .before .before .before .before .before .before .before .before .before .before .before .before .args .rows .now) _ _ _ (c .before .before .before .before .before .before .before .before .put-header .ensures .1) (c .before .before .run-lines .ensures) (c .before .before .before .before .before .if1 .left) (omega (arith, c .before .before .before .before .if2 .left))
 

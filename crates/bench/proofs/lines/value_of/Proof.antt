@@ -3,69 +3,54 @@ use native.Mathlib.Omega.{arith}
 use mathlib.Core.Path.{_≡_, refl, sym, ap, _∙_}
 use Rattle.bench.specs.Seats.{valueOf}
 use Rattle.bench.specs.declared.row.Value.the-variants.{Number}
-use Rattle.bench.proofs.run.value_of.Statement.{statement}
-use Rattle.bench.proofs.run.value_of.Tie as tie
-use Rattle.bench.proofs.run.value_of.Reads as reads
-use Rattle.bench.proofs.run.value_of.Lts as lts
-use Rattle.bench.proofs.run.refusal_number.Reads as refusal-number-reads
+use Rattle.bench.proofs.lines.value_of.Statement.{statement}
+use Rattle.bench.proofs.lines.value_of.Tie as tie
+use Rattle.bench.proofs.lines.value_of.Reads as reads
+use Rattle.bench.proofs.lines.value_of.Lts as lts
+use Rattle.bench.proofs.lines.refusal_number.Reads as refusal-number-reads
 
--- src/run.rt:60:26
 enum-told : tie.Need-enum-told
 enum-told c = search needs
 
--- src/run.rt:61:30
 enum-told-2 : tie.Need-enum-told-2
 enum-told-2 c = search needs
 
--- src/run.rt:62:25
 enum-known-a : tie.Need-enum-known-a
 enum-known-a c = search needs
 
--- src/run.rt:63:27
 enum-known-a-2 : tie.Need-enum-known-a-2
 enum-known-a-2 c = search needs
 
--- src/run.rt:64:25
 enum-told-3 : tie.Need-enum-told-3
 enum-told-3 c = search needs
 
--- src/run.rt:65:26
 enum-told-4 : tie.Need-enum-told-4
 enum-told-4 c = search needs
 
--- src/run.rt:66:25
 enum-known-a-3 : tie.Need-enum-known-a-3
 enum-known-a-3 c = search needs
 
--- src/run.rt:66:45
 refusal-number-requires : tie.Need-refusal-number-requires
 refusal-number-requires c κs = search needs
 
--- src/run.rt:56:1
 returns : tie.Need-returns
 returns c = sym (ap (λ t. valueOf t (c .before .before .args .n)) (c .enum-told .given .1))
 
--- src/run.rt:56:1
 returns-2 : tie.Need-returns-2
 returns-2 c = sym (ap (λ t. valueOf t (c .before .before .args .n)) (c .enum-told2 .given .1))
 
--- src/run.rt:56:1
 returns-3 : tie.Need-returns-3
 returns-3 c = sym (ap (λ t. valueOf t (c .before .before .before .args .n)) (c .before .a .given .1))
 
--- src/run.rt:56:1
 returns-4 : tie.Need-returns-4
 returns-4 c = sym (ap (λ t. valueOf t (c .before .before .before .args .n)) (c .before .a2 .given .1))
 
--- src/run.rt:56:1
 returns-5 : tie.Need-returns-5
 returns-5 c = sym (ap (λ t. valueOf t (c .before .before .args .n)) (c .enum-told3 .given .1))
 
--- src/run.rt:56:1
 returns-6 : tie.Need-returns-6
 returns-6 c = sym (ap (λ t. valueOf t (c .before .before .args .n)) (c .enum-told4 .given .1))
 
--- src/run.rt:56:1
 returns-7 : tie.Need-returns-7
 returns-7 c = ap Number (c .refusal-number .ensures) ∙ sym (ap (λ t. valueOf t (c .before .before .before .before .args .n)) (c .before .before .a3 .given .1))
 

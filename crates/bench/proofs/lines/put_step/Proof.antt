@@ -1,25 +1,20 @@
 use borrow.Author.Needs.{needs}
 use Rattle.bench.proofs.Rows.{row-put}
-use Rattle.bench.proofs.run.put_step.Statement.{statement}
-use Rattle.bench.proofs.run.put_step.Tie as tie
+use Rattle.bench.proofs.lines.put_step.Statement.{statement}
+use Rattle.bench.proofs.lines.put_step.Tie as tie
 
--- src/run.rt:76:38
 word-of-requires : tie.Need-word-of-requires
 word-of-requires c κs = search needs
 
--- src/run.rt:76:50
 value-of-requires : tie.Need-value-of-requires
 value-of-requires c κs = search needs
 
--- src/run.rt:76:5
 put-row-within-requires : tie.Need-put-row-within-requires
 put-row-within-requires c κs = search needs
 
--- src/run.rt:71:1
 same-length : tie.Need-same-length
 same-length c = search needs
 
--- src/run.rt:71:1
 returns : tie.Need-returns
 returns c = row-put (c .before .before .before .before .before .before .before .args .who) (c .before .before .before .before .before .before .before .args .a) (c .before .before .before .before .before .before .before .args .number) (c .before .before .before .before .before .before .before .args .n) (c .before .before .before .before .before .before .before .args .at) (c .before .before .before .before .before .before .before .args .rows .now) (c .before .before .before .before .word-of .ensures) (c .before .before .before .value-of .ensures) (c .before .before .put-row-within .ensures)
 

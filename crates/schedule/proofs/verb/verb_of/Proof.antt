@@ -1,8 +1,8 @@
 use Rattle.schedule.specs.Reading.{verbOf}
 use mathlib.Core.Path.{sym, _∙_}
 use borrow.Author.Needs.{needs}
-use Rattle.schedule.proofs.line.verb_of.Statement.{statement}
-use Rattle.schedule.proofs.line.verb_of.Tie as tie
+use Rattle.schedule.proofs.verb.verb_of.Statement.{statement}
+use Rattle.schedule.proofs.verb.verb_of.Tie as tie
 
 returns : tie.Need-returns
 unfolding verbOf

@@ -5,8 +5,8 @@ use mathlib.Core.Path.{_≡_, refl, sym, _∙_}
 use lib.ListN.{length, drop}
 use Rattle.schedule.specs.Reading.{startsWith}
 use Rattle.schedule.proofs.Scan.{starts-short, starts-differ, starts-on, starts-end}
-use Rattle.schedule.proofs.line.starts_with.Statement.{statement}
-use Rattle.schedule.proofs.line.starts_with.Tie as tie
+use Rattle.schedule.proofs.verb.starts_with.Statement.{statement}
+use Rattle.schedule.proofs.verb.starts_with.Tie as tie
 
 abbrev Inv-loop : tie.InvT-loop
 Inv-loop s word i₀ i = (i ≤ length word) × (length word ≤ length s) × (startsWith s word ≡ startsWith (drop i s) (drop i word))

@@ -1,8 +1,8 @@
 use borrow.Author.Needs.{needs}
 use native.Mathlib.Omega.{arith}
 use Rattle.bench.proofs.Answers.{no-room, known-room}
-use Rattle.bench.proofs.run.run_short.Statement.{statement}
-use Rattle.bench.proofs.run.run_short.Tie as tie
+use Rattle.bench.proofs.lines.run_short.Statement.{statement}
+use Rattle.bench.proofs.lines.run_short.Tie as tie
 
 pub run-short-spec : {M : Type 1} → statement M
 run-short-spec =

@@ -3,10 +3,10 @@ use native.Mathlib.Omega.{arith}
 use mathlib.Core.Path.{_≡_, refl, sym, ap, _∙_}
 use Prim.Native.Nat.{_-_, _≤_}
 use Rattle.bench.proofs.Starts.{StartedTo, started-none, started-next, started-all}
-use Rattle.bench.proofs.run.start_all.Statement.{statement}
-use Rattle.bench.proofs.run.start_all.Tie as tie
-use Rattle.bench.proofs.run.start_all.Reads as reads
-use Rattle.bench.proofs.run.start_all.Lts as lts
+use Rattle.bench.proofs.lines.start_all.Statement.{statement}
+use Rattle.bench.proofs.lines.start_all.Tie as tie
+use Rattle.bench.proofs.lines.start_all.Reads as reads
+use Rattle.bench.proofs.lines.start_all.Lts as lts
 use Rattle.engine.proofs.Controller.new.Reads as new-reads
 use Rattle.engine.proofs.Controller.setup.Reads as setup-reads
 
@@ -16,43 +16,33 @@ Inv-loop members sender c seats₀ k₀ seats k = (k ≤ 16) × StartedTo member
 abbrev μ-loop : tie.MeasureT-loop
 μ-loop members sender c seats₀ k₀ seats k = 16 - k
 
--- src/run.rt:104:9
 new-requires : tie.Need-new-requires Inv-loop μ-loop
 new-requires c κs = search needs
 
--- src/run.rt:107:5
 loop-holds : tie.Need-loop-holds Inv-loop μ-loop
 loop-holds c = (omega arith, started-none _ _ _ 16 refl)
 
--- src/run.rt:108:25
 cast-setup : tie.Need-cast-setup Inv-loop μ-loop
 cast-setup c = search needs
 
--- src/run.rt:108:13
 setup-requires : tie.Need-setup-requires Inv-loop μ-loop
 setup-requires c κs = search needs
 
--- src/run.rt:110:9
 mul-seats : tie.Need-mul-seats Inv-loop μ-loop
 mul-seats c = search needs
 
--- src/run.rt:110:9
 array-set-from-seats : tie.Need-array-set-from-seats Inv-loop μ-loop
 array-set-from-seats c = search needs
 
--- src/run.rt:111:9
 add-k : tie.Need-add-k Inv-loop μ-loop
 add-k c = search needs
 
--- src/run.rt:107:5
 loop-less : tie.Need-loop-less Inv-loop μ-loop
 loop-less c = search needs
 
--- src/run.rt:107:5
 loop-again : tie.Need-loop-again Inv-loop μ-loop
 loop-again c = (omega arith, started-next _ _ (c .before .before .before .before .before .pre) _ (c .before .before .before .before .new .ensures) _ _ _ (omega arith) (c .before .setup .ensures) (c .before .before .before .loop .inv .1))
 
--- src/run.rt:100:1
 returns : tie.Need-returns Inv-loop μ-loop
 returns c = started-all _ _ _ _ (omega arith) (c .before .loop .inv .1)
 
