@@ -70,7 +70,7 @@ size_t pekdrav_bench(const uint8_t *schedule, size_t schedule_len, uint8_t *rows
  * rules or `out` is too short. */
 size_t pekdrav_statement(const uint8_t *line, size_t line_len, uint8_t *out, size_t out_len);
 /* The pool number of the statement that `line` is, which goes to the end of the pool if it is not in it; 512 if the pool is full, 513 if `line` is no
- * statement. */
+ * statement. Only the words of a new statement and the number of statements are written. */
 uint16_t pekdrav_append(uint64_t words[PEKDRAV_POOL_WORDS], const uint8_t *line, size_t line_len);
 /* Who signed a statement of this kind at this view in the record of the first `len` numbers, bit k for controller k. */
 uint32_t pekdrav_signers(const uint64_t words[PEKDRAV_POOL_WORDS], const uint16_t ids[PEKDRAV_RECORD], size_t len, uint8_t kind, uint32_t at);

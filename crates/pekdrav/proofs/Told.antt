@@ -1,14 +1,13 @@
 -- Words that are told one after the other, and that all of them are what the record shows.
 -- Assumes nothing.
-use Prim.Native.Nat.{ℕ, _+_, _<_}
+use Prim.Native.Nat.{ℕ, _+_}
 use native.Mathlib.Decide.{decLt}
-use native.Mathlib.Numerals.{add-one}
 use native.Mathlib.Omega.{arith}
 use mathlib.Core.Path.{_≡_, refl, sym, ap, ap₂, _∙_}
 use mathlib.Core.Bool.{Bool, true, false, cond, not, _&&_}
 use mathlib.Core.List.{List, [], _∷_, _++_, map, append-nil}
 use lib.Dec.{ltb}
-use lib.ListN.{length, getD, set, replicate, length-append, length-map, List·getD-map, List·getD-eq-default, drop-of-length-le}
+use lib.ListN.{length, getD, replicate, length-append, length-map, List·getD-map, List·getD-eq-default, drop-of-length-le}
 use lib.Seq.{sets, sets-eq}
 use borrow.Author.Tests.{lt-ltb, le-ltb}
 use mir.Val.{boolByte}
@@ -20,16 +19,12 @@ use Rattle.protocol.specs.Lists.{if_then_else_, first, when}
 use Rattle.protocol.specs.View.{View, Ring}
 use Rattle.protocol.specs.Statement.{Stmt}
 use Rattle.protocol.specs.Evidence.{wished, candidates, greatest, certificates, isStored}
+use Rattle.pool.specs.Pool.{wordOf}
 use Rattle.ranking.specs.Slots.{viewsOf}
 use Rattle.evidence.specs.declared.Evidence.{Evidence}
 use Rattle.evidence.specs.Evidence.{EvidenceOf}
 use Rattle.screen.proofs.ScreenLaws.{words-count}
-use Rattle.pekdrav.specs.Evidence.{wordOf, flag, sixteen, few, certificateWords, conflictWords, agreedWords, toldOf}
-
--- a word of 32 bits is the word of its view
-pub word-back : (w : ℕ) → w < 4294967296 → w ≡ wordOf (viewOf w)
-unfolding wordOf viewOf
-word-back w l = omega arith
+use Rattle.pekdrav.specs.Evidence.{flag, sixteen, few, certificateWords, conflictWords, agreedWords, toldOf}
 
 -- ---- sixteen words
 
@@ -37,17 +32,8 @@ word-back w l = omega arith
 abbrev pub wordIn : List ℕ → ℕ → ℕ → ℕ
 wordIn ws n i = cond (ltb i n) (wordOf (viewOf (getD ws i 0))) 0
 
-pub told-first : (l ws : List ℕ) (from n : ℕ) → l ≡ sets l from (table 0 (wordIn ws n))
-unfolding table
-told-first l ws from n = refl
-
-pub told-next : (l out ws : List ℕ) (from n i v : ℕ) → out ≡ sets l from (table i (wordIn ws n)) → v ≡ wordIn ws n i → set out (from + i) v ≡ sets l from (table (i + 1) (wordIn ws n))
-unfolding table
-told-next l out ws from n i v e f =
-    rw (e, f, add-one) (sym (sets-append (table i (wordIn ws n)) (wordIn ws n i ∷ []) l from ∙ ap (λ k. set (sets l from (table i (wordIn ws n))) (from + k) (wordIn ws n i)) (table-length i (wordIn ws n))))
-
 view-in : (ws : List ℕ) (n i : ℕ) → wordIn ws n i ≡ getD (map wordOf (viewsOf ws n)) i 0
-unfolding viewsOf wordOf
+unfolding viewsOf
 view-in ws n i = elim (decLt i n) [
   | yes l ↦ ap (λ b. cond b (wordOf (viewOf (getD ws i 0))) 0) (lt-ltb i n l) ∙ sym (List·getD-map wordOf (viewsOf ws n) i (record { joined = 0; left = 0 }) ∙ ap wordOf (table-at n (λ k. viewOf (getD ws k 0)) _ i l))
   | no l ↦ ap (λ b. cond b (wordOf (viewOf (getD ws i 0))) 0) (le-ltb i n (omega arith)) ∙ sym (List·getD-eq-default (map wordOf (viewsOf ws n)) 0 (omega (arith, length-map (viewsOf ws n) wordOf, words-count ws n)))

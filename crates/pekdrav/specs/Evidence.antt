@@ -1,6 +1,6 @@
 -- What is told of a record: forty words, each fixed by what the record shows.
 -- Assumes nothing.
-use Prim.Native.Nat.{ℕ, _+_, _*_}
+use Prim.Native.Nat.{ℕ}
 use mathlib.Core.Bool.{Bool, cond}
 use mathlib.Core.List.{List, [], _∷_, _++_, map}
 use mathlib.Core.Option.{Option, some, none}
@@ -11,10 +11,7 @@ use Rattle.protocol.specs.View.{View, Ring}
 use Rattle.protocol.specs.Statement.{Stmt}
 use Rattle.protocol.specs.Evidence.{wished, candidates, greatest, certificates, isConflict, isStored}
 use Rattle.views.specs.Table.{table}
-
--- The word of a view: 16 bits of who joined, and above them 16 of who left.
-unfoldable pub wordOf : View → ℕ
-wordOf v = v .joined + v .left * 65536
+use Rattle.pool.specs.Pool.{wordOf}
 
 -- 1 for yes, 0 for no.
 abbrev pub flag : Bool → ℕ

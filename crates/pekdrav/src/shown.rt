@@ -5,10 +5,10 @@ ghost use Prim.Native.Nat.{_≤_};
 ghost use lib.ListN.{length};
 ghost use lib.Seq.{sets};
 ghost use Rattle.views.specs.View.{viewOf, ring};
-ghost use Rattle.pool.specs.Pool.{recordOf};
+ghost use Rattle.pool.specs.Pool.{wordOf, recordOf};
 ghost use Rattle.ranking.specs.Slots.{viewsOf};
 ghost use Rattle.screen.specs.Screen.{Shows};
-ghost use Rattle.pekdrav.specs.Evidence.{wordOf, sixteen, toldOf};
+ghost use Rattle.pekdrav.specs.Evidence.{sixteen, toldOf};
 use pool::POOL_WORDS;
 
 // The words of an answer: eight numbers, the candidates, the greatest history.

@@ -57,6 +57,8 @@ pub enum Unplaced {
 }
 
 /// The number of the statement that `line` is, which goes to the end of the pool if it is not in it.
+///
+/// Only the words of a new statement and the number of statements are written.
 pub fn append(words: &mut [u64; POOL_WORDS], line: &[u8]) -> Result<u16, Unplaced> {
     // SAFETY: the pointers are those of an array of the size that the function uses and of a slice with its length.
     match unsafe { exported::pekdrav_append(words.as_mut_ptr(), line.as_ptr(), line.len()) } {

@@ -6,7 +6,8 @@ use mathlib.Core.Bool.{cond}
 use lib.Dec.{ltb}
 use lib.Seq.{sets}
 use Rattle.views.specs.Table.{table}
-use Rattle.pekdrav.proofs.Told.{wordIn, told-first, told-next, told-all}
+use Rattle.pool.proofs.Writes.{none-written, one-written}
+use Rattle.pekdrav.proofs.Told.{wordIn, told-all}
 use Rattle.pekdrav.proofs.shown.tell.Statement.{statement}
 use Rattle.pekdrav.proofs.shown.tell.Tie as tie
 use Rattle.pekdrav.proofs.shown.tell.Reads as reads
@@ -26,7 +27,7 @@ tell-spec =
     (tie.spec
     Inv-loop
     μ-loop
-    (λ c. (omega arith, told-first (c .args .out .now) (c .args .t3) (c .args .from) (c .args .n)))
+    (λ c. (omega arith, none-written (c .args .out .now) (c .args .from) (wordIn (c .args .t3) (c .args .n))))
     (λ c. search needs)
     (λ c. search needs)
     (λ c κs. search needs)
@@ -36,5 +37,5 @@ tell-spec =
     (λ c. search needs)
     (λ c. search needs)
     (λ c. search needs)
-    (λ c. (omega arith, told-next (c .before .before .before .before .args .out .now) _ (c .before .before .before .before .args .t3) _ _ _ _ (c .before .before .before .loop .inv .1) (c .when .ensures ∙ ap (λ v. cond (ltb (c .before .before .before .loop .i) (c .before .before .before .before .args .n)) v 0) (c .before .wide .ensures))))
+    (λ c. (omega arith, one-written (c .before .before .before .before .args .out .now) (c .before .before .before .before .args .from) (wordIn (c .before .before .before .before .args .t3) (c .before .before .before .before .args .n)) _ _ _ (c .before .before .before .loop .inv .1) (c .when .ensures ∙ ap (λ v. cond (ltb (c .before .before .before .loop .i) (c .before .before .before .before .args .n)) v 0) (c .before .wide .ensures))))
     (λ c. let e : c .before .loop .i ≡ 16 = omega arith in c .before .loop .inv .1 ∙ ap (λ k. sets (c .before .before .args .out .now) (c .before .before .args .from) (table k (wordIn (c .before .before .args .t3) (c .before .before .args .n)))) e ∙ ap (sets (c .before .before .args .out .now) (c .before .before .args .from)) (told-all _ _)))

@@ -1,5 +1,5 @@
 use native.Mathlib.Omega.{arith}
-use Rattle.pekdrav.proofs.Told.{word-back}
+use Rattle.pool.proofs.Writes.{word-back}
 use Rattle.pekdrav.proofs.shown.wide.Statement.{statement}
 use Rattle.pekdrav.proofs.shown.wide.Tie as tie
 
