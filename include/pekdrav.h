@@ -70,13 +70,14 @@ size_t pekdrav_bench(const uint8_t *schedule, size_t schedule_len, uint8_t *rows
  * rules or `out` is too short. */
 size_t pekdrav_statement(const uint8_t *line, size_t line_len, uint8_t *out, size_t out_len);
 /* The pool number of the statement that `line` is, which goes to the end of the pool if it is not in it; 512 if the pool is full, 513 if `line` is no
- * statement. */
+ * statement. Only the words of a new statement and the number of statements are written. */
 uint16_t pekdrav_append(uint64_t words[PEKDRAV_POOL_WORDS], const uint8_t *line, size_t line_len);
 /* Who signed a statement of this kind at this view in the record of the first `len` numbers, bit k for controller k. */
 uint32_t pekdrav_signers(const uint64_t words[PEKDRAV_POOL_WORDS], const uint16_t ids[PEKDRAV_RECORD], size_t len, uint8_t kind, uint32_t at);
 /* What that record shows in a ring: words 0 to 7 of `out` are whether there is a conflict, whether there are more than sixteen candidates, the wished
  * view, how many candidates and how many views of the greatest history follow, whether a payload has a certificate, that payload, and whether it is
- * stored; the candidates stand from word 8 on, the greatest history from 24 on. After a conflict only the wished view is told. */
+ * stored; the candidates stand from word 8 on, the greatest history from 24 on. All of `out` is written, and what is not told is 0: after a conflict every
+ * word but 0 and 2, with more than sixteen candidates word 3 and the candidates, without a certificate words 6 and 7, and the words after the last view. */
 void pekdrav_evidence(const uint64_t words[PEKDRAV_POOL_WORDS], const uint16_t ids[PEKDRAV_RECORD], size_t len, uint32_t init, uint8_t sender,
                       uint64_t out[PEKDRAV_TOLD]);
 /* Writes what that record shows in lines, for a service screen, and answers the text's length; 0, with `out` as it was, if `out` has fewer than

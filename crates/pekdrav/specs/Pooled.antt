@@ -22,7 +22,7 @@ abbrev pub placeNumber : Placed → ℕ
 placeNumber (At i) = i
 placeNumber Full = 512
 
--- The statement of S went into the pool W, as `placed` says, and W′ is the pool then.
+-- The statement of S went into the pool W, as `placed` says, and W′ is the memory then: `pooledIn` names every word of it.
 pub record Went (S W W′ : List ℕ) (r : ℕ) : Type 0 where
   pub statement : Statement
   pub rules : T (fieldRules 16 (stmtOf statement))

@@ -14,8 +14,9 @@ fn place_number(p: Placed) -> u16
     }
 }
 
-// The number of the statement that `line` is, which goes to the end of the pool if it is not in it; 512, and the pool as it was, where
-// it is full; 513, and the pool as it was, where `line` is the text of no statement that keeps the field rules.
+// The number of the statement that `line` is, which goes to the end of the pool if it is not in it: its words and the number of
+// statements are written, and no other. 512, and the pool as it was, where it is full; 513, and the pool as it was, where `line` is the
+// text of no statement that keeps the field rules.
 #[no_mangle]
 pub extern "C" fn pekdrav_append(words: &mut [u64; POOL_WORDS], line: &[u8]) -> u16
     ensures { λ r. ⌜ Put (now (line .entry)) (now (words .entry)) r (now (words .exit)) ⌝ }

@@ -1,37 +1,59 @@
 // What a record in lent memory shows.
 ghost use mathlib.Core.Path.{_≡_};
-ghost use Prim.Native.Nat.{_+_, _≤_};
+ghost use mathlib.Core.Bool.{cond};
+ghost use Prim.Native.Nat.{_≤_};
+ghost use lib.ListN.{length};
 ghost use lib.Seq.{sets};
-ghost use Rattle.views.specs.View.{ring};
-ghost use Rattle.pool.specs.Pool.{recordOf};
+ghost use Rattle.views.specs.View.{viewOf, ring};
+ghost use Rattle.pool.specs.Pool.{wordOf, recordOf};
+ghost use Rattle.ranking.specs.Slots.{viewsOf};
 ghost use Rattle.screen.specs.Screen.{Shows};
-ghost use Rattle.pekdrav.specs.Evidence.{wordsOf, Tells};
+ghost use Rattle.pekdrav.specs.Evidence.{sixteen, toldOf};
 use pool::POOL_WORDS;
 
 // The words of an answer: eight numbers, the candidates, the greatest history.
 pub const TOLD_WORDS: usize = 40;
 
 fn wide(v: u32) -> u64
-    ensures { λ r. ⌜ r ≡ v ⌝ }
+    ensures { λ r. ⌜ r ≡ wordOf (viewOf v) ⌝ }
 {
     v as u64
 }
 
-fn tell(out: &mut [u64; TOLD_WORDS], from: usize, views: [u32; 16])
+fn when(yes: bool, n: u64) -> u64
+    ensures { λ r. ⌜ r ≡ cond yes n 0 ⌝ }
+{
+    if yes {
+        return n;
+    }
+    0
+}
+
+// How many words the memory has: a proof that each was written asks for it.
+fn room(out: &[u64; TOLD_WORDS]) -> usize
+    ensures { λ r. ⌜ length (now (out .entry)) ≡ 40 ⌝ }
+{
+    let s = &out[..];
+    s.len()
+}
+
+// The first `n` of the views, and 0 after the last, in sixteen words.
+fn tell(out: &mut [u64; TOLD_WORDS], from: usize, views: [u32; 16], n: u64)
     requires { ⌜ from ≤ 24 ⌝ }
-    ensures { λ _. ⌜ now (out .exit) ≡ sets (now (out .entry)) from (wordsOf 16 views) ⌝ }
+    ensures { λ _. ⌜ now (out .exit) ≡ sets (now (out .entry)) from (sixteen (viewsOf views n)) ⌝ }
 {
     let mut i = 0usize;
     while i < 16 {
-        out[from + i] = wide(views[i]);
+        out[from + i] = when((i as u64) < n, wide(views[i]));
         i += 1;
     }
 }
 
 // Tells the evidence of the record of the first `len` numbers: in words 0 to 7 whether there is a conflict, whether there are more than
 // sixteen candidates, the wished view, how many candidates and how many views of the greatest history follow, whether a payload has a
-// certificate, that payload, and whether it is stored; from word 8 on the candidates, from 24 on the greatest history. After a conflict
-// only the wished view is told, and the candidates only if they are at most sixteen.
+// certificate, that payload, and whether it is stored; from word 8 on the candidates, from 24 on the greatest history. What is not told is 0:
+// after a conflict every word but 0 and 2, with more than sixteen candidates word 3 and the candidates, without a certificate words 6
+// and 7, and the words after the last view.
 #[no_mangle]
 pub extern "C" fn pekdrav_evidence(
     words: &[u64; POOL_WORDS],
@@ -41,21 +63,26 @@ pub extern "C" fn pekdrav_evidence(
     sender: u8,
     out: &mut [u64; TOLD_WORDS],
 )
-    ensures { λ _. ⌜ Tells (ring init) sender (recordOf (now (words .entry)) (now (ids .entry)) len) (now (out .entry)) (now (out .exit)) ⌝ }
+    ensures { λ _. ⌜ now (out .exit) ≡ toldOf (ring init) sender (recordOf (now (words .entry)) (now (ids .entry)) len) ⌝ }
 {
+    room(out);
     let e = evidence::of_record(words, ids, len, init, sender);
     let candidates = e.candidates;
     let greatest = e.greatest;
-    tell(out, 8, candidates);
-    tell(out, 24, greatest);
+    let agreed = !e.conflict;
+    let certified = agreed & e.certified;
+    let count = when(agreed & !e.many, e.count as u64);
+    let length = when(agreed, e.length as u64);
     out[0] = e.conflict as u64;
-    out[1] = e.many as u64;
-    out[2] = e.wished as u64;
-    out[3] = e.count as u64;
-    out[4] = e.length as u64;
-    out[5] = e.certified as u64;
-    out[6] = e.payload;
-    out[7] = e.stored as u64;
+    out[1] = (agreed & e.many) as u64;
+    out[2] = wide(e.wished);
+    out[3] = count;
+    out[4] = length;
+    out[5] = certified as u64;
+    out[6] = when(certified, e.payload);
+    out[7] = (certified & e.stored) as u64;
+    tell(out, 8, candidates, count);
+    tell(out, 24, greatest, length);
 }
 
 // Writes what the record of the first `len` numbers shows from the start of `out`, in lines, and answers the text's length; 0, and `out` as

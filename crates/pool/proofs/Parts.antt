@@ -1,12 +1,12 @@
 -- Laws of the head of a statement: its six parts come back from the one word.
 -- Assumes nothing.
-use mathlib.Core.Path.{_≡_, refl, sym, ap, _∙_}
+use mathlib.Core.Path.{_≡_, _∙_}
 use Prim.Native.Nat.{ℕ, _+_, _*_, _/_, _%_, _≤_, _<_, min}
 use native.Mathlib.Omega.{arith}
-use Rattle.protocol.specs.View.{View}
+use lib.ListN.{length}
 use Rattle.protocol.specs.Statement.{Stmt}
 use Rattle.views.specs.View.{viewOf}
-use Rattle.pool.specs.Changes.{headOf, IsHead}
+use Rattle.pool.specs.Changes.{headOf, headWord, IsHead}
 
 -- the low 48 bits of a word are its kind, origin and at
 pub low-parts : (w : ℕ) → w % 281474976710656 ≡ w % 256 + w / 256 % 256 * 256 + (w / 65536 % 65536 + w / 65536 / 65536 % 65536 * 65536) * 65536
@@ -29,6 +29,11 @@ module _ (x c b f : ℕ) (lx : x < 281474976710656) (lc : c ≤ 16) (lb : b ≤ 
 
   stored-back : min (packed x c b f / 1152921504606846976) 1 ≡ f
   stored-back = omega arith
+
+-- the parts of a statement, each as its word has it
+pub head-word-is : (s : Stmt) (x c b f : ℕ) → x ≡ headOf s → c ≡ min (length (s .views)) 16 → b ≡ s .binding → f ≡ s .stored → packed x c b f ≡ headWord s
+unfolding headWord
+head-word-is s x c b f ex ec eb ef i = packed (ex i) (ec i) (eb i) (ef i)
 
 -- a word whose low 48 bits are those of s
 module _ (s : Stmt) (w : ℕ) (lk : s .kind < 256) (lo : s .origin < 256) (lj : s .at .joined < 65536) (ll : s .at .left < 65536) (e : w % 281474976710656 ≡ headOf s) where

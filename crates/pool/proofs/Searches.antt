@@ -1,27 +1,26 @@
 -- Laws of comparing, finding and appending statements, and of what stays as it was.
 -- Assumes nothing.
-use mathlib.Core.Path.{_≡_, refl, sym, ap, ap₂, _∙_}
-use mathlib.Core.Logic.{_⊎_, inl, inr}
-use mathlib.Core.Bool.{Bool, true, false, not, _&&_, _||_}
+use mathlib.Core.Path.{_≡_, refl, sym, ap, ap₂, subst, _∙_}
+use mathlib.Core.Bool.{Bool, true, false, _||_}
 use mathlib.Core.List.{List, [], _∷_, _++_}
 use mathlib.Core.Option.{Option, some, none}
 use Prim.Native.Nat.{ℕ, zero, suc, _+_, _*_, _/_, _%_, _≤_, _<_, min}
 use native.Mathlib.Decide.{decLt}
 use native.Mathlib.Numerals.{add-one}
 use native.Mathlib.Omega.{arith}
-use lib.Dec.{ltb}
+use lib.Dec.{leb, ltb}
 use lib.ListN.{length, getD, set}
 use lib.Seq.{getD-set-same, getD-set-other}
-use borrow.Author.Tests.{lt-ltb, le-ltb}
-use Rattle.protocol.specs.Lists.{if_then_else_, any, find}
+use borrow.Author.Tests.{lt-ltb, le-ltb, le-leb, lt-leb, leb-false}
+use Rattle.protocol.specs.Lists.{if_then_else_, find, isSome}
 use Rattle.protocol.specs.History.{sameViews}
 use Rattle.protocol.specs.Statement.{Stmt, sameStmt}
-use Rattle.protocol.proofs.Says.{Says, says-map, says-unique}
+use Rattle.protocol.proofs.Says.{says-map, says-unique}
 use Rattle.protocol.proofs.Decided.{says-sames}
 use Rattle.protocol.proofs.Asked.{says-same-stmt}
 use Rattle.views.specs.Table.{table}
 use Rattle.views.specs.View.{viewOf}
-use Rattle.views.proofs.Tables.{table-cong, any-more, any-zero}
+use Rattle.views.proofs.Tables.{table-cong}
 use Rattle.views.proofs.Views.{fails}
 use Rattle.statements.specs.declared.Statement.{Statement}
 use Rattle.statements.specs.Meaning.{stmtOf}
@@ -29,10 +28,10 @@ use Rattle.pool.specs.declared.Found.the-variants as found
 use Rattle.pool.specs.declared.Placed.the-variants as placed
 use Rattle.pool.specs.declared.Record.{Record}
 use Rattle.pool.specs.Pool.{headAt, word, viewWord, countOf, viewAt, stmtAt, poolLen, poolOf, recordOf}
-use Rattle.pool.specs.Changes.{headOf, owner, Put, numberOf, foundOf, placedAt, Grown, Appended, Pushed}
+use Rattle.pool.specs.Changes.{headOf, owner, Beside, putAt, Put, numberOf, foundOf, placedAt, pooledIn, Grown, Appended, Pushed}
 use Rattle.pool.proofs.Parts.{low-parts}
 use Rattle.pool.proofs.Records.{entry, whole}
-use Rattle.pool.proofs.Writes.{stmts, owner-low, owner-high}
+use Rattle.pool.proofs.Writes.{stmts, owner-low, owner-high, beside-put, beside-count, beside-same}
 
 -- ---- two statements
 
@@ -148,13 +147,13 @@ stmt-kept W W′ m k =
     view : (p : ℕ) → p < 16 → viewAt W′ m p ≡ viewAt W m p
     view p l = ap viewOf (k (2048 + min m 511 * 16 + p) (omega (arith, owner-high (2048 + min m 511 * 16 + p) (omega arith))))
 
--- another statement than the one that was written
-put-kept : (W W′ : List ℕ) (n m : ℕ) (st : Statement) → Put W W′ n st → (min m 511 ≡ min n 511 → ⊥) → stmtAt W′ m ≡ stmtAt W m
-put-kept W W′ n m st p d = stmt-kept W W′ m (λ i e. p .others i (λ q. d (sym e ∙ q)))
+-- another statement than the one whose words changed
+pub beside-kept : (W W′ : List ℕ) (n m : ℕ) → Beside W W′ n → (min m 511 ≡ n → ⊥) → stmtAt W′ m ≡ stmtAt W m
+beside-kept W W′ n m b d = stmt-kept W W′ m (λ i e. b .others i (λ q. d (sym e ∙ q)) (λ q. omega (arith, owner-high i (omega arith))))
 
 -- the number of statements lies behind them all
 count-kept : (W : List ℕ) (v m : ℕ) → stmtAt (set W 10240 v) m ≡ stmtAt W m
-count-kept W v m = stmt-kept W (set W 10240 v) m (λ i e. getD-set-other W 10240 i v 0 (λ q. omega (arith, owner-high i (omega arith))))
+count-kept W v m = beside-kept W (set W 10240 v) 512 m (beside-count W W 512 v (beside-same W 512)) (λ q. omega arith)
 
 counted : (U : List ℕ) (v : ℕ) → 10240 < length U → v ≤ 512 → poolLen (set U 10240 v) ≡ v
 unfolding poolLen
@@ -162,17 +161,32 @@ counted U v l h = let g : getD (set U 10240 v) 10240 0 ≡ v = getD-set-same U 1
 
 -- ---- one statement more
 
+-- the memory after it, where it was found, where there is no room, and else
+abbrev pooledAs : List ℕ → Stmt → Bool → List ℕ
+pooledAs W s stays = if stays then W else set (putAt W (poolLen W) s) 10240 (poolLen W + 1)
+
 module _ (W : List ℕ) (st : Statement) where
+  stays : (o : Option ℕ) (b : Bool) → numberOf W (stmtOf st) ≡ o → leb 512 (poolLen W) ≡ b → pooledIn W (stmtOf st) ≡ pooledAs W (stmtOf st) (isSome o || b)
+  unfolding pooledIn
+  stays o b e f = ap₂ (λ x y. pooledAs W (stmtOf st) (isSome x || y)) e f
+
   pub append-old : (i : ℕ) → found.At i ≡ foundOf (numberOf W (stmtOf st)) → Appended W W st (placed.At i)
   append-old i e =
       let o : numberOf W (stmtOf st) ≡ some i = found-at (numberOf W (stmtOf st)) i e in
-      record { answer = ap (λ x. placedAt x (poolLen W)) (sym o); old = λ j f. refl; full = λ l. refl; new = λ f l. absurd (let n : _≡_ {A = ℕ} 0 1 = cc in omega arith) }
+      record {
+        answer = ap (λ x. placedAt x (poolLen W)) (sym o);
+        is = sym (stays (some i) _ o refl);
+        old = λ j f. refl;
+        full = λ l. refl;
+        new = λ f l. absurd (let n : _≡_ {A = ℕ} 0 1 = cc in omega arith);
+      }
 
   pub append-full : (n : ℕ) → found.Nothing ≡ foundOf (numberOf W (stmtOf st)) → n ≡ poolLen W → 512 ≤ n → Appended W W st placed.Full
   append-full n e q l =
       let o : numberOf W (stmtOf st) ≡ none = found-none (numberOf W (stmtOf st)) e in
       record {
         answer = sym (ap (λ x. placedAt x (poolLen W)) o ∙ ap (λ b. if b then placed.At (poolLen W) else placed.Full) (le-ltb (poolLen W) 512 (omega arith)));
+        is = sym (stays none true o (le-leb 512 (poolLen W) (omega arith)));
         old = λ j f. refl;
         full = λ l. refl;
         new = λ f h. absurd (omega arith);
@@ -181,12 +195,32 @@ module _ (W : List ℕ) (st : Statement) where
   pub append-new : (n : ℕ) (U : List ℕ) → length W ≡ 10241 → found.Nothing ≡ foundOf (numberOf W (stmtOf st)) → n ≡ poolLen W → n < 512 → Put W U n st → Appended W (set U 10240 (n + 1)) st (placed.At n)
   append-new n U long e q l p =
       let o : numberOf W (stmtOf st) ≡ none = found-none (numberOf W (stmtOf st)) e in
+      let u : U ≡ putAt W (poolLen W) (stmtOf st) = p .is ∙ (let k : min n 511 ≡ poolLen W = omega arith in ap (λ k. putAt W k (stmtOf st)) k) in
+      let b : Beside W U (poolLen W) = subst (λ k. Beside W k (poolLen W)) (sym u) (beside-put W (poolLen W) (stmtOf st) (omega arith)) in
+      let c : Beside W (set U 10240 (n + 1)) (poolLen W) = beside-count W U (poolLen W) (n + 1) b in
       record {
         answer = sym (ap (λ x. placedAt x (poolLen W)) o ∙ ap (λ b. if b then placed.At (poolLen W) else placed.Full) (lt-ltb (poolLen W) 512 (omega arith)) ∙ ap placed.At (sym q));
+        is = ap₂ (λ k m. set k 10240 (m + 1)) u q ∙ sym (stays none false o (lt-leb 512 (poolLen W) (omega arith)));
         old = λ i f. absurd (let z : _≡_ {A = ℕ} 0 1 = cc in omega arith);
         full = λ h. absurd (omega arith);
-        new = λ f h. record { len = counted U (n + 1) (omega (arith, p .long)) (omega arith) ∙ ap (λ x. x + 1) q; there = λ k. ap (stmtAt (set U 10240 (n + 1))) (sym q) ∙ count-kept U (n + 1) n ∙ p .there k; others = λ m d. count-kept U (n + 1) m ∙ put-kept W U n m st p (λ z. d (omega arith)) };
+        new = λ f h. record {
+          len = counted U (n + 1) (omega (arith, b .long)) (omega arith) ∙ ap (λ x. x + 1) q;
+          there = λ k. ap (stmtAt (set U 10240 (n + 1))) (sym q) ∙ count-kept U (n + 1) n ∙ p .there k;
+          others = λ m d. beside-kept W (set U 10240 (n + 1)) (poolLen W) m c d;
+          beside = c;
+        };
       }
+
+-- whatever went in, the words of other statements are as before
+
+pub pooled-beside : (W : List ℕ) (s : Stmt) → Beside W (pooledIn W s) (poolLen W)
+unfolding pooledIn
+pooled-beside W s = go (isSome (numberOf W s)) (leb 512 (poolLen W)) refl
+  where
+    go : (x y : Bool) → leb 512 (poolLen W) ≡ y → Beside W (pooledAs W s (x || y)) (poolLen W)
+    go true y e = beside-same W (poolLen W)
+    go false true e = beside-same W (poolLen W)
+    go false false e = beside-count W (putAt W (poolLen W) s) (poolLen W) (poolLen W + 1) (beside-put W (poolLen W) s (omega (arith, leb-false 512 (poolLen W) e)))
 
 -- ---- for callers: the pool and the records after an addition
 

@@ -1,16 +1,17 @@
 -- Laws of writing: one word more, the views, the head and the columns, a whole statement.
 -- Assumes nothing.
-use mathlib.Core.Path.{_≡_, refl, sym, ap, subst, _∙_}
+use mathlib.Core.Path.{_≡_, refl, sym, ap, _∙_}
 use mathlib.Core.Logic.{_⊎_, inl, inr}
 use mathlib.Core.Bool.{cond}
-use mathlib.Core.List.{List, [], _∷_, _++_}
+use mathlib.Core.List.{List, [], _∷_, _++_, map, map-append}
 use Prim.Native.Nat.{ℕ, zero, suc, _+_, _-_, _*_, _/_, _%_, _≤_, _<_, min}
 use native.Mathlib.Decide.{decLt}
 use native.Mathlib.Numerals.{add-one}
 use native.Mathlib.Omega.{arith}
-use lib.Dec.{eqb, ltb}
-use lib.ListN.{length, getD, set, length-set}
-use lib.Seq.{getD-set-same, getD-set-other}
+use lib.Dec.{eqb}
+use lib.ListN.{length, getD, set, take, length-set, length-map, length-take}
+use lib.Seq.{sets, length-sets, take-all, getD-set-same, getD-set-other}
+use borrow.Author.Count.{below-more}
 use borrow.Author.Tests.{lt-ltb, le-ltb}
 use Rattle.protocol.specs.Lists.{if_then_else_}
 use Rattle.protocol.specs.View.{View}
@@ -19,13 +20,13 @@ use Rattle.views.specs.declared.View as held
 use Rattle.views.specs.declared.History.{History}
 use Rattle.views.specs.Table.{table}
 use Rattle.views.specs.View.{viewOf}
-use Rattle.views.specs.Held.{viewIs, heldAt}
-use Rattle.views.proofs.Tables.{table-cong}
+use Rattle.views.specs.Held.{viewIs, heldAt, viewsIs}
+use Rattle.views.proofs.Tables.{table-length, table-at, table-cong, take-table}
 use Rattle.statements.specs.declared.Statement.{Statement}
 use Rattle.statements.specs.Meaning.{firstViews, stmtOf}
 use Rattle.statements.proofs.FieldLaws.{views-table}
-use Rattle.pool.specs.Pool.{headAt, word, viewWord, countOf, viewAt, stmtAt}
-use Rattle.pool.specs.Changes.{WroteViews, owner, Put, IsHead}
+use Rattle.pool.specs.Pool.{wordOf, headAt, word, viewWord, countOf, viewAt, stmtAt}
+use Rattle.pool.specs.Changes.{WroteViews, owner, Beside, headWord, putAt, Put, IsHead}
 
 -- statements are the same if their fields are
 pub stmts : {a b : Stmt} → a .kind ≡ b .kind → a .origin ≡ b .origin → a .at ≡ b .at → a .view ≡ b .view → a .binding ≡ b .binding → a .payload ≡ b .payload → a .stored ≡ b .stored → a .kept ≡ b .kept → a .views ≡ b .views → a ≡ b
@@ -33,55 +34,83 @@ stmts e1 e2 e3 e4 e5 e6 e7 e8 e9 i = record { kind = e1 i; origin = e2 i; at = e
 
 -- ---- words in a row
 
--- k words from s on were written, word s + f with P f, and no other
-pub record Wrote (W W′ : List ℕ) (s k : ℕ) (P : ℕ → ℕ → Type 0) : Type 0 where
-  pub long : length W′ ≡ length W
-  pub inside : (f : ℕ) → f < k → P f (getD W′ (s + f) 0)
-  pub outside : (i : ℕ) → (i < s) ⊎ (s + k ≤ i) → getD W′ i 0 ≡ getD W i 0
+-- what was written from s on, and what was not
 
-pub wrote-none : (W : List ℕ) (s : ℕ) (P : ℕ → ℕ → Type 0) → Wrote W W s 0 P
-wrote-none W s P = record { long = refl; inside = λ f l. absurd (omega arith); outside = λ i o. refl }
-
-pub wrote-more : (W W′ : List ℕ) (s k v : ℕ) (P : ℕ → ℕ → Type 0) → s + k < length W → P k v → Wrote W W′ s k P → Wrote W (set W′ (s + k) v) s (k + 1) P
-wrote-more W W′ s k v P l p w = record { long = length-set W′ (s + k) v ∙ w .long; inside = at; outside = out }
+pub sets-outside : (vs l : List ℕ) (s i : ℕ) → (i < s) ⊎ (s + length vs ≤ i) → getD (sets l s vs) i 0 ≡ getD l i 0
+sets-outside [] l s i o = refl
+sets-outside (v ∷ vs) l s i o = sets-outside vs (set l s v) (suc s) i (far o .0) ∙ getD-set-other l s i v 0 (far o .1)
   where
-    at : (f : ℕ) → f < k + 1 → P f (getD (set W′ (s + k) v) (s + f) 0)
-    at f m = elim (decLt f k) [
-      | yes h ↦ subst (λ x. P f x) (sym (getD-set-other W′ (s + k) (s + f) v 0 (λ e. omega arith))) (w .inside f h)
-      | no h ↦ (let e : k ≡ f = omega arith in subst (λ g. P g (getD (set W′ (s + k) v) (s + g) 0)) e (subst (λ x. P k x) (sym (getD-set-same W′ (s + k) v 0 (omega (arith, w .long)))) p))
-    ]
+    far : (i < s) ⊎ (s + suc (length vs) ≤ i) → ((i < suc s) ⊎ (suc s + length vs ≤ i)) × (i ≡ s → ⊥)
+    far (inl a) = (inl (omega arith), λ e. omega arith)
+    far (inr a) = (inr (omega arith), λ e. omega arith)
 
-    far : (i : ℕ) → (i < s) ⊎ (s + (k + 1) ≤ i) → (i ≡ s + k → ⊥) × ((i < s) ⊎ (s + k ≤ i))
-    far i (inl a) = (λ e. omega arith, inl a)
-    far i (inr a) = (λ e. omega arith, inr (omega arith))
+pub sets-inside : (vs l : List ℕ) (s p : ℕ) → p < length vs → s + length vs ≤ length l → getD (sets l s vs) (s + p) 0 ≡ getD vs p 0
+sets-inside [] l s p m h = absurd (omega arith)
+sets-inside (v ∷ vs) l s zero m h =
+    let e : s + 0 ≡ s = omega arith in
+    ap (λ i. getD (sets (set l s v) (suc s) vs) i 0) e ∙ sets-outside vs (set l s v) (suc s) s (inl (omega arith)) ∙ getD-set-same l s v 0 (omega arith)
+sets-inside (v ∷ vs) l s (suc p) m h =
+    let e : s + suc p ≡ suc s + p = omega arith in
+    ap (λ i. getD (sets (set l s v) (suc s) vs) i 0) e ∙ sets-inside vs (set l s v) (suc s) p (omega arith) (omega (arith, length-set l s v))
 
-    out : (i : ℕ) → (i < s) ⊎ (s + (k + 1) ≤ i) → getD (set W′ (s + k) v) i 0 ≡ getD W i 0
-    out i o = getD-set-other W′ (s + k) i v 0 (far i o .0) ∙ w .outside i (far i o .1)
+-- one word more
+
+sets-more : (vs l : List ℕ) (s v : ℕ) → set (sets l s vs) (s + length vs) v ≡ sets l s (vs ++ (v ∷ []))
+sets-more [] l s v = let e : s + 0 ≡ s = omega arith in ap (λ i. set l i v) e
+sets-more (x ∷ vs) l s v = let e : s + suc (length vs) ≡ suc s + length vs = omega arith in ap (λ i. set (sets (set l s x) (suc s) vs) i v) e ∙ sets-more vs (set l s x) (suc s) v
+
+module _ (l : List ℕ) (s : ℕ) (f : ℕ → ℕ) where
+  pub none-written : l ≡ sets l s (table 0 f)
+  unfolding table
+  none-written = refl
+
+  pub one-written : (out : List ℕ) (i v : ℕ) → out ≡ sets l s (table i f) → v ≡ f i → set out (s + i) v ≡ sets l s (table (i + 1) f)
+  unfolding table
+  one-written out i v e q = rw (e, q, add-one) (ap (λ k. set (sets l s (table i f)) (s + k) (f i)) (sym (table-length i f)) ∙ sets-more (table i f) l s (f i))
 
 -- ---- the views
 
-abbrev pub IsView : List held.View → ℕ → ℕ → Type 0
-IsView l p x = viewOf x ≡ heldAt l p
+-- a word of 32 bits is that of its view
+pub word-back : (w : ℕ) → w < 4294967296 → w ≡ wordOf (viewOf w)
+unfolding viewOf
+word-back w l = omega arith
 
-pub wrote-views : (W W′ : List ℕ) (s p : ℕ) (h : History) → p ≡ min (h .len) 16 → Wrote W W′ s p (IsView (h .views)) → WroteViews W W′ s h
-wrote-views W W′ s p h e w = record { long = w .long; views = λ q l. w .inside q (omega arith); others = λ i o. w .outside i (far i o) }
-  where
-    far : (i : ℕ) → (i < s) ⊎ (s + 16 ≤ i) → (i < s) ⊎ (s + p ≤ i)
-    far i (inl a) = inl a
-    far i (inr a) = inr (omega arith)
+pub word-of : (w : ℕ) (v : View) → w < 4294967296 → viewOf w ≡ v → w ≡ wordOf v
+word-of w v l e = word-back w l ∙ ap wordOf e
+
+map-table : {A B : Type 0} (g : A → B) (n : ℕ) (f : ℕ → A) → map g (table n f) ≡ table n (λ i. g (f i))
+unfolding table
+map-table g zero f = refl
+map-table g (suc n) f = map-append g (table n f) (f n ∷ []) ∙ ap (λ l. l ++ (g (f n) ∷ [])) (map-table g n f)
+
+-- the word of view p
+abbrev pub heldWord : List held.View → ℕ → ℕ
+heldWord l p = wordOf (heldAt l p)
+
+-- the first p views come back from their words
+pub record Back (l : List held.View) (p : ℕ) : Type 0 where
+  pub each : (q : ℕ) → q < p → viewOf (heldWord l q) ≡ heldAt l q
+
+pub back-none : (l : List held.View) → Back l 0
+back-none l = record { each = λ q m. absurd (omega arith) }
+
+pub back-more : (l : List held.View) (p w : ℕ) → w < 4294967296 → viewOf w ≡ heldAt l p → Back l p → Back l (p + 1)
+back-more l p w m e b = record { each = below-more (λ q. viewOf (heldWord l q) ≡ heldAt l q) p (b .each) (ap viewOf (sym (word-of w (heldAt l p) m e)) ∙ e) }
+
+pub wrote-views : (W W′ : List ℕ) (s p : ℕ) (h : History) → p ≡ min (h .len) 16 → W′ ≡ sets W s (table p (heldWord (h .views))) → Back (h .views) p → WroteViews W W′ s h
+unfolding viewsIs
+wrote-views W W′ s p h e w b = record {
+  is = w ∙ ap (sets W s) (ap (λ n. table n (heldWord (h .views))) e ∙ sym (map-table wordOf (min (h .len) 16) (heldAt (h .views))));
+  back = λ q l. b .each q (omega arith);
+}
 
 -- ---- the head and the three columns
 
--- at place s the head is a, and the columns hold b, c and d; no other word changed
-pub record WroteRow (W X : List ℕ) (s a b c d : ℕ) : Type 0 where
-  pub long : length X ≡ length W
-  pub head : getD X s 0 ≡ a
-  pub view : getD X (s + 512) 0 ≡ b
-  pub payload : getD X (s + 1024) 0 ≡ c
-  pub kept : getD X (s + 1536) 0 ≡ d
-  pub others : (i : ℕ) → (i ≡ s → ⊥) → (i ≡ s + 512 → ⊥) → (i ≡ s + 1024 → ⊥) → (i ≡ s + 1536 → ⊥) → getD X i 0 ≡ getD W i 0
+-- W with the head a at place s, and b, c and d in the columns
+abbrev pub rowIn : List ℕ → ℕ → ℕ → ℕ → ℕ → ℕ → List ℕ
+rowIn W s a b c d = set (set (set (set W s a) (s + 512) b) (s + 1024) c) (s + 1536) d
 
-module _ (W : List ℕ) (s a b c d : ℕ) (l : length W ≡ 10241) (m : s ≤ 511) where
+module _ (W : List ℕ) (s a b c d : ℕ) where
   abbrev one : List ℕ
   one = set W s a
 
@@ -91,30 +120,33 @@ module _ (W : List ℕ) (s a b c d : ℕ) (l : length W ≡ 10241) (m : s ≤ 51
   abbrev three : List ℕ
   three = set two (s + 1024) c
 
-  abbrev four : List ℕ
-  four = set three (s + 1536) d
+  one-long : length one ≡ length W
+  one-long = length-set W s a
 
-  one-long : length one ≡ 10241
-  one-long = length-set W s a ∙ l
-
-  two-long : length two ≡ 10241
+  two-long : length two ≡ length W
   two-long = length-set one (s + 512) b ∙ one-long
 
-  three-long : length three ≡ 10241
+  three-long : length three ≡ length W
   three-long = length-set two (s + 1024) c ∙ two-long
 
-  pub four-long : length four ≡ 10241
-  four-long = length-set three (s + 1536) d ∙ three-long
+  pub row-long : length (rowIn W s a b c d) ≡ length W
+  row-long = length-set three (s + 1536) d ∙ three-long
 
-  pub row-wrote : WroteRow W four s a b c d
-  row-wrote = record {
-    long = four-long ∙ sym l;
-    head = getD-set-other three (s + 1536) s d 0 (λ e. omega arith) ∙ getD-set-other two (s + 1024) s c 0 (λ e. omega arith) ∙ getD-set-other one (s + 512) s b 0 (λ e. omega arith) ∙ getD-set-same W s a 0 (omega arith);
-    view = getD-set-other three (s + 1536) (s + 512) d 0 (λ e. omega arith) ∙ getD-set-other two (s + 1024) (s + 512) c 0 (λ e. omega arith) ∙ getD-set-same one (s + 512) b 0 (omega (arith, one-long));
-    payload = getD-set-other three (s + 1536) (s + 1024) d 0 (λ e. omega arith) ∙ getD-set-same two (s + 1024) c 0 (omega (arith, two-long));
-    kept = getD-set-same three (s + 1536) d 0 (omega (arith, three-long));
-    others = λ i e f g h. getD-set-other three (s + 1536) i d 0 h ∙ getD-set-other two (s + 1024) i c 0 g ∙ getD-set-other one (s + 512) i b 0 f ∙ getD-set-other W s i a 0 e;
-  }
+  row-others : (i : ℕ) → (i ≡ s → ⊥) → (i ≡ s + 512 → ⊥) → (i ≡ s + 1024 → ⊥) → (i ≡ s + 1536 → ⊥) → getD (rowIn W s a b c d) i 0 ≡ getD W i 0
+  row-others i e f g h = getD-set-other three (s + 1536) i d 0 h ∙ getD-set-other two (s + 1024) i c 0 g ∙ getD-set-other one (s + 512) i b 0 f ∙ getD-set-other W s i a 0 e
+
+  module _ (l : length W ≡ 10241) (m : s ≤ 511) where
+    row-head : getD (rowIn W s a b c d) s 0 ≡ a
+    row-head = getD-set-other three (s + 1536) s d 0 (λ e. omega arith) ∙ getD-set-other two (s + 1024) s c 0 (λ e. omega arith) ∙ getD-set-other one (s + 512) s b 0 (λ e. omega arith) ∙ getD-set-same W s a 0 (omega arith)
+
+    row-view : getD (rowIn W s a b c d) (s + 512) 0 ≡ b
+    row-view = getD-set-other three (s + 1536) (s + 512) d 0 (λ e. omega arith) ∙ getD-set-other two (s + 1024) (s + 512) c 0 (λ e. omega arith) ∙ getD-set-same one (s + 512) b 0 (omega (arith, one-long))
+
+    row-payload : getD (rowIn W s a b c d) (s + 1024) 0 ≡ c
+    row-payload = getD-set-other three (s + 1536) (s + 1024) d 0 (λ e. omega arith) ∙ getD-set-same two (s + 1024) c 0 (omega (arith, two-long))
+
+    row-kept : getD (rowIn W s a b c d) (s + 1536) 0 ≡ d
+    row-kept = getD-set-same three (s + 1536) d 0 (omega (arith, three-long))
 
 -- ---- whose word it is
 
@@ -128,22 +160,59 @@ owner-high i l = ap (λ b. if b then i % 512 else (i - 2048) / 16) (le-ltb i 204
 
 -- ---- a whole statement
 
-module _ (W X U : List ℕ) (n s : ℕ) (st : Statement) (a b c d : ℕ) (e : s ≡ min n 511) (w : WroteRow W X s a b c d) (v : WroteViews X U (2048 + s * 16) (st .history)) where
+-- no more than 16 views are kept
+kept-views : (h : History) → viewsIs h ≡ take 16 (firstViews (h .len) (h .views))
+unfolding viewsIs
+kept-views h = elim (decLt (h .len) 16) [
+  | yes l ↦ (let e : min (h .len) 16 ≡ h .len = omega arith in ap (λ n. table n (heldAt (h .views))) e ∙ sym (take-all 16 (table (h .len) (heldAt (h .views))) (omega (arith, table-length (h .len) (heldAt (h .views))))))
+  | no l ↦ (let e : min (h .len) 16 ≡ 16 = omega arith in ap (λ n. table n (heldAt (h .views))) e ∙ sym (take-table (h .len) 16 (heldAt (h .views)) (omega arith)))
+] ∙ ap (take 16) (sym (views-table (h .len) (h .views)))
+
+-- word by word it is the memory with the statement
+put-at : (W : List ℕ) (n s a b c d : ℕ) (vs : List ℕ) (x : Stmt) → s ≡ n → a ≡ headWord x → b ≡ wordOf (x .view) → c ≡ x .payload → d ≡ x .kept → vs ≡ map wordOf (take 16 (x .views))
+    → sets (rowIn W s a b c d) (2048 + s * 16) vs ≡ putAt W n x
+unfolding putAt
+put-at W n s a b c d vs x e f g h k m i = sets (rowIn W (e i) (f i) (g i) (h i) (k i)) (2048 + e i * 16) (m i)
+
+module _ (W U : List ℕ) (n s : ℕ) (st : Statement) (a b c d : ℕ) (long : length W ≡ 10241) (e : s ≡ min n 511) (v : WroteViews (rowIn W s a b c d) U (2048 + s * 16) (st .history)) where
+  abbrev row : List ℕ
+  row = rowIn W s a b c d
+
+  low : s ≤ 511
+  low = omega arith
+
+  -- the words of the views, which are at most 16
+  words : List ℕ
+  words = map wordOf (viewsIs (st .history))
+
+  words-are : words ≡ table (min (st .history .len) 16) (heldWord (st .history .views))
+  unfolding viewsIs words
+  words-are = map-table wordOf (min (st .history .len) 16) (heldAt (st .history .views))
+
+  words-long : length words ≡ min (st .history .len) 16
+  words-long = ap length words-are ∙ table-length (min (st .history .len) 16) (heldWord (st .history .views))
+
   -- a word of the columns is as the row has it
-  column-is : (i x : ℕ) → i < 2048 → getD X i 0 ≡ x → getD U i 0 ≡ x
-  column-is i x l q = v .others i (inl (omega arith)) ∙ q
+  column-is : (i x : ℕ) → i < 2048 → getD row i 0 ≡ x → getD U i 0 ≡ x
+  unfolding words
+  column-is i x l q = ap (λ l. getD l i 0) (v .is) ∙ sets-outside words row (2048 + s * 16) i (inl (omega arith)) ∙ q
 
   head-is : headAt U n ≡ a
   unfolding headAt
-  head-is = ap (λ x. getD U x 0) (sym e) ∙ column-is s a (omega arith) (w .head)
+  head-is = ap (λ x. getD U x 0) (sym e) ∙ column-is s a (omega arith) (row-head W s a b c d long low)
 
-  word-is : (f x : ℕ) → f ≤ 1536 → getD X (s + f) 0 ≡ x → word U n f ≡ x
+  word-is : (f x : ℕ) → f ≤ 1536 → getD row (s + f) 0 ≡ x → word U n f ≡ x
   unfolding word
   word-is f x l q = ap (λ x. getD U (x + f) 0) (sym e) ∙ column-is (s + f) x (omega arith) q
 
   view-is : (p : ℕ) → p < min (st .history .len) 16 → viewAt U n p ≡ heldAt (st .history .views) p
-  unfolding viewWord
-  view-is p l = ap (λ x. viewOf (getD U (2048 + x * 16 + p) 0)) (sym e) ∙ v .views p l
+  unfolding viewWord words
+  view-is p l =
+      ap (λ x. viewOf (getD U (2048 + x * 16 + p) 0)) (sym e)
+      ∙ ap viewOf
+      (ap (λ l. getD l (2048 + s * 16 + p) 0) (v .is) ∙ sets-inside words row (2048 + s * 16) p (omega (arith, words-long)) (omega (arith, words-long, row-long W s a b c d))
+      ∙ ap (λ l. getD l p 0) words-are ∙ table-at (min (st .history .len) 16) (heldWord (st .history .views)) 0 p l)
+      ∙ v .back p l
 
   there : IsHead a (stmtOf st) (min (st .history .len) 16) → viewOf b ≡ viewIs (st .view) → c ≡ stmtOf st .payload → d ≡ st .kept → st .history .len ≤ 16 → stmtAt U n ≡ stmtOf st
   unfolding stmtAt stmtOf countOf
@@ -152,28 +221,54 @@ module _ (W X U : List ℕ) (n s : ℕ) (st : Statement) (a b c d : ℕ) (e : s 
       (ap (λ x. x % 256) head-is ∙ h .kind)
       (ap (λ x. x / 256 % 256) head-is ∙ h .origin)
       (ap (λ x. viewOf (x / 65536)) head-is ∙ h .at)
-      (ap viewOf (word-is 512 b (omega arith) (w .view)) ∙ vb)
+      (ap viewOf (word-is 512 b (omega arith) (row-view W s a b c d long low)) ∙ vb)
       (ap (λ x. min (x / 72057594037927936 % 16) 2) head-is ∙ h .binding)
-      (word-is 1024 c (omega arith) (w .payload) ∙ pc)
+      (word-is 1024 c (omega arith) (row-payload W s a b c d long low) ∙ pc)
       (ap (λ x. min (x / 1152921504606846976) 1) head-is ∙ h .stored)
-      (word-is 1536 d (omega arith) (w .kept) ∙ kd)
+      (word-is 1536 d (omega arith) (row-kept W s a b c d long low) ∙ kd)
       (ap (λ x. table (min (x / 281474976710656 % 256) 16) (viewAt U n)) head-is
       ∙ ap (λ k. table k (viewAt U n)) (h .count ∙ (let q : min (st .history .len) 16 ≡ st .history .len = omega arith in q))
       ∙ table-cong (st .history .len) (viewAt U n) (heldAt (st .history .views)) (λ p m. view-is p (omega arith)) ∙ sym (views-table (st .history .len) (st .history .views)))
 
-  -- a word of another statement is none of the written ones
-  others : (i : ℕ) → (owner i ≡ min n 511 → ⊥) → getD U i 0 ≡ getD W i 0
-  others i o = elim (decLt i 2048) [
-    | yes l ↦ v .others i (inl (omega arith)) ∙ w .others i (λ q. o (omega (arith, owner-low i l))) (λ q. o (omega (arith, owner-low i l))) (λ q. o (omega (arith, owner-low i l))) (λ q. o (omega (arith, owner-low i l)))
-    | no l ↦ v .others i (apart (omega arith) (decLt i (2048 + s * 16))) ∙ w .others i (λ q. omega arith) (λ q. omega arith) (λ q. omega arith) (λ q. omega arith)
-  ]
-    where
-      apart : 2048 ≤ i → Dec (i < 2048 + s * 16) → (i < 2048 + s * 16) ⊎ (2048 + s * 16 + 16 ≤ i)
-      apart h (yes l) = inl l
-      apart h (no l) = elim (decLt i (2048 + s * 16 + 16)) [ yes m ↦ absurd (o (omega (arith, owner-high i h))) | no m ↦ inr (omega arith) ]
+  pub put-is : (a ≡ headWord (stmtOf st)) × IsHead a (stmtOf st) (min (st .history .len) 16) → b < 4294967296 → viewOf b ≡ viewIs (st .view) → c ≡ stmtOf st .payload → d ≡ st .kept → Put W U n st
+  unfolding stmtOf
+  put-is h lb vb pc kd = record {
+    is = v .is ∙ put-at W (min n 511) s a b c d (map wordOf (viewsIs (st .history))) (stmtOf st) e (h .0) (word-of b (viewIs (st .view)) lb vb) pc kd (ap (map wordOf) (kept-views (st .history)));
+    there = there (h .1) vb pc kd;
+  }
 
-  pub put-is : IsHead a (stmtOf st) (min (st .history .len) 16) → viewOf b ≡ viewIs (st .view) → c ≡ stmtOf st .payload → d ≡ st .kept → Put W U n st
-  put-is h vb pc kd = record { long = v .long ∙ w .long; there = there h vb pc kd; others = others }
+-- ---- what changes besides
+
+pub beside-put : (W : List ℕ) (n : ℕ) (s : Stmt) → n ≤ 511 → Beside W (putAt W n s) n
+unfolding putAt
+beside-put W n s m = record {
+  long = length-sets row (2048 + n * 16) vs ∙ row-long W n (headWord s) (wordOf (s .view)) (s .payload) (s .kept);
+  others = λ i o k. sets-outside vs row (2048 + n * 16) i (far i o (decLt i (2048 + n * 16)))
+      ∙ row-others W n (headWord s) (wordOf (s .view)) (s .payload) (s .kept) i (λ e. o (own i 0 (omega arith) (omega arith))) (λ e. o (own i 512 (omega arith) e)) (λ e. o (own i 1024 (omega arith) e)) (λ e. o (own i 1536 (omega arith) e));
+}
+  where
+    row : List ℕ
+    row = rowIn W n (headWord s) (wordOf (s .view)) (s .payload) (s .kept)
+
+    vs : List ℕ
+    vs = map wordOf (take 16 (s .views))
+
+    few : length vs ≤ 16
+    few = omega (arith, length-map (take 16 (s .views)) wordOf, length-take 16 (s .views))
+
+    own : (i f : ℕ) → (f ≤ 1536) × (f % 512 ≡ 0) → i ≡ n + f → owner i ≡ n
+    own i f l e = omega (arith, owner-low i (omega arith))
+
+    far : (i : ℕ) → (owner i ≡ n → ⊥) → Dec (i < 2048 + n * 16) → (i < 2048 + n * 16) ⊎ (2048 + n * 16 + length vs ≤ i)
+    far i o (yes l) = inl l
+    far i o (no l) = elim (decLt i (2048 + n * 16 + 16)) [ yes h ↦ absurd (o (omega (arith, owner-high i (omega arith)))) | no h ↦ inr (omega (arith, few)) ]
+
+-- the number of statements is of none
+pub beside-count : (W U : List ℕ) (n v : ℕ) → Beside W U n → Beside W (set U 10240 v) n
+beside-count W U n v b = record { long = length-set U 10240 v ∙ b .long; others = λ i o k. getD-set-other U 10240 i v 0 k ∙ b .others i o k }
+
+pub beside-same : (W : List ℕ) (n : ℕ) → Beside W W n
+beside-same W n = record { long = refl; others = λ i o k. refl }
 
 -- a flag that is read back
 pub flag-is : (x : ℕ) → x ≤ 1 → cond (eqb x 1) 1 0 ≡ x

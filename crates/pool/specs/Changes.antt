@@ -1,17 +1,18 @@
 -- What writing to the pool does, and where a statement is found in it.
--- The places after a statement's last view may hold anything.
+-- Every word after it is fixed: a statement is written in one way, and no other word changes, not even a place after its last view.
 -- Assumes nothing.
 use mathlib.Core.Path.{_≡_}
-use mathlib.Core.Logic.{_⊎_}
-use mathlib.Core.List.{List, _∷_, [], _++_}
+use mathlib.Core.Bool.{_||_}
+use mathlib.Core.List.{List, _∷_, [], _++_, map}
 use mathlib.Core.Option.{Option, some, none}
 use Prim.Native.Nat.{ℕ, _+_, _-_, _*_, _/_, _%_, _≤_, _<_, min}
-use lib.Dec.{ltb}
-use lib.ListN.{length, getD}
-use Rattle.protocol.specs.Lists.{if_then_else_, find}
+use lib.Dec.{leb, ltb}
+use lib.ListN.{length, getD, set, take}
+use lib.Seq.{sets}
+use Rattle.protocol.specs.Lists.{if_then_else_, find, isSome}
 use Rattle.protocol.specs.Statement.{Stmt, sameStmt}
 use Rattle.views.specs.declared.History.{History}
-use Rattle.views.specs.Held.{heldAt}
+use Rattle.views.specs.Held.{heldAt, viewsIs}
 use Rattle.views.specs.Table.{table}
 use Rattle.views.specs.View.{viewOf}
 use Rattle.statements.specs.declared.Statement.{Statement}
@@ -21,27 +22,39 @@ use Rattle.pool.specs.declared.Found.the-variants as found
 use Rattle.pool.specs.declared.Placed.{Placed}
 use Rattle.pool.specs.declared.Placed.the-variants as placed
 use Rattle.pool.specs.declared.Record.{Record}
-use Rattle.pool.specs.Pool.{stmtAt, poolLen, recordOf}
+use Rattle.pool.specs.Pool.{wordOf, stmtAt, poolLen, recordOf}
 
--- The views of h went into the 16 words from s on.
+-- The views of h went into the words from s on, and come back from them.
 pub record WroteViews (W W′ : List ℕ) (s : ℕ) (h : History) : Type 0 where
-  pub long : length W′ ≡ length W
-  pub views : (p : ℕ) → p < min (h .len) 16 → viewOf (getD W′ (s + p) 0) ≡ heldAt (h .views) p
-  pub others : (i : ℕ) → (i < s) ⊎ (s + 16 ≤ i) → getD W′ i 0 ≡ getD W i 0
+  pub is : W′ ≡ sets W s (map wordOf (viewsIs h))
+  pub back : (p : ℕ) → p < min (h .len) 16 → viewOf (wordOf (heldAt (h .views) p)) ≡ heldAt (h .views) p
 
 -- The statement that word i is of. It is 512 for the number of statements, which is of none.
 unfoldable pub owner : ℕ → ℕ
 owner i = if ltb i 2048 then i % 512 else (i - 2048) / 16
 
--- Statement n is st now, and no word of another changed. A number above 511 counts as 511.
-pub record Put (W W′ : List ℕ) (n : ℕ) (st : Statement) : Type 0 where
+-- No word changed but those of statement n and the number of statements.
+pub record Beside (W W′ : List ℕ) (n : ℕ) : Type 0 where
   pub long : length W′ ≡ length W
-  pub there : st .history .len ≤ 16 → stmtAt W′ n ≡ stmtOf st
-  pub others : (i : ℕ) → (owner i ≡ min n 511 → ⊥) → getD W′ i 0 ≡ getD W i 0
+  pub others : (i : ℕ) → (owner i ≡ n → ⊥) → (i ≡ 10240 → ⊥) → getD W′ i 0 ≡ getD W i 0
 
 -- Kind, origin and at of a statement in one number.
 unfoldable pub headOf : Stmt → ℕ
-headOf s = s .kind + s .origin * 256 + (s .at .joined + s .at .left * 65536) * 65536
+headOf s = s .kind + s .origin * 256 + wordOf (s .at) * 65536
+
+-- The head of a statement. Of more than 16 views it counts 16.
+unfoldable pub headWord : Stmt → ℕ
+headWord s = headOf s + min (length (s .views)) 16 * 281474976710656 + s .binding * 72057594037927936 + s .stored * 1152921504606846976
+
+-- The memory W with s as statement n. Of more than 16 views only 16 are kept.
+unfoldable pub putAt : List ℕ → ℕ → Stmt → List ℕ
+putAt W n s =
+    sets (set (set (set (set W n (headWord s)) (n + 512) (wordOf (s .view))) (n + 1024) (s .payload)) (n + 1536) (s .kept)) (2048 + n * 16) (map wordOf (take 16 (s .views)))
+
+-- Statement n is st now. A number above 511 counts as 511.
+pub record Put (W W′ : List ℕ) (n : ℕ) (st : Statement) : Type 0 where
+  pub is : W′ ≡ putAt W (min n 511) (stmtOf st)
+  pub there : st .history .len ≤ 16 → stmtAt W′ n ≡ stmtOf st
 
 -- The word w is the head of the statement s with c views.
 pub record IsHead (w : ℕ) (s : Stmt) (c : ℕ) : Type 0 where
@@ -65,15 +78,21 @@ abbrev pub placedAt : Option ℕ → ℕ → Placed
 placedAt none n = if ltb n 512 then placed.At n else placed.Full
 placedAt (some i) n = placed.At i
 
+-- The memory W after s went into its pool: as before where s was in it or it is full.
+unfoldable pub pooledIn : List ℕ → Stmt → List ℕ
+pooledIn W s = if isSome (numberOf W s) || leb 512 (poolLen W) then W else set (putAt W (poolLen W) s) 10240 (poolLen W + 1)
+
 -- One statement more, which is st, and all others as before.
 pub record Grown (W W′ : List ℕ) (st : Statement) : Type 0 where
   pub len : poolLen W′ ≡ poolLen W + 1
   pub there : st .history .len ≤ 16 → stmtAt W′ (poolLen W) ≡ stmtOf st
   pub others : (m : ℕ) → (min m 511 ≡ poolLen W → ⊥) → stmtAt W′ m ≡ stmtAt W m
+  pub beside : Beside W W′ (poolLen W)
 
 -- st is in the pool where r says, and the pool has grown only where st was not in it and there was room.
 pub record Appended (W W′ : List ℕ) (st : Statement) (r : Placed) : Type 0 where
   pub answer : r ≡ placedAt (numberOf W (stmtOf st)) (poolLen W)
+  pub is : W′ ≡ pooledIn W (stmtOf st)
   pub old : (i : ℕ) → numberOf W (stmtOf st) ≡ some i → W′ ≡ W
   pub full : 512 ≤ poolLen W → W′ ≡ W
   pub new : numberOf W (stmtOf st) ≡ none → poolLen W < 512 → Grown W W′ st

@@ -12,6 +12,10 @@ use Rattle.protocol.specs.Statement.{Stmt}
 use Rattle.views.specs.Table.{table}
 use Rattle.views.specs.View.{viewOf}
 
+-- The word of a view: 16 bits of who joined, and above them 16 of who left.
+abbrev pub wordOf : View → ℕ
+wordOf v = v .joined + v .left * 65536
+
 -- The head of statement n. A number above 511 counts as 511, here and below.
 unfoldable pub headAt : List ℕ → ℕ → ℕ
 headAt W n = getD W (min n 511) 0

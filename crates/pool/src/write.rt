@@ -4,7 +4,7 @@ ghost use Prim.Native.Nat.{_+_, _≤_, min};
 ghost use lib.ListN.{length};
 ghost use Rattle.statements.specs.Meaning.{firstViews, bindingNumber, payloadOf, stmtOf};
 ghost use Rattle.pool.specs.Pool.{stmtAt};
-ghost use Rattle.pool.specs.Changes.{IsHead, Put, WroteViews};
+ghost use Rattle.pool.specs.Changes.{headWord, IsHead, Put, WroteViews};
 use crate::POOL_WORDS;
 use crate::read;
 use crate::seek;
@@ -13,7 +13,7 @@ use statements::Statement;
 use views::History;
 use views::View;
 
-// The views of h from word s on.
+// The views of h from word s on. The places after the last are left as they are.
 fn put_views(words: &mut [u64; POOL_WORDS], s: usize, h: History)
     requires { ⌜ (length (now words) ≡ 10241) × (s + 16 ≤ 10240) ⌝ }
     ensures { λ r. ⌜ WroteViews (now (words .entry)) (now (words .exit)) s h ⌝ }
@@ -30,7 +30,7 @@ fn put_views(words: &mut [u64; POOL_WORDS], s: usize, h: History)
 
 // The head of st. Of more than 16 views it counts 16.
 fn head_word(st: Statement) -> u64
-    ensures { λ r. ⌜ IsHead r (stmtOf st) (min (st .history .len) 16) ⌝ }
+    ensures { λ r. ⌜ (r ≡ headWord (stmtOf st)) × IsHead r (stmtOf st) (min (st .history .len) 16) ⌝ }
 {
     let h = st.history;
     let key = seek::head_of(st);

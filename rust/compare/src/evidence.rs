@@ -31,19 +31,41 @@ pub fn lend(case: &Case) -> Result<Lent, String> {
     Ok(lent)
 }
 
-pub fn mine(case: &Case, lent: &Lent) -> Evidence {
-    let mut out = [0; TOLD];
+/// The words that the proved code tells, over memory that held other words.
+pub fn mine(case: &Case, lent: &Lent) -> [u64; TOLD] {
+    let mut out = [u64::MAX; TOLD];
     tell(&lent.words, &lent.ids, lent.len, word(case.initial), case.sender, &mut out);
-    told(&out)
+    out
 }
 
-/// The reference's evidence in the same words.
+/// The words that this evidence is told in. What is not told is 0.
+pub fn words(evidence: &Evidence) -> [u64; TOLD] {
+    let mut out = [0; TOLD];
+    out[2] = evidence.wished.into();
+    let Some(shown) = &evidence.shown else {
+        out[0] = 1;
+        return out;
+    };
+    let mut list = |count: usize, from: usize, views: &[u32]| {
+        out[count] = views.len() as u64;
+        out[from..].iter_mut().zip(views).for_each(|(word, &view)| *word = view.into());
+    };
+    list(3, 8, shown.candidates.as_deref().unwrap_or(&[]));
+    list(4, 24, &shown.greatest);
+    out[1] = shown.candidates.is_none().into();
+    if let Some((payload, stored)) = shown.certificate {
+        out[5..8].copy_from_slice(&[1, payload, stored.into()]);
+    }
+    out
+}
+
+/// The reference's evidence.
 pub fn theirs(case: &Case) -> Evidence {
     let evidence = reference::Evidence::of(case.initial, case.sender, &case.statements);
-    let words = |views: &[View]| views.iter().map(|&view| word(view)).collect::<Vec<u32>>();
+    let listed = |views: &[View]| views.iter().map(|&view| word(view)).collect::<Vec<u32>>();
     let shown = || Shown {
-        candidates: (evidence.candidates.len() <= 16).then(|| words(&evidence.candidates)),
-        greatest: evidence.greatest().map_or(Vec::new(), |history| words(history.views())),
+        candidates: (evidence.candidates.len() <= 16).then(|| listed(&evidence.candidates)),
+        greatest: evidence.greatest().map_or(Vec::new(), |history| listed(history.views())),
         certificate: evidence.certificate().map(|payload| (payload, evidence.stored.contains(&payload))),
     };
     Evidence { wished: word(evidence.wished), shown: (!evidence.conflict()).then(shown) }
@@ -116,7 +138,7 @@ impl std::fmt::Display for Tally {
 
 /// The fewest statements found in which they still differ.
 fn shrink(case: &Case) -> Case {
-    let differs = |case: &Case| lend(case).is_ok_and(|lent| mine(case, &lent) != theirs(case));
+    let differs = |case: &Case| lend(case).is_ok_and(|lent| mine(case, &lent) != words(&theirs(case)));
     let mut least = case.clone();
     let mut place = least.statements.len();
     while place > 0 {
@@ -134,10 +156,11 @@ pub fn compare(case: &Case, tally: &mut Tally) -> Result<(), String> {
     assert!(case.statements.len() <= Record::LIMIT, "a record has at most 512 statements");
     let lent = lend(case)?;
     let (mine_now, theirs_now) = (mine(case, &lent), theirs(case));
-    if mine_now != theirs_now {
+    // Both ways: every word, and what the words are read as.
+    if mine_now != words(&theirs_now) || told(&mine_now) != theirs_now {
         let least = shrink(case);
         let lines: Vec<String> = least.statements.iter().map(|s| String::from_utf8_lossy(&s.write()).into_owned()).collect();
-        let (one, other) = (mine(&least, &lend(&least)?), theirs(&least));
+        let (one, other) = (mine(&least, &lend(&least)?), words(&theirs(&least)));
         return Err(format!("initial {} sender {}\n{}\nproved: {one:x?}\nreference: {other:x?}", least.initial, least.sender, lines.join("\n")));
     }
     compare_text(case, &lent, &theirs_now)?;

@@ -1,6 +1,6 @@
 //! What records show, by the proved code and by the reference.
 
-use compare::evidence::{compare, lend, mine, theirs, Tally};
+use compare::evidence::{compare, lend, mine, theirs, words, Tally};
 use compare::records::{breadth, changed, deepest, depth, mixed, pool_of, quorums, Case};
 use compare::schedules;
 use generate::Rng;
@@ -48,7 +48,7 @@ fn worst_records() {
 #[test]
 fn the_deepest_record_on_a_small_stack() {
     let case = deepest();
-    let expected = theirs(&case);
+    let expected = words(&theirs(&case));
     assert_eq!(case.statements.len(), 30 + 2 * 45);
     let lent = lend(&case).unwrap_or_else(|difference| panic!("{difference}"));
     let small = std::thread::Builder::new().stack_size(128 * 1024);

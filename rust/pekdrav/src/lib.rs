@@ -57,6 +57,8 @@ pub enum Unplaced {
 }
 
 /// The number of the statement that `line` is, which goes to the end of the pool if it is not in it.
+///
+/// Only the words of a new statement and the number of statements are written.
 pub fn append(words: &mut [u64; POOL_WORDS], line: &[u8]) -> Result<u16, Unplaced> {
     // SAFETY: the pointers are those of an array of the size that the function uses and of a slice with its length.
     match unsafe { exported::pekdrav_append(words.as_mut_ptr(), line.as_ptr(), line.len()) } {
@@ -67,6 +69,12 @@ pub fn append(words: &mut [u64; POOL_WORDS], line: &[u8]) -> Result<u16, Unplace
 }
 
 /// Tells what the record of the first `len` numbers shows in a ring with this initial view and sender.
+///
+/// Every word of `out` is fixed by that, whatever it held; `told` reads them. Words 0 to 7 are whether there is a conflict, whether there
+/// are more than sixteen candidates, the wished view, how many candidates and how many views of the greatest history follow, whether a
+/// payload has a certificate, that payload, and whether it is stored; the candidates stand from word 8 on, the greatest history from 24 on.
+/// What is not told is 0: after a conflict every word but 0 and 2, with more than sixteen candidates word 3 and the candidates, without a
+/// certificate words 6 and 7, and the words after the last view.
 pub fn tell(words: &[u64; POOL_WORDS], ids: &[u16; RECORD], len: usize, init: u32, sender: u8, out: &mut [u64; TOLD]) {
     // SAFETY: the pointers are those of arrays of the sizes that the function reads and writes, whatever they hold.
     unsafe { exported::pekdrav_evidence(words.as_ptr(), ids.as_ptr(), len, init, sender, out.as_mut_ptr()) }

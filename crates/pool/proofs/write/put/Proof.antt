@@ -1,6 +1,6 @@
 use native.Mathlib.Omega.{arith}
-use mathlib.Core.Path.{refl}
-use Rattle.pool.proofs.Writes.{four-long, row-wrote, put-is}
+use mathlib.Core.Path.{refl, _∙_}
+use Rattle.pool.proofs.Writes.{row-long, put-is}
 use borrow.Author.Needs.{needs}
 use Rattle.pool.proofs.write.put.Statement.{statement}
 use Rattle.pool.proofs.write.put.Tie as tie
@@ -36,5 +36,5 @@ put-spec =
     (λ c. search needs)
     (λ c. search needs)
     (λ c. search needs)
-    (λ c κs. (four-long (c .before .before .before .before .before .before .before .before .before .args .words .now) (c .before .before .before .before .before .before .slot .result) _ _ _ _ (c .before .before .before .before .before .before .before .size .ensures .1) (c .before .before .before .before .before .before .slot .ensures .1), omega (arith, c .before .before .before .before .before .before .slot .ensures .1)))
-    (λ c. put-is (c .before .before .before .before .before .before .before .before .before .before .args .words .now) _ _ _ (c .before .before .before .before .before .before .before .slot .result) _ _ _ _ _ (c .before .before .before .before .before .before .before .slot .ensures .0) (row-wrote (c .before .before .before .before .before .before .before .before .before .before .args .words .now) (c .before .before .before .before .before .before .before .slot .result) (c .before .before .before .before .head-word .result) (c .before .before .before .word .result) (c .before .before .payload-of .result) (c .before .before .before .before .before .before .before .before .before .before .args .st .kept) (c .before .before .before .before .before .before .before .before .size .ensures .1) (c .before .before .before .before .before .before .before .slot .ensures .1)) (c .put-views .ensures) (c .before .before .before .before .head-word .ensures) (c .before .before .before .word .ensures) (c .before .before .payload-of .ensures) refl))
+    (λ c κs. (row-long (c .before .before .before .before .before .before .before .before .before .args .words .now) (c .before .before .before .before .before .before .slot .result) _ _ _ _ ∙ c .before .before .before .before .before .before .before .size .ensures .1, omega (arith, c .before .before .before .before .before .before .slot .ensures .1)))
+    (λ c. put-is (c .before .before .before .before .before .before .before .before .before .before .args .words .now) _ _ (c .before .before .before .before .before .before .before .slot .result) _ (c .before .before .before .before .head-word .result) (c .before .before .before .word .result) (c .before .before .payload-of .result) (c .before .before .before .before .before .before .before .before .before .before .args .st .kept) (c .before .before .before .before .before .before .before .before .size .ensures .1) (c .before .before .before .before .before .before .before .slot .ensures .0) (c .put-views .ensures) (c .before .before .before .before .head-word .ensures) (omega arith) (c .before .before .before .word .ensures) (c .before .before .payload-of .ensures) refl))
