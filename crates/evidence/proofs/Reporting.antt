@@ -3,9 +3,7 @@
 use mathlib.Core.Path.{_≡_, refl, sym, ap, ap₂, subst, _∙_}
 use mathlib.Core.Bool.{Bool, true, false, not, _&&_, _||_, and-true, and-false, and-assoc}
 use mathlib.Core.List.{List}
-use Prim.Native.Nat.{ℕ, zero, suc, _+_, _*_, _/_, _%_, _^_, _≤_, _<_, min}
-use native.Mathlib.Decide.{ℕ-discrete}
-use native.Mathlib.Nat.{div-div-eq-div-mul}
+use Prim.Native.Nat.{ℕ, _≤_}
 use native.Mathlib.Omega.{arith}
 use lib.Dec.{T, eqb}
 use lib.ListN.{length, getD}
@@ -15,47 +13,21 @@ use Rattle.protocol.specs.Lists.{_∈_, any, all, filter, when}
 use Rattle.protocol.specs.View.{View, Ring, sameView, member, within, below}
 use Rattle.protocol.specs.History.{top, holds}
 use Rattle.protocol.specs.Statement.{Stmt, isKind, reportsOn}
-use Rattle.protocol.specs.Evidence.{wished, candidate, candidates, greatest, certificates, isConflict, isCandidate, signs, signedByQuorum, prepares, isPrepared, twoPrepares, isCertified, isCounted, isCountedOn, Certificate}
-use Rattle.protocol.proofs.Bits.{bit-zero}
-use Rattle.protocol.proofs.Says.{Says, says-map, says-unique, says-self, says-and, says-eqb, says-all, says-any}
+use Rattle.protocol.specs.Evidence.{wished, candidate, candidates, greatest, certificates, isConflict, isCandidate, signs, signedByQuorum, isPrepared, twoPrepares, isCertified, isCounted, isCountedOn, Certificate}
+use Rattle.protocol.proofs.Says.{says-map, says-unique, says-self, says-and, says-eqb, says-all, says-any}
 use Rattle.protocol.proofs.Found.{first-in, first-none}
 use Rattle.protocol.proofs.Histories.{sealed-short}
-use Rattle.protocol.proofs.Decided.{says-same, says-in, says-kind, says-shown, says-certified, says-twoPrepares}
+use Rattle.protocol.proofs.Decided.{says-same, says-in, says-shown, says-certified}
 use Rattle.protocol.proofs.Asked.{says-holds, candidates-exact, certificates-in, certificates-out, one-payload, greatest-holds}
 use Rattle.views.specs.Sets.{IsSet}
 use Rattle.views.specs.View.{viewOf, ring, quorumHas}
 use Rattle.views.proofs.Tables.{table-length}
-use Rattle.views.proofs.Views.{passes, fails, view-parts, signed-by-set}
-use Rattle.pool.specs.Pool.{stmtAt, recordOf}
-use Rattle.votes.specs.Votes.{entry}
+use Rattle.views.proofs.Views.{fails, signed-by-set}
+use Rattle.pool.specs.Pool.{recordOf}
 use Rattle.evidence.specs.declared.Evidence.{Evidence}
 use Rattle.ranking.specs.Slots.{viewsOf}
 use Rattle.evidence.specs.Evidence.{Settled, bindingHolds, keptHolds, reportedOn, reportedAll, countsBelow}
-use Rattle.ranking.proofs.Members.{table-in}
-use Rattle.evidence.proofs.Backing.{placed}
 use Rattle.evidence.proofs.Sifted.{any-filter, any-same}
-
--- ---- one member
-
-pub bit-shift : (k a : ℕ) → bit a k ≡ eqb (a / 2 ^ k % 2) 1
-unfolding bit
-bit-shift zero a = let e : a / 2 ^ 0 ≡ a = omega arith in ap (λ x. eqb (x % 2) 1) (sym e)
-bit-shift (suc k) a =
-    let q : 2 ^ suc k ≡ 2 * 2 ^ k = omega arith in
-    bit-shift k (a / 2) ∙ ap (λ x. eqb (x % 2) 1) (div-div-eq-div-mul a 2 (2 ^ k) ∙ ap (λ x. a / x) (sym q))
-
-pub bit-beyond : (n k a : ℕ) → a < 2 ^ n → n ≤ k → bit a k ≡ false
-unfolding bit
-bit-beyond zero k a h l = let e : a ≡ 0 = omega arith in subst (λ x. bit x k ≡ false) (sym e) (bit-zero k)
-bit-beyond (suc n) zero a h l = absurd (omega arith)
-bit-beyond (suc n) (suc k) a h l = bit-beyond n k (a / 2) (omega arith) (omega arith)
-
-pub member-out : (v k : ℕ) (r : Bool) → r ≡ bit (v % 65536) k → r ≡ false → false ≡ member (viewOf v) k
-unfolding viewOf
-member-out v k r e f = sym (ap (λ b. b && not (bit (v / 65536 % 65536) k)) (sym e ∙ f))
-
-pub member-in : (v k : ℕ) (r q : Bool) → v < 4294967296 → r ≡ bit (v % 65536) k → r ≡ true → q ≡ bit (v / 65536) k → not q ≡ member (viewOf v) k
-member-in v k r q h e f g = subst (λ u. not q ≡ member u k) (view-parts v h) (ap not g ∙ sym (ap (λ b. b && not (bit (v / 65536) k)) (sym e ∙ f)))
 
 -- ---- a chain of tests
 

@@ -11,6 +11,7 @@ pub use certificates::is_stored;
 pub use certificates::mark_backed;
 pub use reports::merged;
 pub use reports::reported;
+use views::View;
 pub use whole::of_record;
 
 // What a record shows, views as words: wished; whether there is a conflict; whether there are more than sixteen candidates, and else the first `count` of
@@ -19,9 +20,9 @@ pub struct Evidence {
     pub conflict: bool,
     pub many: bool,
     pub wished: u32,
-    pub candidates: [u32; 16],
+    pub candidates: [u32; View::LIMIT],
     pub count: usize,
-    pub greatest: [u32; 16],
+    pub greatest: [u32; View::LIMIT],
     pub length: usize,
     pub certified: bool,
     pub payload: u64,

@@ -2,7 +2,6 @@
 ghost use mathlib.Core.Path.{_≡_};
 ghost use Prim.Native.Nat.{_≤_, _<_};
 ghost use lib.ListN.{length, getD};
-ghost use Rattle.protocol.specs.Sets.{bit};
 ghost use Rattle.protocol.specs.Lists.{any};
 ghost use Rattle.protocol.specs.View.{sameView, member};
 ghost use Rattle.protocol.specs.History.{holds, top};
@@ -20,29 +19,18 @@ use crate::binding;
 use crate::prepares;
 use pool::POOL_WORDS;
 use statements::Binding;
-
-// Whether the set has k.
-fn has(set: u32, k: u64) -> bool
-    ensures { λ r. ⌜ r ≡ bit set k ⌝ }
-{
-    if k >= 32 {
-        return false;
-    }
-    (set >> k) % 2 == 1
-}
+use views::View;
 
 // Whether k is a member of v.
 fn is_member(v: u32, k: u64) -> bool
+    requires { ⌜ k < 256 ⌝ }
     ensures { λ r. ⌜ r ≡ member (viewOf v) k ⌝ }
 {
-    if !has(v % 65536, k) {
-        return false;
-    }
-    !has(v / 65536, k)
+    View::of_word(v).has_member(k as u8)
 }
 
 // View i of a list.
-fn view_in(list: &[u32; 16], i: usize) -> u32
+fn view_in(list: &[u32; View::LIMIT], i: usize) -> u32
     requires { ⌜ i < 16 ⌝ }
     ensures { λ r. ⌜ r ≡ getD (now (list .entry)) i 0 ⌝ }
 {
@@ -50,7 +38,7 @@ fn view_in(list: &[u32; 16], i: usize) -> u32
 }
 
 // Whether v is one of the first n views.
-fn is_in(list: &[u32; 16], n: usize, v: u32) -> bool
+fn is_in(list: &[u32; View::LIMIT], n: usize, v: u32) -> bool
     requires { ⌜ n ≤ 16 ⌝ }
     ensures { λ r. ⌜ r ≡ any (sameView (viewOf v)) (viewsOf (now (list .entry)) n) ⌝ }
 {
@@ -65,7 +53,7 @@ fn is_in(list: &[u32; 16], n: usize, v: u32) -> bool
 }
 
 // The last of the first n views; the initial view, if there is none.
-fn top_of(list: &[u32; 16], n: usize, init: u32) -> u32
+fn top_of(list: &[u32; View::LIMIT], n: usize, init: u32) -> u32
     requires { ⌜ n ≤ 16 ⌝ }
     ensures { λ r. ⌜ viewOf r ≡ top (ring init) (viewsOf (now (list .entry)) n) ⌝ }
 {
@@ -76,7 +64,7 @@ fn top_of(list: &[u32; 16], n: usize, init: u32) -> u32
 }
 
 // Whether all views of statement s are among the first n.
-fn all_in(words: &[u64; POOL_WORDS], s: u16, list: &[u32; 16], n: usize) -> bool
+fn all_in(words: &[u64; POOL_WORDS], s: u16, list: &[u32; View::LIMIT], n: usize) -> bool
     requires { ⌜ n ≤ 16 ⌝ }
     ensures { λ r. ⌜ r ≡ holds (viewsOf (now (list .entry)) n) (stmtAt (now (words .entry)) s .views) ⌝ }
 {

@@ -20,6 +20,7 @@ use pool::POOL_WORDS;
 use ranking::Ranked;
 use ranking::Summit;
 use sealing::INDEX;
+use views::View;
 
 // Whether one of the three is true.
 fn one_of(a: bool, b: bool, c: bool) -> bool
@@ -224,9 +225,9 @@ fn unvoted(wish: u32, init: u32) -> Evidence
         conflict: false,
         many: false,
         wished: wish,
-        candidates: [init; 16],
+        candidates: [init; View::LIMIT],
         count: 1,
-        greatest: [init; 16],
+        greatest: [init; View::LIMIT],
         length: 1,
         certified: false,
         payload: 0,

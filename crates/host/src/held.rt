@@ -44,9 +44,9 @@ fn send_in(n: u64, payload: u64) -> Send
 fn entered_in(fields: &[u64; 32]) -> History
     ensures { λ r. ⌜ r ≡ enteredIn (now (fields .entry)) ⌝ }
 {
-    let mut views = [View { joined: 0, left: 0 }; 16];
+    let mut views = [View { joined: 0, left: 0 }; View::LIMIT];
     let mut i = 0usize;
-    while i < 16 {
+    while i < View::LIMIT {
         let v = view_in(fields[16 + i]);
         views[i] = v;
         i += 1;
@@ -104,12 +104,12 @@ pub fn word_of(v: View) -> u64
 }
 
 // The words of the views that were entered, from word 16 on.
-fn words_of(views: [View; 16]) -> [u64; 32]
+fn words_of(views: [View; View::LIMIT]) -> [u64; 32]
     ensures { λ r. ⌜ Worded views r ⌝ }
 {
     let mut words = [0u64; 32];
     let mut i = 0usize;
-    while i < 16 {
+    while i < View::LIMIT {
         let v = views[i];
         words[16 + i] = word_of(v);
         i += 1;

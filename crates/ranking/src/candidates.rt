@@ -10,6 +10,10 @@ ghost use Rattle.votes.specs.Tables.{high};
 ghost use Rattle.ranking.specs.Slots.{viewScale, viewIn, Slots, Filled, Compared, Listed};
 ghost use Rattle.ranking.specs.Ranking.{Choices, CandidatesOf};
 use crate::Ranked;
+use views::View;
+
+// Views have this many sizes: from 0 to all joined and all left.
+const SIZES: usize = 2 * View::WIDTH as usize + 1;
 
 // The view that a choice is for.
 fn high_of(x: u64) -> u32
@@ -37,7 +41,7 @@ fn slot_size(v: u32, init: u32, least: usize) -> usize
 }
 
 // What slot k holds.
-fn slot_at(slots: &[u32; 33], k: usize) -> u32
+fn slot_at(slots: &[u32; SIZES], k: usize) -> u32
     requires { ⌜ k < 33 ⌝ }
     ensures { λ r. ⌜ r ≡ getD (now (slots .entry)) k 0 ⌝ }
 {
@@ -50,7 +54,7 @@ fn fill_slots(
     nc: usize,
     mc: &[u8; 512],
     init: u32,
-    slots: &mut [u32; 33],
+    slots: &mut [u32; SIZES],
 ) -> bool
     requires { ⌜ (nc ≤ 512) × Slots viewScale init (viewIn (now chosen)) (now mc) 0 (now slots) ⌝ }
     ensures { λ r. ⌜ Filled viewScale init (viewIn (now (chosen .entry))) (now (mc .entry)) nc (now (slots .exit)) r ⌝ }
@@ -78,14 +82,14 @@ fn fill_slots(
 }
 
 // Whether every two views of the slots are comparable: it is enough that each lies within the next.
-fn compare_slots(slots: &[u32; 33], init: u32, least: usize) -> bool
+fn compare_slots(slots: &[u32; SIZES], init: u32, least: usize) -> bool
     requires { ⌜ (least ≡ size 16 (viewOf init)) × (least ≤ 32) ⌝ }
     ensures { λ r. ⌜ Compared (now (slots .entry)) r ⌝ }
 {
     let mut some = false;
     let mut last = 0u32;
     let mut k = 0usize;
-    while k < 33 {
+    while k < SIZES {
         let v = slot_at(slots, k);
         if slot_size(v, init, least) != k {
             k += 1;
@@ -106,21 +110,21 @@ fn compare_slots(slots: &[u32; 33], init: u32, least: usize) -> bool
     true
 }
 
-// Lists the views of the slots: how many, or 17 for more than sixteen.
-fn list_slots(slots: &[u32; 33], init: u32, least: usize, out: &mut [u32; 16]) -> usize
+// Lists the views of the slots: how many, or one above the limit where there are more.
+fn list_slots(slots: &[u32; SIZES], init: u32, least: usize, out: &mut [u32; View::LIMIT]) -> usize
     requires { ⌜ (length (now out) ≡ 16) × (least ≡ size 16 (viewOf init)) × (least ≤ 32) ⌝ }
     ensures { λ r. ⌜ Listed (now (slots .entry)) (now (out .exit)) r ⌝ }
 {
     let mut n = 0usize;
     let mut k = 0usize;
-    while k < 33 {
+    while k < SIZES {
         let v = slot_at(slots, k);
         if slot_size(v, init, least) != k {
             k += 1;
             continue;
         }
-        if n == 16 {
-            return 17;
+        if n == View::LIMIT {
+            return View::LIMIT + 1;
         }
         out[n] = v;
         n += 1;
@@ -134,8 +138,8 @@ pub fn rank(chosen: &[u64; 512], nc: usize, mc: &[u8; 512], init: u32) -> Ranked
     requires { ⌜ nc ≤ 512 ⌝ }
     ensures { λ r. ⌜ ((X : List Stmt) → Choices init X (now (chosen .entry)) (now (mc .entry)) nc → CandidatesOf init X r) ⌝ }
 {
-    let mut slots = [init; 33];
-    let mut views = [0u32; 16];
+    let mut slots = [init; SIZES];
+    let mut views = [0u32; View::LIMIT];
     if !fill_slots(chosen, nc, mc, init, &mut slots) {
         return Ranked {
             conflict: true,
@@ -156,7 +160,7 @@ pub fn rank(chosen: &[u64; 512], nc: usize, mc: &[u8; 512], init: u32) -> Ranked
     let count = list_slots(&slots, init, least, &mut views);
     Ranked {
         conflict: false,
-        many: 16 < count,
+        many: View::LIMIT < count,
         count,
         views,
     }

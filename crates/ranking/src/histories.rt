@@ -10,6 +10,10 @@ ghost use Rattle.ranking.specs.Slots.{historyScale, entryIn, viewsOf, Sl
 ghost use Rattle.ranking.specs.Ranking.{FirstMarked, ChainOf, Agreements, HistoriesOf};
 use crate::Summit;
 use pool::POOL_WORDS;
+use views::View;
+
+// Histories have this many lengths, that of none among them.
+const LENGTHS: usize = View::LIMIT + 1;
 
 // Whether the histories in the slots are a chain, and the pool number of the last.
 struct Links {
@@ -33,7 +37,7 @@ fn has_views(words: &[u64; POOL_WORDS], i: u16, j: u16) -> bool
 }
 
 // What slot k holds.
-fn number_at(slots: &[u16; 17], k: usize) -> u16
+fn number_at(slots: &[u16; LENGTHS], k: usize) -> u16
     requires { ⌜ k < 17 ⌝ }
     ensures { λ r. ⌜ r ≡ getD (now (slots .entry)) k 0 ⌝ }
 {
@@ -70,7 +74,7 @@ fn fill_lengths(
     na: usize,
     ma: &[u8; 512],
     base: u16,
-    slots: &mut [u16; 17],
+    slots: &mut [u16; LENGTHS],
 ) -> bool
     requires { ⌜ (na ≤ 512) × Slots (historyScale (now words)) base (entryIn (now entry)) (now ma) 0 (now slots) ⌝ }
     ensures { λ r. ⌜ Filled (historyScale (now (words .entry))) base (entryIn (now (entry .entry))) (now (ma .entry)) na (now (slots .exit)) r ⌝ }
@@ -98,13 +102,13 @@ fn fill_lengths(
 }
 
 // Whether every two histories in the slots hold one the other: it is enough that each is held by the next.
-fn link_lengths(words: &[u64; POOL_WORDS], slots: &[u16; 17]) -> Links
+fn link_lengths(words: &[u64; POOL_WORDS], slots: &[u16; LENGTHS]) -> Links
     ensures { λ r. ⌜ ChainOf (now (words .entry)) (now (slots .entry)) (r .whole) (r .last) ⌝ }
 {
     let mut some = false;
     let mut last = 0u16;
     let mut k = 0usize;
-    while k < 17 {
+    while k < LENGTHS {
         let n = number_at(slots, k);
         if pool::count(words, n) != k {
             k += 1;
@@ -126,7 +130,7 @@ fn link_lengths(words: &[u64; POOL_WORDS], slots: &[u16; 17]) -> Links
 }
 
 // Copies the views of statement n: how many.
-fn copy_views(words: &[u64; POOL_WORDS], n: u16, out: &mut [u32; 16]) -> usize
+fn copy_views(words: &[u64; POOL_WORDS], n: u16, out: &mut [u32; View::LIMIT]) -> usize
     requires { ⌜ length (now out) ≡ 16 ⌝ }
     ensures { λ r. ⌜ viewsOf (now (out .exit)) r ≡ stmtAt (now (words .entry)) n .views ⌝ }
 {
@@ -150,7 +154,7 @@ pub fn climb(
     requires { ⌜ na ≤ 512 ⌝ }
     ensures { λ r. ⌜ ((X : List Stmt) → Agreements init X (now (words .entry)) (now (entry .entry)) (now (ma .entry)) na → HistoriesOf init X r) ⌝ }
 {
-    let mut views = [init; 16];
+    let mut views = [init; View::LIMIT];
     let a = first_marked(ma, na);
     if a == na {
         return Summit {
@@ -160,7 +164,7 @@ pub fn climb(
         };
     }
     let base = entry_at(entry, a);
-    let mut slots = [base; 17];
+    let mut slots = [base; LENGTHS];
     if !fill_lengths(words, entry, na, ma, base, &mut slots) {
         return Summit {
             conflict: true,

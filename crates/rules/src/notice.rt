@@ -78,7 +78,7 @@ pub fn rule6(words: &[u64; POOL_WORDS], ids: &[u16; 512], len: usize, s: Sight) 
 pub fn has_left(v: View, k: u8) -> bool
     ensures { λ r. ⌜ r ≡ bit (v .left) k ⌝ }
 {
-    if k >= 16 {
+    if k >= View::WIDTH {
         return false;
     }
     (v.left >> k) % 2 == 1

@@ -76,11 +76,11 @@ pub fn acts(d: Deed) -> bool
 }
 
 // The views of the first n words.
-pub fn history_of(words: [u32; 16], n: usize) -> History
+pub fn history_of(words: [u32; View::LIMIT], n: usize) -> History
     requires { ⌜ n ≤ 16 ⌝ }
     ensures { λ r. ⌜ (viewsIs r ≡ viewsOf words n) × (r .len ≤ 16) ⌝ }
 {
-    let mut views = [View { joined: 0, left: 0 }; 16];
+    let mut views = [View { joined: 0, left: 0 }; View::LIMIT];
     let mut i = 0usize;
     while i < n {
         let w = words[i];

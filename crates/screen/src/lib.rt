@@ -31,7 +31,7 @@ fn put_text(out: &mut [u8], at: usize, t: &[u8]) -> usize
 }
 
 // A comma and a view for each of the first `n` words.
-fn put_words(out: &mut [u8], from: usize, words: [u32; 16], n: usize) -> usize
+fn put_words(out: &mut [u8], from: usize, words: [u32; View::LIMIT], n: usize) -> usize
     requires { ⌜ (n ≤ 16) × (from + 9 * n ≤ length (now out)) ⌝ }
     ensures { λ r. ⌜ Wrote (now (out .entry)) from (tailText (viewsOf words n)) r (now (out .exit)) ⌝ }
 {
@@ -46,7 +46,7 @@ fn put_words(out: &mut [u8], from: usize, words: [u32; 16], n: usize) -> usize
 }
 
 // The rest of a line of views: their count and they themselves, in at most 148 bytes.
-fn put_views(out: &mut [u8], at: usize, words: [u32; 16], n: usize) -> usize
+fn put_views(out: &mut [u8], at: usize, words: [u32; View::LIMIT], n: usize) -> usize
     requires { ⌜ (n ≤ 16) × (at + 148 ≤ length (now out)) ⌝ }
     ensures { λ r. ⌜ Wrote (now (out .entry)) at ((44 ∷ decText n) ++ (tailText (viewsOf words n) ++ (10 ∷ []))) r (now (out .exit)) ⌝ }
 {
@@ -65,7 +65,13 @@ fn put_wished(out: &mut [u8], wished: u32) -> usize
     put_text(out, b, b"\n")
 }
 
-fn put_candidates(out: &mut [u8], at: usize, many: bool, words: [u32; 16], n: usize) -> usize
+fn put_candidates(
+    out: &mut [u8],
+    at: usize,
+    many: bool,
+    words: [u32; View::LIMIT],
+    n: usize,
+) -> usize
     requires { ⌜ (many ≡ false → n ≤ 16) × (at + 158 ≤ length (now out)) ⌝ }
     ensures { λ r. ⌜ Wrote (now (out .entry)) at (candidatesLine many (viewsOf words n)) r (now (out .exit)) ⌝ }
 {
@@ -76,7 +82,7 @@ fn put_candidates(out: &mut [u8], at: usize, many: bool, words: [u32; 16], n: us
     put_views(out, a, words, n)
 }
 
-fn put_greatest(out: &mut [u8], at: usize, words: [u32; 16], n: usize) -> usize
+fn put_greatest(out: &mut [u8], at: usize, words: [u32; View::LIMIT], n: usize) -> usize
     requires { ⌜ (n ≤ 16) × (at + 156 ≤ length (now out)) ⌝ }
     ensures { λ r. ⌜ Wrote (now (out .entry)) at (viewsLine greatestWord (viewsOf words n)) r (now (out .exit)) ⌝ }
 {

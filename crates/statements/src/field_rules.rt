@@ -90,7 +90,7 @@ fn views_rule(st: Statement) -> bool
     ensures { λ r. ⌜ r ≡ viewsRule 16 (stmtOf st) ⌝ }
 {
     let h = st.history;
-    if h.len > 16 {
+    if h.len > View::LIMIT {
         return false;
     }
     (h.len >= 1) & h.rising() & h.each_has_members()
@@ -168,10 +168,10 @@ pub fn keeps_field_rules(st: Statement) -> bool
     ensures { λ r. ⌜ r ≡ fieldRules 16 (stmtOf st) ⌝ }
 {
     let h = st.history;
-    if h.len > 16 {
+    if h.len > View::LIMIT {
         return false;
     }
     let t = st.at;
     let v = st.view;
-    (st.origin < 16) & t.is_view() & v.is_view() & h.each_is_view() & kind_rule(st)
+    (st.origin < View::WIDTH) & t.is_view() & v.is_view() & h.each_is_view() & kind_rule(st)
 }

@@ -143,7 +143,7 @@ fn views_at(s: &[u8], count: Part) -> ViewsPart
     requires { ⌜ (count .value ≤ 16) × (count .ok ≡ false → count .next ≡ length (now s)) ⌝ }
     ensures { λ p. ⌜ ViewsAt (now (s .entry)) count p ⌝ }
 {
-    let mut views = [View { joined: 0, left: 0 }; 16];
+    let mut views = [View { joined: 0, left: 0 }; View::LIMIT];
     let n = count.value as usize;
     let mut ok = count.ok;
     let mut at = count.next;
@@ -197,7 +197,7 @@ pub fn read(s: &[u8]) -> ReadStatement
     let payload = number_at(s, binding.next, 18446744073709551615);
     let stored = number_at(s, payload.next, 1);
     let kept = number_at(s, stored.next, 18446744073709551615);
-    let count = number_at(s, kept.next, 16);
+    let count = number_at(s, kept.next, View::LIMIT as u64);
     let views = views_at(s, count);
     let u = at.view;
     let v = view.view;
@@ -314,7 +314,7 @@ pub fn write(st: Statement, out: &mut [u8]) -> usize
 {
     let h = st.history;
     let len = h.len;
-    if len > 16 {
+    if len > View::LIMIT {
         return 0;
     }
     let binding = st.binding;

@@ -1,19 +1,19 @@
 -- Laws of the structs View and History: each is what one method needs.
 -- Assumes nothing.
-use mathlib.Core.Path.{_≡_, refl, sym, ap, ap₂, _∙_}
-use mathlib.Core.Bool.{Bool, true, false, not, _&&_, _||_}
+use mathlib.Core.Path.{_≡_, sym, ap, ap₂, _∙_}
+use mathlib.Core.Bool.{Bool, true, false, not, _&&_}
 use mathlib.Core.List.{List, [], _∷_, _++_}
-use Prim.Native.Nat.{ℕ, zero, suc, _+_, _-_, _*_, _/_, _%_, _^_, _≤_, _<_, min}
+use Prim.Native.Nat.{ℕ, zero, suc, _+_, _*_, _/_, _%_, _^_, _≤_, _<_, min}
 use native.Mathlib.Numerals.{add-one}
 use native.Mathlib.Omega.{arith}
-use lib.Dec.{eqb, leb, ltb}
+use lib.Dec.{eqb}
 use lib.Bits.{bitAnd}
 use lib.Count.{ones, ones-cat}
-use lib.ListN.{length, getD, set, take}
+use lib.ListN.{length, set}
 use lib.Seq.{getD-set-same, getD-set-other}
 use borrow.Author.Tests.{lt-ltb, le-ltb}
-use Rattle.protocol.specs.Sets.{bit, count, setOf}
-use Rattle.protocol.specs.Lists.{any, all}
+use Rattle.protocol.specs.Sets.{bit, setOf}
+use Rattle.protocol.specs.Lists.{any}
 use Rattle.protocol.specs.View.{View, sameView, member, isView, within, comparable, size}
 use Rattle.protocol.specs.History.{holds}
 use Rattle.protocol.specs.Turn.{enteredAfter}
@@ -23,9 +23,9 @@ use Rattle.views.specs.declared.History.{History}
 use Rattle.views.specs.Table.{table}
 use Rattle.views.specs.View.{viewOf}
 use Rattle.views.specs.Held.{viewIs, heldAt, viewsIs}
-use Rattle.views.proofs.Sets.{bit-shift, bit-far, set-without}
+use Rattle.views.proofs.Sets.{bit-shift, bit-far}
 use Rattle.views.proofs.Tables.{table-length, table-cong, take-table, all-zero, all-more, all-miss}
-use Rattle.views.proofs.Views.{pair, same-view}
+use Rattle.views.proofs.Views.{pair}
 
 -- ---- one view
 

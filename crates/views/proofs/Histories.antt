@@ -19,7 +19,11 @@ use Rattle.views.specs.Table.{table}
 use Rattle.views.proofs.Tables.{all-append, table-length, tables-at, all-suc}
 use Rattle.views.proofs.Views.{passes, fails, same-yes, same-no}
 
--- a test of two views, asked of equal ones
+-- a test of one view, and of two, asked of equal ones
+
+pub asked-one : (p : View → Bool) {u x : View} (b r : Bool) → b ≡ p u → b ≡ r → u ≡ x → p x ≡ r
+asked-one p b r e f g = sym (ap p g) ∙ sym e ∙ f
+
 pub asked : (p : View → View → Bool) {u v x y : View} (b r : Bool) → b ≡ p u v → b ≡ r → u ≡ x → v ≡ y → p x y ≡ r
 asked p b r e f g h = sym (ap₂ p g h) ∙ sym e ∙ f
 

@@ -7,10 +7,9 @@ use native.Mathlib.Omega.{arith}
 use lib.Dec.{eqb}
 use native.Mathlib.Nat.{pow-succ', div-div-eq-div-mul}
 use lib.Bits.{bitAnd, bitOr, or-lt, and-lt, or-add-and}
-use lib.Count.{ones}
 use borrow.Author.Tests.{ne-eqb}
 use Rattle.protocol.specs.Sets.{bit, one, count, setOf}
-use Rattle.protocol.proofs.Bits.{bit-and, bit-or, bit-zero, bit-pow, bit-setOf, bits-ext, ones-count}
+use Rattle.protocol.proofs.Bits.{bit-and, bit-or, bit-zero, bit-pow, bit-setOf, bits-ext}
 use Rattle.views.specs.Sets.{IsSet, Noted}
 
 -- ---- one bit more
@@ -57,7 +56,7 @@ note-bit seen o hit t h = rw e record {
 
 -- ---- a set is the one that has just these
 
-setOf-lt : (n : ℕ) (q : ℕ → Bool) → setOf n q < 2 ^ n
+pub setOf-lt : (n : ℕ) (q : ℕ → Bool) → setOf n q < 2 ^ n
 unfolding setOf
 setOf-lt zero q = omega arith
 setOf-lt (suc n) q = omega (arith, one-le (q 0), setOf-lt n (λ k. q (suc k)))
@@ -72,23 +71,10 @@ unfolding count
 count-cong zero p q f = refl
 count-cong (suc n) p q f = ap₂ (λ x y. one x + y) (f n (omega arith)) (count-cong n p q (λ k l. f k (omega arith)))
 
-split : (x y : Bool) → one (x && not y) + one (x && y) ≡ one x
-split true true = refl
-split true false = refl
-split false y = refl
-
-pub count-split : (n : ℕ) (p q : ℕ → Bool) → count n (λ k. p k && not (q k)) + count n (λ k. p k && q k) ≡ count n p
-unfolding count
-count-split zero p q = refl
-count-split (suc n) p q = omega (arith, split (p n) (q n), count-split n p q)
-
 pub count-le : (n : ℕ) (p : ℕ → Bool) → count n p ≤ n
 unfolding count
 count-le zero p = omega arith
 count-le (suc n) p = omega (arith, one-le (p n), count-le n p)
-
-pub both-count : (a b : ℕ) → a < 65536 → b < 65536 → ones (bitAnd a b) ≡ count 16 (λ k. bit a k && bit b k)
-both-count a b p q = ones-count 16 (bitAnd a b) (and-lt 16 a b p q) ∙ count-cong 16 (bit (bitAnd a b)) (λ k. bit a k && bit b k) (λ k l. bit-and k a b)
 
 -- ---- one set without another, and one bit of a set
 

@@ -1,24 +1,24 @@
 -- Laws of views in one word: each is what one function of words needs.
 -- Assumes nothing.
 use mathlib.Core.Path.{_≡_, refl, sym, ap, ap₂, _∙_}
-use mathlib.Core.Bool.{Bool, true, false, not, _&&_, and-true}
+use mathlib.Core.Bool.{Bool, true, false, not, _&&_}
 use mathlib.Core.List.{List}
-use Prim.Native.Nat.{ℕ, zero, suc, _+_, _*_, _/_, _%_, _≤_, _<_}
+use Prim.Native.Nat.{ℕ, _/_, _%_, _≤_, _<_}
 use native.Mathlib.Omega.{arith}
-use lib.Dec.{T, eqb, leb, ltb}
-use lib.Bits.{bitAnd, and-mod, and-shr}
+use lib.Dec.{eqb, leb}
+use lib.Bits.{bitAnd, and-le-l, and-mod, and-shr}
 use lib.Count.{ones}
 use borrow.Author.Tests.{eq-eqb, ne-eqb, lt-ltb, le-ltb}
-use Rattle.protocol.specs.Sets.{bit, count}
+use Rattle.protocol.specs.Sets.{bit, count, setOf}
 use Rattle.protocol.specs.View.{View, sameView, member, quorum, memberCount, hasMembers, within, below, size}
 use Rattle.protocol.specs.Statement.{Stmt}
 use Rattle.protocol.specs.Evidence.{signs, signedByQuorum}
 use Rattle.protocol.proofs.Says.{Says, says-map, says-unique, says-and, says-not, says-eqb}
-use Rattle.protocol.proofs.Bits.{bit-and, ones-count, subset-and, below-of, Fits}
+use Rattle.protocol.proofs.Bits.{bit-and, bit-setOf, ones-count, subset-and, below-of, Fits}
 use Rattle.protocol.proofs.Decided.{says-same, says-below, says-within}
 use Rattle.views.specs.Sets.{IsSet}
 use Rattle.views.specs.View.{viewOf, quorumHas}
-use Rattle.views.proofs.Sets.{count-cong, count-split, count-le, both-count}
+use Rattle.views.proofs.Sets.{setOf-lt, count-cong, count-le}
 
 -- ---- a test and what it decides
 
@@ -73,9 +73,21 @@ view-eqb a A t e p q = same-view a t p q ∙ ap (λ v. sameView v (viewOf t)) e
 
 -- ---- members and quorums
 
-pub without : (a b : ℕ) → a < 65536 → b < 65536 → memberCount 16 (pair a b) + ones (bitAnd a b) ≡ ones a
-unfolding memberCount
-without a b p q = omega (arith, both-count a b p q, ones-count 16 a p, count-split 16 (bit a) (bit b))
+-- the members as one set r: how many they are, and how many of them are in `seen`
+
+module _ (v : View) (r : ℕ) (e : r ≡ setOf 16 (member v)) where
+  member-bit : (k : ℕ) → k < 16 → bit r k ≡ member v k
+  member-bit k l = ap (λ x. bit x k) e ∙ bit-setOf 16 (member v) k l
+
+  members-fit : r < 65536
+  members-fit = rw e (setOf-lt 16 (member v))
+
+  pub counted : ones r ≡ memberCount 16 v
+  unfolding memberCount
+  counted = ones-count 16 r members-fit ∙ count-cong 16 _ _ member-bit
+
+  pub seen-of : (seen : ℕ) → ones (bitAnd r seen) ≡ count 16 (λ k. member v k && bit seen k)
+  seen-of seen = ones-count 16 (bitAnd r seen) (omega (arith, and-le-l r seen, members-fit)) ∙ count-cong 16 _ _ (λ k l. bit-and k r seen ∙ ap (λ b. b && bit seen k) (member-bit k l))
 
 pub at-most : (v : View) → memberCount 16 v ≤ 16
 unfolding memberCount
@@ -89,25 +101,13 @@ manned m v e n = lt-ltb 0 (memberCount 16 v) (omega arith)
 pub unmanned : (m : ℕ) (v : View) → m ≡ memberCount 16 v → m ≡ 0 → hasMembers 16 v ≡ false
 unmanned m v e n = le-ltb 0 (memberCount 16 v) (omega arith)
 
-shuffle : (x y z : Bool) → ((x && y) && not z) ≡ ((x && not z) && y)
-shuffle true true z = sym (and-true (not z))
-shuffle true false true = refl
-shuffle true false false = refl
-shuffle false y z = refl
-
--- those of t that are in `seen`
-seen-of : (t seen : ℕ) → t < 4294967296 → memberCount 16 (pair (bitAnd (t % 65536) seen) (t / 65536)) ≡ count 16 (λ k. member (viewOf t) k && bit seen k)
-unfolding memberCount
-seen-of t seen h = rw (sym (view-parts t h)) (count-cong 16 _ _ (λ k l. ap (λ b. b && not (bit (t / 65536) k)) (bit-and k (t % 65536) seen) ∙ shuffle (bit (t % 65536) k) (bit seen k) (bit (t / 65536) k)))
-
-pub quorum-empty : (t seen m : ℕ) → m ≡ memberCount 16 (viewOf t) → m ≡ 0 → false ≡ quorumHas (viewOf t) (bit seen)
+pub quorum-empty : (t v : View) (seen : ℕ) (b : Bool) → v ≡ t → b ≡ hasMembers 16 v → b ≡ false → false ≡ quorumHas t (bit seen)
 unfolding quorumHas
-quorum-empty t seen m e z = rw (unmanned m (viewOf t) e z)
+quorum-empty t v seen b s e z = rw (ap (hasMembers 16) (sym s) ∙ sym e ∙ z)
 
-pub quorum-seen : (t seen m n q : ℕ) → t < 4294967296 → m ≡ memberCount 16 (viewOf t) → (m ≡ 0 → ⊥) → n ≡ memberCount 16 (pair (bitAnd (t % 65536) seen) (t / 65536)) → q ≡ quorum m
-    → leb q n ≡ quorumHas (viewOf t) (bit seen)
+pub quorum-seen : (t v : View) (seen r q : ℕ) (b : Bool) → v ≡ t → b ≡ hasMembers 16 v → b ≡ true → r ≡ setOf 16 (member v) → q ≡ quorum (memberCount 16 v) → leb q (ones (bitAnd r seen)) ≡ quorumHas t (bit seen)
 unfolding quorumHas
-quorum-seen t seen m n q h e z f g = rw (manned m (viewOf t) e z) (ap₂ leb (g ∙ ap quorum e) (f ∙ seen-of t seen h))
+quorum-seen t v seen r q b s e z m g = rw (sym s, sym e ∙ z) (ap₂ leb g (seen-of v r m seen))
 
 -- a set of signers that has a quorum of t
 pub signed-by-set : (X : List Stmt) (t : View) (p : Stmt → Bool) (seen : ℕ) (r : Bool) → IsSet seen (signs p X) → r ≡ quorumHas t (bit seen) → r ≡ signedByQuorum 16 X t p

@@ -15,10 +15,10 @@ ghost use Rattle.views.specs.Held.{viewIs, heldAt, viewsIs};
 mod words;
 
 pub use words::below_view;
+pub use words::has_members;
 pub use words::members;
 pub use words::note;
 pub use words::quorum_in;
-pub use words::quorum_of;
 pub use words::size_view;
 pub use words::union;
 pub use words::within_view;
@@ -29,9 +29,9 @@ pub struct View {
     pub left: u16,
 }
 
-// The first `len` views count; a len above 16 counts as 16.
+// The first `len` views count; a len above the limit counts as the limit.
 pub struct History {
-    pub views: [View; 16],
+    pub views: [View; View::LIMIT],
     pub len: usize,
 }
 
@@ -44,7 +44,10 @@ fn wide(set: u16) -> u32
 
 impl View {
     // Controllers are numbered below this.
-    pub const WIDTH: u32 = 16;
+    pub const WIDTH: u8 = 16;
+
+    // A history has at most this many views.
+    pub const LIMIT: usize = 16;
 
     // The view in one word.
     pub fn word(self) -> u32
@@ -74,14 +77,18 @@ impl View {
     pub fn count(self) -> u32
         ensures { λ r. ⌜ (r ≡ memberCount 16 (viewIs self)) × (r ≤ 16) ⌝ }
     {
-        words::members(self.word())
+        u32::count_ones(wide(self.members()))
     }
 
     // How many of the members make a quorum.
     pub fn quorum(self) -> u32
         ensures { λ r. ⌜ r ≡ quorum (memberCount 16 (viewIs self)) ⌝ }
     {
-        words::quorum_of(self.count())
+        let n = self.count();
+        if n == 0 {
+            return 0;
+        }
+        n - (n - 1) / 3
     }
 
     pub fn has_members(self) -> bool
@@ -100,7 +107,7 @@ impl View {
     pub fn has_member(self, k: u8) -> bool
         ensures { λ r. ⌜ r ≡ member (viewIs self) k ⌝ }
     {
-        if k >= 16 {
+        if k >= View::WIDTH {
             return false;
         }
         (self.members() >> k) % 2 == 1
@@ -143,14 +150,11 @@ impl View {
 }
 
 impl History {
-    // A history has at most this many views.
-    pub const LIMIT: usize = 16;
-
     pub fn new() -> History
         ensures { λ r. ⌜ (viewsIs r ≡ []) × (r .len ≡ 0) ⌝ }
     {
         History {
-            views: [View { joined: 0, left: 0 }; 16],
+            views: [View { joined: 0, left: 0 }; View::LIMIT],
             len: 0,
         }
     }
@@ -159,10 +163,10 @@ impl History {
     pub fn count(self) -> usize
         ensures { λ r. ⌜ (r ≡ min (self .len) 16) × (r ≤ 16) ⌝ }
     {
-        if self.len < 16 {
+        if self.len < View::LIMIT {
             return self.len;
         }
-        16
+        View::LIMIT
     }
 
     // The first `at` views, and v after them.
@@ -183,10 +187,10 @@ impl History {
         ensures { λ r. ⌜ (viewsIs r ≡ enteredAfter (viewIs v) (viewsIs self)) × (r .len ≤ 16) ⌝ }
     {
         let n = self.count();
-        if n < 16 {
+        if n < View::LIMIT {
             return self.cut(n, v);
         }
-        self.cut(15, v)
+        self.cut(View::LIMIT - 1, v)
     }
 
     // The last view, or `init` if there is none.

@@ -1,20 +1,12 @@
 // Sets and views in one word. A set is a word of 16 bits; a view has who joined in the low 16 bits and who left in the next.
 ghost use mathlib.Core.Path.{_≡_};
-ghost use Prim.Native.Nat.{_<_, _≤_};
+ghost use Prim.Native.Nat.{_≤_};
 ghost use Rattle.protocol.specs.Sets.{bit};
-ghost use Rattle.protocol.specs.View.{quorum, memberCount, within, below, size};
+ghost use Rattle.protocol.specs.View.{memberCount, hasMembers, within, below, size};
 ghost use Rattle.views.specs.Sets.{Noted, Joined};
 ghost use Rattle.views.specs.View.{viewOf, quorumHas};
-
-// How many of n members make a quorum.
-pub fn quorum_of(n: u32) -> u32
-    ensures { λ r. ⌜ r ≡ quorum n ⌝ }
-{
-    if n == 0 {
-        return 0;
-    }
-    n - (n - 1) / 3
-}
+use crate::View;
+use crate::wide;
 
 // `seen`, and o too where `yes` is true.
 pub fn note(seen: u32, yes: bool, o: u64) -> u32
@@ -23,7 +15,7 @@ pub fn note(seen: u32, yes: bool, o: u64) -> u32
     if !yes {
         return seen;
     }
-    if o >= 16 {
+    if o >= View::WIDTH as u64 {
         return seen;
     }
     seen | (1u32 << o)
@@ -36,31 +28,29 @@ pub fn union(a: u32, b: u32) -> u32
     a | b
 }
 
-// How many the joined set a has without the left set b.
-fn count_without(a: u32, b: u32) -> u32
-    requires { ⌜ (a < 65536) × (b < 65536) ⌝ }
-    ensures { λ r. ⌜ (r ≡ memberCount 16 (record { joined = a; left = b })) × (r ≤ 16) ⌝ }
-{
-    u32::count_ones(a) - u32::count_ones(a & b)
-}
-
 // How many members v has.
 pub fn members(v: u32) -> u32
     ensures { λ r. ⌜ (r ≡ memberCount 16 (viewOf v)) × (r ≤ 16) ⌝ }
 {
-    count_without(v % 65536, v / 65536)
+    View::of_word(v).count()
+}
+
+// Whether v has members.
+pub fn has_members(v: u32) -> bool
+    ensures { λ r. ⌜ r ≡ hasMembers 16 (viewOf v) ⌝ }
+{
+    View::of_word(v).has_members()
 }
 
 // Whether a quorum of t is in `seen`.
 pub fn quorum_in(t: u32, seen: u32) -> bool
     ensures { λ r. ⌜ r ≡ quorumHas (viewOf t) (bit seen) ⌝ }
 {
-    let m = members(t);
-    if m == 0 {
+    let v = View::of_word(t);
+    if !v.has_members() {
         return false;
     }
-    let n = count_without((t % 65536) & seen, t / 65536);
-    quorum_of(m) <= n
+    v.quorum() <= u32::count_ones(wide(v.members()) & seen)
 }
 
 // Whether u lies within v.

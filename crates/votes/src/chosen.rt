@@ -29,7 +29,7 @@ fn is_choice(words: &[u64; POOL_WORDS], s: u16, seen: u32, wish: u32) -> bool
     if !views::below_view(t, v) {
         return false;
     }
-    if views::members(v) == 0 {
+    if !views::has_members(v) {
         return false;
     }
     if !views::within_view(v, wish) {

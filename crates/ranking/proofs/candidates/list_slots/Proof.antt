@@ -23,6 +23,7 @@ list-slots-spec =
     (λ c. search needs)
     (λ c. search needs)
     (λ c. (omega arith, omega arith, laws.listed-skip _ _ _ _ _ _ (c .before .before .slot-at .ensures) (c .before .slot-size .ensures .0) (c .if1 .taken) (c .before .before .before .before .loop .inv .2)))
+    (λ c. search needs)
     (λ c. laws.listed-many _ _ _ _ _ _ (c .before .before .before .slot-at .ensures) (c .before .before .slot-size .ensures .0) (c .before .if1 .left) (c .before .before .before .before .before .loop .inv .2) (c .if2 .taken) (c .before .before .before .before .loop-test .taken))
     (λ c. search needs)
     (λ c. search needs)

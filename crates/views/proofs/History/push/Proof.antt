@@ -10,4 +10,4 @@ use Rattle.views.proofs.History.count.Reads as count-reads
 use Rattle.views.proofs.History.cut.Reads as cut-reads
 
 pub push-spec : {M : Type 1} → statement M
-push-spec = tie.close (tie.spec (λ c κs. search needs) (λ c κs. search needs) (λ c. (c .cut .ensures .0 ∙ push-room _ _ _ (c .before .before .count .ensures .0) (c .before .if1 .taken), omega arith)) (λ c κs. search needs) (λ c. (c .cut2 .ensures .0 ∙ push-full _ _ _ (c .before .before .count .ensures .0) (λ l. omega arith), omega arith)))
+push-spec = tie.close (tie.spec (λ c κs. search needs) (λ c κs. search needs) (λ c. (c .cut .ensures .0 ∙ push-room _ _ _ (c .before .before .count .ensures .0) (c .before .if1 .taken), omega arith)) (λ c. search needs) (λ c κs. search needs) (λ c. (c .cut2 .ensures .0 ∙ push-full _ _ _ (c .before .before .count .ensures .0) (λ l. omega arith), omega arith)))

@@ -1,5 +1,3 @@
-use native.Mathlib.Omega.{arith}
-use mathlib.Core.Path.{ap, _∙_}
 use Rattle.protocol.specs.View.{quorum}
 use borrow.Author.Needs.{needs}
 use Rattle.views.proofs.View.quorum.Statement.{statement}
@@ -7,7 +5,14 @@ use Rattle.views.proofs.View.quorum.Tie as tie
 use Rattle.views.proofs.View.quorum.Reads as reads
 use Rattle.views.proofs.View.quorum.Lts as lts
 use Rattle.views.proofs.View.count.Reads as count-reads
-use Rattle.views.proofs.words.quorum_of.Reads as quorum-of-reads
+
+returns : tie.Need-returns
+unfolding quorum
+returns c = search needs
+
+returns-2 : tie.Need-returns-2
+unfolding quorum
+returns-2 c = search needs
 
 pub quorum-spec : {M : Type 1} → statement M
-quorum-spec = tie.close (tie.spec (λ c κs. search needs) (λ c κs. search needs) (λ c. c .quorum-of .ensures ∙ ap quorum (c .before .count .ensures .0)))
+quorum-spec = tie.close (tie.spec (λ c κs. search needs) returns (λ c. search needs) (λ c. search needs) returns-2)

@@ -1,12 +1,11 @@
 use native.Mathlib.Omega.{arith}
-use mathlib.Core.Path.{_≡_, refl, sym, ap, _∙_}
+use mathlib.Core.Path.{refl, ap, _∙_}
 use mathlib.Core.Bool.{true, false}
 use borrow.Author.Tests.{not-true, not-false}
 use Rattle.protocol.specs.Sets.{bit}
-use Rattle.protocol.specs.View.{memberCount, below, within}
+use Rattle.protocol.specs.View.{hasMembers, below, within}
 use Rattle.views.specs.View.{viewOf, quorumHas}
-use Rattle.views.proofs.Views.{manned, unmanned}
-use Rattle.views.proofs.Histories.{asked}
+use Rattle.views.proofs.Histories.{asked-one, asked}
 use Rattle.votes.specs.Chosen.{choiceBy}
 use Rattle.votes.proofs.Picked.{stop1, stop2, stop3, stop4, pass4, kind-is, kind-not, test-of}
 use borrow.Author.Needs.{needs}
@@ -18,34 +17,29 @@ use Rattle.pool.proofs.at.Reads as at-reads
 use Rattle.pool.proofs.kind.Reads as kind-reads
 use Rattle.pool.proofs.view.Reads as view-reads
 use Rattle.views.proofs.below_view.Reads as below-view-reads
-use Rattle.views.proofs.members.Reads as members-reads
+use Rattle.views.proofs.has_members.Reads as has-members-reads
 use Rattle.views.proofs.quorum_in.Reads as quorum-in-reads
 use Rattle.views.proofs.within_view.Reads as within-view-reads
 
--- src/chosen.rt:24:9
 returns : tie.Need-returns
 unfolding choiceBy
 returns c = stop1 _ _ _ _ _ (kind-not _ _ 3 (c .before .kind .ensures .0) (c .if1 .taken))
 
--- src/chosen.rt:29:9
 returns-2 : tie.Need-returns-2
 unfolding choiceBy
 returns-2 c = stop2 _ _ _ _ _ (kind-is _ _ 3 (c .before .before .before .before .before .kind .ensures .0) (c .before .before .before .before .if1 .left)) (asked (below 16) _ false (c .before .below-view .ensures) (not-true _ (c .if2 .taken)) (c .before .before .before .at .ensures) (c .before .before .view .ensures))
 
--- src/chosen.rt:32:9
 returns-3 : tie.Need-returns-3
 unfolding choiceBy
-returns-3 c = stop3 _ _ _ _ _ (kind-is _ _ 3 (c .before .before .before .before .before .before .before .kind .ensures .0) (c .before .before .before .before .before .before .if1 .left)) (asked (below 16) _ true (c .before .before .before .below-view .ensures) (not-false _ (c .before .before .if2 .left)) (c .before .before .before .before .before .at .ensures) (c .before .before .before .before .view .ensures)) (unmanned _ _ (c .before .members .ensures .0 ∙ ap (memberCount 16) (c .before .before .before .before .view .ensures)) (c .if3 .taken))
+returns-3 c = stop3 _ _ _ _ _ (kind-is _ _ 3 (c .before .before .before .before .before .before .before .kind .ensures .0) (c .before .before .before .before .before .before .if1 .left)) (asked (below 16) _ true (c .before .before .before .below-view .ensures) (not-false _ (c .before .before .if2 .left)) (c .before .before .before .before .before .at .ensures) (c .before .before .before .before .view .ensures)) (asked-one (hasMembers 16) _ false (c .before .has-members .ensures) (not-true _ (c .if3 .taken)) (c .before .before .before .before .view .ensures))
 
--- src/chosen.rt:35:9
 returns-4 : tie.Need-returns-4
 unfolding choiceBy
-returns-4 c = stop4 _ _ _ _ _ (kind-is _ _ 3 (c .before .before .before .before .before .before .before .before .before .kind .ensures .0) (c .before .before .before .before .before .before .before .before .if1 .left)) (asked (below 16) _ true (c .before .before .before .before .before .below-view .ensures) (not-false _ (c .before .before .before .before .if2 .left)) (c .before .before .before .before .before .before .before .at .ensures) (c .before .before .before .before .before .before .view .ensures)) (manned _ _ (c .before .before .before .members .ensures .0 ∙ ap (memberCount 16) (c .before .before .before .before .before .before .view .ensures)) (c .before .before .if3 .left)) (asked (within 16) _ false (c .before .within-view .ensures) (not-true _ (c .if4 .taken)) (c .before .before .before .before .before .before .view .ensures) refl)
+returns-4 c = stop4 _ _ _ _ _ (kind-is _ _ 3 (c .before .before .before .before .before .before .before .before .before .kind .ensures .0) (c .before .before .before .before .before .before .before .before .if1 .left)) (asked (below 16) _ true (c .before .before .before .before .before .below-view .ensures) (not-false _ (c .before .before .before .before .if2 .left)) (c .before .before .before .before .before .before .before .at .ensures) (c .before .before .before .before .before .before .view .ensures)) (asked-one (hasMembers 16) _ true (c .before .before .before .has-members .ensures) (not-false _ (c .before .before .if3 .left)) (c .before .before .before .before .before .before .view .ensures)) (asked (within 16) _ false (c .before .within-view .ensures) (not-true _ (c .if4 .taken)) (c .before .before .before .before .before .before .view .ensures) refl)
 
--- src/chosen.rt:20:1
 returns-5 : tie.Need-returns-5
 unfolding choiceBy
-returns-5 c = pass4 _ _ _ _ _ _ (kind-is _ _ 3 (c .before .before .before .before .before .before .before .before .before .before .kind .ensures .0) (c .before .before .before .before .before .before .before .before .before .if1 .left)) (asked (below 16) _ true (c .before .before .before .before .before .before .below-view .ensures) (not-false _ (c .before .before .before .before .before .if2 .left)) (c .before .before .before .before .before .before .before .before .at .ensures) (c .before .before .before .before .before .before .before .view .ensures)) (manned _ _ (c .before .before .before .before .members .ensures .0 ∙ ap (memberCount 16) (c .before .before .before .before .before .before .before .view .ensures)) (c .before .before .before .if3 .left)) (asked (within 16) _ true (c .before .before .within-view .ensures) (not-false _ (c .before .if4 .left)) (c .before .before .before .before .before .before .before .view .ensures) refl) (c .quorum-in .ensures ∙ ap (λ t. quorumHas t (bit (c .before .before .before .before .before .before .before .before .before .before .before .args .seen))) (c .before .before .before .before .before .before .before .before .at .ensures))
+returns-5 c = pass4 _ _ _ _ _ _ (kind-is _ _ 3 (c .before .before .before .before .before .before .before .before .before .before .kind .ensures .0) (c .before .before .before .before .before .before .before .before .before .if1 .left)) (asked (below 16) _ true (c .before .before .before .before .before .before .below-view .ensures) (not-false _ (c .before .before .before .before .before .if2 .left)) (c .before .before .before .before .before .before .before .before .at .ensures) (c .before .before .before .before .before .before .before .view .ensures)) (asked-one (hasMembers 16) _ true (c .before .before .before .before .has-members .ensures) (not-false _ (c .before .before .before .if3 .left)) (c .before .before .before .before .before .before .before .view .ensures)) (asked (within 16) _ true (c .before .before .within-view .ensures) (not-false _ (c .before .if4 .left)) (c .before .before .before .before .before .before .before .view .ensures) refl) (c .quorum-in .ensures ∙ ap (λ t. quorumHas t (bit (c .before .before .before .before .before .before .before .before .before .before .before .args .seen))) (c .before .before .before .before .before .before .before .before .at .ensures))
 
 pub is-choice-spec : {M : Type 1} → statement M
 is-choice-spec =
