@@ -2,7 +2,7 @@
 -- Assumes nothing.
 use mathlib.Core.Path.{_≡_, refl, sym, ap, ap₂, subst, _∙_}
 use mathlib.Core.Logic.{_⊎_, inl, inr}
-use mathlib.Core.Bool.{Bool, true, false, not, _||_, true≢false}
+use mathlib.Core.Bool.{Bool, true, false, not, _||_}
 use mathlib.Core.List.{List, [], _∷_, _++_}
 use mathlib.Core.Option.{Option, none}
 use Prim.Native.Nat.{ℕ, _≤_, _<_, min}
@@ -111,27 +111,27 @@ record-full l = record { full = λ e. (inl l, refl); at = λ n e. absurd (full�
 
 module _ (W W′ : List ℕ) (len : ℕ) (st : Statement) (short : st .history .len ≤ 16) (l : len < 512) where
   -- the statement was in the pool
-  old : (n i : ℕ) → W′ ≡ W → n ≡ i → i < poolLen W → stmtAt W i ≡ stmtOf st → numberOf (stmtOf st) (poolIs W) ≡ i → any (sameStmt (stmtOf st)) (poolIs W) ≡ true
+  old : W′ ≡ memory.pooledIn W (stmtOf st) → (n i : ℕ) → W′ ≡ W → n ≡ i → i < poolLen W → stmtAt W i ≡ stmtOf st → numberOf (stmtOf st) (poolIs W) ≡ i → any (sameStmt (stmtOf st)) (poolIs W) ≡ true
       → Numbered W len (stmtOf st) n W′
-  old n i w e b h m y = record {
+  old x n i w e b h m y = record {
     short = l;
     room = room-old (stmtOf st) (poolIs W) y;
     number = e ∙ sym m;
     is = ap₂ stmtAt w e ∙ h;
-    pool = record { is = ap poolIs w ∙ pooled-old (stmtOf st) (poolIs W) y; old = λ t. w };
+    pool = record { is = ap poolIs w ∙ pooled-old (stmtOf st) (poolIs W) y; words = x };
     more = subst (λ (U : List ℕ). poolLen W ≤ poolLen U) (sym w) (omega arith);
     within = subst (λ (U : List ℕ). n < poolLen U) (sym w) (omega arith);
     same = λ j t. ap (λ (U : List ℕ). stmtAt U j) w;
   }
 
   -- it went to the end of the pool
-  new : (n : ℕ) → memory.Grown W W′ st → n ≡ poolLen W → poolLen W < 512 → any (sameStmt (stmtOf st)) (poolIs W) ≡ false → Numbered W len (stmtOf st) n W′
-  new n g e b y = record {
+  new : W′ ≡ memory.pooledIn W (stmtOf st) → (n : ℕ) → memory.Grown W W′ st → n ≡ poolLen W → poolLen W < 512 → any (sameStmt (stmtOf st)) (poolIs W) ≡ false → Numbered W len (stmtOf st) n W′
+  new x n g e b y = record {
     short = l;
     room = room-new (stmtOf st) (poolIs W) true y (ap (λ m. ltb m 512) (pool-length W) ∙ lt-ltb (poolLen W) 512 b);
     number = e ∙ sym (number-none (stmtOf st) (poolIs W) y ∙ pool-length W);
     is = ap (stmtAt W′) e ∙ g .there short;
-    pool = record { is = grown-pool W W′ st short g b ∙ pooled-new (stmtOf st) (poolIs W) y; old = λ t. absurd (true≢false (sym t ∙ y)) };
+    pool = record { is = grown-pool W W′ st short g b ∙ pooled-new (stmtOf st) (poolIs W) y; words = x };
     more = omega (arith, g .len);
     within = omega (arith, g .len);
     same = grown-same W W′ st short g b;
@@ -155,12 +155,12 @@ module _ (W W′ : List ℕ) (len : ℕ) (st : Statement) (short : st .history .
         go : Located (stmtOf st) (stmtAt W) (poolLen W) (memory.numberOf W (stmtOf st)) → Placed W len (stmtOf st) r W′
         go (there i q b h m y) = record {
           full = λ e. absurd (full≢at (sym e ∙ answer-is q));
-          at = λ n e. old n i (a .old i q) (at-injective (sym e ∙ answer-is q)) b h m y;
+          at = λ n e. old (a .is) n i (a .old i q) (at-injective (sym e ∙ answer-is q)) b h m y;
         }
         go (absent q y) = elim (decLt (poolLen W) 512) [
           | yes b ↦ record {
             full = λ e. absurd (full≢at (sym e ∙ at-end q b));
-            at = λ n e. new n (a .new q b) (at-injective (sym e ∙ at-end q b)) b y;
+            at = λ n e. new (a .is) n (a .new q b) (at-injective (sym e ∙ at-end q b)) b y;
           }
           | no b ↦ record {
             full = λ e. (inr (room-new (stmtOf st) (poolIs W) false y (ap (λ n. ltb n 512) (pool-length W) ∙ le-ltb (poolLen W) 512 (omega arith))), a .full (omega arith));

@@ -5,8 +5,7 @@ use mathlib.Core.Logic.{_⊎_}
 use mathlib.Core.Bool.{Bool, true, false}
 use mathlib.Core.List.{List}
 use Prim.Native.Nat.{ℕ, _≤_, _<_}
-use Rattle.protocol.specs.Lists.{any}
-use Rattle.protocol.specs.Statement.{Stmt, sameStmt}
+use Rattle.protocol.specs.Statement.{Stmt}
 use Rattle.protocol.specs.Controller as controller
 use Rattle.protocol.specs.Pool.{numberOf, pooled, hasRoom}
 use Rattle.protocol.specs.Run.{Call, setupCall, joinCall, leaveCall, sendCall, addCall, turnCall, outcome}
@@ -15,7 +14,7 @@ use Rattle.pool.specs.declared.Record.{Record}
 use Rattle.pool.specs.declared.Placed as placing
 use Rattle.pool.specs.declared.Placed.the-variants.{At, Full}
 use Rattle.pool.specs.Pool.{stmtAt, poolLen}
-use Rattle.pool.specs.Changes.{Pushed}
+use Rattle.pool.specs.Changes.{pooledIn, Pushed}
 use Rattle.engine.specs.declared.Outcome.{Outcome}
 use Rattle.engine.specs.declared.Answer.{Answer}
 use Rattle.engine.specs.declared.Answer.the-variants.{Signed, Left, Quiet}
@@ -27,10 +26,10 @@ pub data Change : Type 0 where
   emptied : Change
   grown : Stmt → Change
 
--- s is in the pool now, and was put into it only if it was not there.
+-- s is in the pool now; every word of the memory is fixed.
 pub record Pooled (s : Stmt) (W W′ : List ℕ) : Type 0 where
   pub is : poolIs W′ ≡ pooled s (poolIs W)
-  pub old : any (sameStmt s) (poolIs W) ≡ true → W′ ≡ W
+  pub words : W′ ≡ pooledIn W s
 
 -- The pool after it: what goes into a record is in the pool.
 abbrev pub PoolAfter : List ℕ → Change → List ℕ → Type 0
