@@ -23,6 +23,10 @@ use pool::POOL_WORDS;
 use schedule::line;
 use schedule::line::Line;
 use schedule::line::Parsed;
+use views::View;
+
+// A seat for each controller.
+const SEATS: usize = View::WIDTH as usize;
 
 // Enough for the rows of any schedule.
 pub const ROWS_MAX: usize = 2621504;
@@ -95,14 +99,14 @@ fn seat_of(line: Line) -> usize
 }
 
 // Sixteen controllers that have just started.
-fn start_all(members: u16, sender: u8) -> [Controller; 16]
+fn start_all(members: u16, sender: u8) -> [Controller; SEATS]
     requires { ⌜ setupAllowed 0 members sender ≡ true ⌝ }
     ensures { λ r. ⌜ Started members sender r ⌝ }
 {
     let c = Controller::new();
-    let mut seats = [c; 16];
+    let mut seats = [c; SEATS];
     let mut k = 0usize;
-    while k < 16 {
+    while k < SEATS {
         let o = c.setup(k as u8, members, sender);
         let d = o.controller;
         seats[k] = d;
@@ -117,9 +121,9 @@ fn run_lines(schedule: &[u8], rows: &mut [u8]) -> usize
     ensures { λ r. ⌜ Ran (now (schedule .entry)) (now (rows .entry)) (now (rows .exit)) r ⌝ }
 {
     let c = Controller::new();
-    let mut seats = [c; 16];
+    let mut seats = [c; SEATS];
     // The record of controller k is known to have every number below full[k].
-    let mut full = [0usize; 16];
+    let mut full = [0usize; SEATS];
     let mut words = [0u64; POOL_WORDS];
     let mut setting = Setting {
         ready: false,
@@ -135,7 +139,7 @@ fn run_lines(schedule: &[u8], rows: &mut [u8]) -> usize
         let parsed = read.parsed;
         // Nothing changes, so no controller is copied.
         let Parsed::Readable(line) = parsed else {
-            out = row::put_row_within(rows, out, n, 16, Word::Refused, Value::Number(8));
+            out = row::put_row_within(rows, out, n, state::NOBODY, Word::Refused, Value::Number(8));
             at += read.next;
             n += 1;
             continue;
@@ -167,7 +171,7 @@ fn run_lines(schedule: &[u8], rows: &mut [u8]) -> usize
         if s.fresh {
             let all = start_all(g.members, g.sender);
             seats = all;
-            full = [0usize; 16];
+            full = [0usize; SEATS];
         }
     }
     out
@@ -180,10 +184,10 @@ fn run_rows(schedule: &[u8], rows: &mut [u8]) -> usize
 {
     row::put_header(rows);
     if schedule.len() == 0 {
-        return row::put_row_within(rows, 22, 0, 16, Word::Refused, Value::Number(8));
+        return row::put_row_within(rows, 22, 0, state::NOBODY, Word::Refused, Value::Number(8));
     }
     if schedule.len() > 65536 {
-        return row::put_row_within(rows, 22, 0, 16, Word::Refused, Value::Number(8));
+        return row::put_row_within(rows, 22, 0, state::NOBODY, Word::Refused, Value::Number(8));
     }
     run_lines(schedule, rows)
 }

@@ -23,6 +23,9 @@ use schedule::line::Line;
 use statements::Statement;
 use views::View;
 
+// The number in a row that names no controller.
+pub const NOBODY: u64 = View::WIDTH as u64;
+
 // What a setup says.
 pub struct Setting {
     pub ready: bool,
@@ -177,8 +180,8 @@ fn set_up(
     ensures { λ r. ⌜ Advanced (now (words .entry)) g c 0 (some (lines.setup members sender faulty)) r (now (words .exit)) × Keeps full r ⌝ }
 {
     size(words);
-    if sender >= 16 {
-        return refused(c, g, 16, Refusal::BadSetup, full);
+    if sender >= View::WIDTH {
+        return refused(c, g, NOBODY, Refusal::BadSetup, full);
     }
     let who = sender as u64;
     if g.ready {
@@ -253,9 +256,9 @@ fn no_statement(c: Controller, words: &[u64; POOL_WORDS], g: Setting, full: usiz
     ensures { λ r. ⌜ Advanced (now (words .entry)) g c 0 (some lines.noStatement) r (now (words .entry)) × Keeps full r ⌝ }
 {
     if !g.ready {
-        return refused(c, g, 16, Refusal::OutOfPlace, full);
+        return refused(c, g, NOBODY, Refusal::OutOfPlace, full);
     }
-    refused(c, g, 16, Refusal::BadStatement, full)
+    refused(c, g, NOBODY, Refusal::BadStatement, full)
 }
 
 // The same after an `all` that answers so, over a pool of n statements.

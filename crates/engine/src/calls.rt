@@ -109,10 +109,10 @@ impl Controller {
         if members == 0 {
             return refuse(self, Refusal::BadSetup);
         }
-        if number >= 16 {
+        if number >= View::WIDTH {
             return refuse(self, Refusal::BadSetup);
         }
-        if sender >= 16 {
+        if sender >= View::WIDTH {
             return refuse(self, Refusal::BadSetup);
         }
         take(start(number, members, sender))

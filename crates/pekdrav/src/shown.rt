@@ -10,9 +10,10 @@ ghost use Rattle.ranking.specs.Slots.{viewsOf};
 ghost use Rattle.screen.specs.Screen.{Shows};
 ghost use Rattle.pekdrav.specs.Evidence.{sixteen, toldOf};
 use pool::POOL_WORDS;
+use views::View;
 
 // The words of an answer: eight numbers, the candidates, the greatest history.
-pub const TOLD_WORDS: usize = 40;
+pub const TOLD_WORDS: usize = 8 + 2 * View::LIMIT;
 
 fn wide(v: u32) -> u64
     ensures { λ r. ⌜ r ≡ wordOf (viewOf v) ⌝ }
@@ -38,12 +39,12 @@ fn room(out: &[u64; TOLD_WORDS]) -> usize
 }
 
 // The first `n` of the views, and 0 after the last, in sixteen words.
-fn tell(out: &mut [u64; TOLD_WORDS], from: usize, views: [u32; 16], n: u64)
+fn tell(out: &mut [u64; TOLD_WORDS], from: usize, views: [u32; View::LIMIT], n: u64)
     requires { ⌜ from ≤ 24 ⌝ }
     ensures { λ _. ⌜ now (out .exit) ≡ sets (now (out .entry)) from (sixteen (viewsOf views n)) ⌝ }
 {
     let mut i = 0usize;
-    while i < 16 {
+    while i < View::LIMIT {
         out[from + i] = when((i as u64) < n, wide(views[i]));
         i += 1;
     }
