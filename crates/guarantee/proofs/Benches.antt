@@ -1,611 +1,123 @@
--- What each line does to the bench and what events come of it, before the setup and after it; and what every line keeps of the bench.
+-- What every line keeps of the bench, and what its events may be.
 -- Assumes nothing.
-use mathlib.Core.Path.{_≡_, refl, sym, ap, ap₂, subst, _∙_}
-use mathlib.Core.Logic.{_≢_, _⊎_, inl, inr}
-use mathlib.Core.Bool.{Bool, true, false, not, _&&_, _||_, true≢false, or-false, and-false, and-true}
-use mathlib.Core.List.{List, [], _∷_, _++_, map, append-nil, List·Memᴰ·head, List·Memᴰ·not-nil, Memᴰ·append-left, Memᴰ·append-right, List·Memᴰ·append-cases, List·Memᴰ·eq-of-singleton, Memᴰ·of-map}
-use mathlib.Core.Option.{Option, some, none}
-use Prim.Native.Nat.{ℕ, zero, suc, _+_, _^_, _≤_, _<_}
-use native.Mathlib.Decide.{ℕ-discrete, decLt}
+use mathlib.Core.Path.{_≡_, sym, ap, subst, _∙_}
+use mathlib.Core.Logic.{_⊎_, inl, inr}
+use mathlib.Core.Bool.{not, _&&_}
+use mathlib.Core.List.{List, [], _++_, append-nil, List·Memᴰ·not-nil, List·Memᴰ·append-cases, List·Memᴰ·eq-of-singleton, Memᴰ·of-map}
+use mathlib.Core.Option.{Option}
+use Prim.Native.Nat.{ℕ, _+_, _<_}
+use native.Mathlib.Decide.{ℕ-discrete}
 use native.Mathlib.Omega.{arith}
-use borrow.Author.Tests.{lt-leb, le-leb, ltb-true, ltb-false, not-false}
-use lib.Dec.{T, eqb, leb, ltb, T-not, not-T}
-use lib.ListN.{length, getD, getElem?, set, length-set, List·getD-eq-default}
-use lib.Seq.{getD-set-same, getD-set-other, set-getD}
+use lib.Dec.{T, ltb, T-not, not-T}
+use lib.ListN.{length, getD, set, length-set}
+use lib.Seq.{getD-set-same, getD-set-other}
 use Rattle.protocol.specs.Sets.{bit}
-use Rattle.protocol.specs.Lists.{if_then_else_, _∈_, _⊆_, any, isSome}
-use Rattle.protocol.specs.View.{controllers, member}
-use Rattle.protocol.specs.Statement.{Stmt, noStmt, sameStmt, fieldRules}
-use Rattle.protocol.specs.Evidence.{candidates, isConflict}
-use Rattle.protocol.specs.Controller.{Controller, notSetUp, badSetup, repeated, full, conflict, outOfPlace, Refusal, badStatement, badRequest, manyCandidates, Answer, taken, signed, entered, delivered, left, quiet, refused, Outcome}
-use Rattle.protocol.specs.Call.{setupAllowed, started, isFull, setup as setupOf, requestJoin, requestLeave, requestSend, add, refuse as refused-by}
-use Rattle.protocol.specs.Pool.{numberOf, pooled, hasRoom}
-use Rattle.protocol.specs.Turn.{turn as turnOf}
-use Rattle.protocol.specs.Run.{Call, setupCall, joinCall, leaveCall, sendCall, addCall, turnCall, outcome, Event, call, signing, signedIn}
+use Rattle.protocol.specs.Lists.{_∈_, _⊆_, any}
+use Rattle.protocol.specs.View.{controllers}
+use Rattle.protocol.specs.Statement.{Stmt, sameStmt, fieldRules}
+use Rattle.protocol.specs.Pool.{hasRoom}
+use Rattle.protocol.specs.Run.{Call, addCall, turnCall, Event, call, signing, signedIn}
 use Rattle.protocol.proofs.Found.{filter-out}
 use Rattle.protocol.proofs.Rules.{and-second}
-use Rattle.protocol.proofs.Different.{Different, ordered-append}
-use Rattle.protocol.proofs.Asked.{says-has, says-same-stmt}
-use Rattle.views.specs.Table.{table}
-use Rattle.views.proofs.Tables.{table-at, table-length}
-use Rattle.schedule.specs.Line.{Line, setup, join, leave, send, give, all, turn, lie, noStatement, Reads}
-use Rattle.bench.specs.Bench.{Seat, emptySeat, Bench, newBench, Stepped, nobody, seat, at, refuse, setUp, missing, giveTo, giveAll, afterTurn, turnAt, lieOf, step}
-use Rattle.guarantee.specs.Events.{follower, isTaken, isFollower, callOn, eventsOf}
-use Rattle.guarantee.proofs.Laws.{holds, either, getD-in, at-seam}
-use Rattle.guarantee.proofs.Seats.{seatOf, Steady, Seated, Clean, started-steady, Leaves, Fair, keeps}
+use Rattle.schedule.specs.Line.{Line}
+use Rattle.bench.specs.Bench.{Seat, emptySeat, Bench, seat, missing, step}
+use Rattle.guarantee.specs.Events.{follower, isFollower, eventsOf}
+use Rattle.guarantee.proofs.Laws.{either}
+use Rattle.guarantee.proofs.Seats.{seatOf, Setup, InRing, Seated, Yields, Proper, keeps}
+use Rattle.guarantee.proofs.Pools.{grown-more}
+use Rattle.guarantee.proofs.Lines.{Legible, Acts, turn-only, After, out, filled, Calls, Effect, rests, calls, gives, lies, Valid, yes-follows, no-follows, effect}
 
--- ---- what reading a line gives
+module _ (u : Setup) {b : Bench} (ok : Valid u b) where
+  open Setup u using (members, sender, faulty)
 
-abbrev pub Legible : Option Line → Type 0
-Legible none = Unit {0}
-Legible (some (setup members sender faulty)) = Unit {0}
-Legible (some (join k)) = k < 16
-Legible (some (leave k)) = k < 16
-Legible (some (send k payload)) = (k < 16) × (payload < 2 ^ 64)
-Legible (some (give k n)) = k < 16
-Legible (some (all k)) = k < 16
-Legible (some (turn k)) = k < 16
-Legible (some (lie s)) = T (fieldRules 16 s)
-Legible (some noStatement) = Unit {0}
+  -- ---- what it keeps
 
-pub legible : (S : List ℕ) (l : Option Line) → Reads S l → Legible l
-legible S none r = tt
-legible S (some (setup members sender faulty)) r = tt
-legible S (some (join k)) r = r .0
-legible S (some (leave k)) r = r .0
-legible S (some (send k payload)) r = (r .0, r .1)
-legible S (some (give k n)) r = r .0
-legible S (some (all k)) r = r .0
-legible S (some (turn k)) r = r .0
-legible S (some (lie s)) r = r .0
-legible S (some noStatement) r = tt
+  -- where the seat of k is x, and S has gone to the pool
+  valid-after : (k : ℕ) (x : Seat) {S : List Stmt} {b′ : Bench} → k < 16 → After b k x S b′ → InRing u k (x .controller) → ((s : Stmt) → s ∈ x .statements → (s ∈ b .pool) ⊎ (s ∈ S))
+      → ((s : Stmt) → s ∈ S → T (fieldRules controllers s)) → Valid u b′
+  valid-after k x {S} {b′} near a inRing known clean = record {
+    isSetUp = a .isSetUp ∙ ok .isSetUp;
+    marks = a .marks ∙ ok .marks;
+    long = ap length (a .seats) ∙ length-set (b .seats) k x ∙ ok .long;
+    clean = λ s m. elim (a .pool .only s m) [ inl i ↦ ok .clean s i | inr i ↦ clean s i ];
+    different = a .pool .different (ok .different);
+    each = λ j l. subst (λ S. Seated u (b′ .pool) j (getD S j emptySeat)) (sym (a .seats)) (elim (ℕ-discrete j k) [
+      | yes e ↦ subst (λ j. Seated u (b′ .pool) j (getD (set (b .seats) k x) j emptySeat)) (sym e) (subst (Seated u (b′ .pool) k) (sym (getD-set-same (b .seats) k x emptySeat (omega (arith, ok .long))))
+          (record { inRing = inRing; known = λ s m. elim (known s m) [ inl i ↦ grown-more (a .pool) s i | inr i ↦ a .pool .has s i ] }))
+      | no e ↦ let o = ok .each j l in subst (Seated u (b′ .pool) j) (sym (getD-set-other (b .seats) k j x emptySeat e)) (record { inRing = o .inRing; known = λ s m. grown-more (a .pool) s (o .known s m) })
+    ]);
+  }
 
--- ---- answers
+  pub missing-in : (k : ℕ) → missing b k ⊆ b .pool
+  missing-in k a m = filter-out (λ s. not (any (sameStmt s) (seat b k .statements))) (b .pool) m .0
 
--- only a turn answers so
-abbrev pub Acts : Answer → Type 0
-Acts taken = ⊥
-Acts (signed s) = Unit {0}
-Acts (entered v) = Unit {0}
-Acts (delivered m) = Unit {0}
-Acts left = ⊥
-Acts quiet = ⊥
-Acts (refused badSetup) = ⊥
-Acts (refused badStatement) = ⊥
-Acts (refused repeated) = ⊥
-Acts (refused full) = ⊥
-Acts (refused badRequest) = ⊥
-Acts (refused manyCandidates) = ⊥
-Acts (refused conflict) = Unit {0}
-Acts (refused outOfPlace) = ⊥
+  pub left-by : (k : ℕ) → k < 16 → (a : Call) → Proper (b .pool) a → Yields u (b .pool) k (out b k a)
+  left-by k near a proper = keeps u (b .pool) (ok .clean) k near (seat b k .controller) (seat b k .statements) (ok .each k near) (hasRoom (b .pool)) a proper
 
-unsigned : (a : Answer) → ¬ Acts a → signedIn a ≡ []
-unfolding signedIn
-unsigned taken f = refl
-unsigned (signed s) f = absurd (f tt)
-unsigned (entered v) f = refl
-unsigned (delivered m) f = refl
-unsigned left f = refl
-unsigned quiet f = refl
-unsigned (refused r) f = refl
-
--- no other call does
-abbrev pub NoTurn : Call → Type 0
-NoTurn (setupCall n m s) = Unit {0}
-NoTurn joinCall = Unit {0}
-NoTurn leaveCall = Unit {0}
-NoTurn (sendCall m) = Unit {0}
-NoTurn (addCall s) = Unit {0}
-NoTurn turnCall = ⊥
-
-module _ (room : Stmt → Bool) (c : Controller) (X : List Stmt) where
-  abbrev Idle : Outcome → Type 0
-  Idle o = ¬ Acts (o .answer)
-
-  idle : (a : Call) → NoTurn a → Idle (outcome room c X a)
-  unfolding outcome setupOf requestJoin requestLeave requestSend add
-  idle (setupCall n m s) _ = either Idle (c .isSetUp || not (setupAllowed n m s)) (λ e t. t) (λ e t. t)
-  idle joinCall _ = either Idle (c .isSetUp) (λ e. either Idle (member (c .ring .init) (c .number) || c .joinRequested) (λ f t. t) (λ f t. t)) (λ e t. t)
-  idle leaveCall _ = either Idle (c .isSetUp) (λ e. either Idle (eqb (length (c .entered)) 0 || c .leaveRequested) (λ f t. t) (λ f t. t)) (λ e t. t)
-  idle (sendCall m) _ = either Idle (c .isSetUp) (λ e. either Idle (not (eqb (c .number) (c .sender)) || isSome (c .sendRequested)) (λ f t. t) (λ f t. t)) (λ e t. t)
-  idle (addCall s) _ =
-      either Idle (c .isSetUp) (λ e. either Idle (not (fieldRules (c .ring .width) s)) (λ f t. t) (λ f. either Idle (any (sameStmt s) X) (λ g t. t) (λ g. either Idle (isFull room X s) (λ h t. t) (λ h t. t)))) (λ e t. t)
-
-  pub turn-only : (a : Call) → Acts (outcome room c X a .answer) → a ≡ turnCall
-  turn-only (setupCall n m s) t = absurd (idle (setupCall n m s) tt t)
-  turn-only joinCall t = absurd (idle joinCall tt t)
-  turn-only leaveCall t = absurd (idle leaveCall tt t)
-  turn-only (sendCall m) t = absurd (idle (sendCall m) tt t)
-  turn-only (addCall s) t = absurd (idle (addCall s) tt t)
-  turn-only turnCall t = refl
-
--- ---- the pool
-
--- Q is P with the statements S; those that it lacked stand at its end
-pub record Grown (P S Q : List Stmt) : Type 0 where
-  pub longer : (D : List Stmt) × (Q ≡ P ++ D)
-  pub has : S ⊆ Q
-  pub only : (s : Stmt) → s ∈ Q → (s ∈ P) ⊎ (s ∈ S)
-  pub different : Different P → Different Q
-
-pub grown-more : {P S Q : List Stmt} → Grown P S Q → P ⊆ Q
-grown-more g a m = subst (λ Q. a ∈ Q) (sym (g .longer .1)) (Memᴰ·append-left (g .longer .0) m)
-
-module _ (P : List Stmt) where
-  pub grown-none : {S : List Stmt} → S ≡ [] → Grown P S P
-  grown-none e = record { longer = ([], sym (append-nil P)); has = λ a m. absurd (List·Memᴰ·not-nil (subst (λ S. a ∈ S) e m)); only = λ a m. inl m; different = λ d. d }
-
-  module _ (s : Stmt) where
-    grown-new : any (sameStmt s) P ≡ false → Grown P (s ∷ []) (P ++ (s ∷ []))
-    grown-new e = record {
-      longer = (s ∷ [], refl);
-      has = λ a m. Memᴰ·append-right P m;
-      only = λ a m. List·Memᴰ·append-cases P m;
-      different = λ d. ordered-append (λ a b. ¬ (a ≡ b)) P s d (λ b m f. subst T e (says-has .complete (subst (λ x. x ∈ P) f m)));
-    }
-
-    grown-old : any (sameStmt s) P ≡ true → Grown P (s ∷ []) P
-    grown-old e = record {
-      longer = ([], sym (append-nil P));
-      has = λ a m. subst (λ a. a ∈ P) (sym (List·Memᴰ·eq-of-singleton m)) (says-has .sound (subst T (sym e) tt));
-      only = λ a m. inl m;
-      different = λ d. d;
-    }
-
-    grown-pooled : Grown P (s ∷ []) (pooled s P)
-    unfolding pooled
-    grown-pooled = either (Grown P (s ∷ [])) (any (sameStmt s) P) grown-old grown-new
-
--- a statement has its number in the pool
-number-old : (s : Stmt) (P : List Stmt) → any (sameStmt s) P ≡ true → getElem? P (numberOf s P) ≡ some s
-unfolding any numberOf
-number-old s [] e = absurd (true≢false (sym e))
-number-old s (x ∷ P) e = go (sameStmt s x) refl e (number-old s P)
-  where
-    go : (b : Bool) → sameStmt s x ≡ b → (b || any (sameStmt s) P) ≡ true → (any (sameStmt s) P ≡ true → getElem? P (numberOf s P) ≡ some s) → getElem? (x ∷ P) (if b then 0 else suc (numberOf s P)) ≡ some s
-    go true f h ih = ap some (sym (says-same-stmt .sound (subst T (sym f) tt)))
-    go false f h ih = ih h
-
-number-new : (s : Stmt) (P : List Stmt) → any (sameStmt s) P ≡ false → numberOf s P ≡ length P
-unfolding any numberOf
-number-new s [] e = refl
-number-new s (x ∷ P) e = go (sameStmt s x) e (number-new s P)
-  where
-    go : (b : Bool) → (b || any (sameStmt s) P) ≡ false → (any (sameStmt s) P ≡ false → numberOf s P ≡ length P) → (if b then 0 else suc (numberOf s P)) ≡ suc (length P)
-    go true h ih = absurd (true≢false h)
-    go false h ih = ap suc (ih h)
-
-numbered : (s : Stmt) (P : List Stmt) → getElem? (pooled s P) (numberOf s P) ≡ some s
-unfolding pooled
-numbered s P = either (λ Q. getElem? Q (numberOf s P) ≡ some s) (any (sameStmt s) P) (number-old s P) (λ e. ap (getElem? (P ++ (s ∷ []))) (number-new s P e) ∙ at-seam P s [])
-
--- an addition of what the pool has
-abbrev added : Controller → List Stmt → Stmt → Outcome
-added c X s = record { answer = taken; controller = c; statements = X ++ (s ∷ []) }
-
-module _ (c : Controller) (X P : List Stmt) (s : Stmt) (ready : c .isSetUp ≡ true) (width : c .ring .width ≡ controllers) (clean : T (fieldRules controllers s)) (has : s ∈ P) where
-  add-is : add c X (hasRoom P) s ≡ (if any (sameStmt s) X then refused-by c X repeated else if leb 512 (length X) then refused-by c X full else added c X s)
-  unfolding add isFull hasRoom
-  add-is = rw (ready, width, holds (fieldRules controllers s) clean, holds (any (sameStmt s) P) (says-has .complete has), or-false (leb 512 (length X))) refl
-
-  pub add-taken : any (sameStmt s) X ≡ false → length X < 512 → add c X (hasRoom P) s ≡ added c X s
-  add-taken e h = add-is ∙ rw (e, lt-leb 512 (length X) h) refl
-
--- ---- what a line does
-
--- afterwards the seat of k is x, and S has gone to the pool
-pub record After (b : Bench) (k : ℕ) (x : Seat) (S : List Stmt) (b′ : Bench) : Type 0 where
-  pub isSetUp : b′ .isSetUp ≡ b .isSetUp
-  pub marks : b′ .faulty ≡ b .faulty
-  pub seats : b′ .seats ≡ set (b .seats) k x
-  pub pool : Grown (b .pool) S (b′ .pool)
-
-module _ (b : Bench) where
-  -- what a call on k gives
-  abbrev pub out : ℕ → Call → Outcome
-  out k a = outcome (hasRoom (b .pool)) (seat b k .controller) (seat b k .statements) a
-
-  abbrev pub filled : ℕ → Seat
-  filled k = record { controller = seat b k .controller; statements = seat b k .statements ++ missing b k }
-
-  module _ (l : Option Line) where
-    abbrev b′ : Bench
-    b′ = step b l .bench
-
-    abbrev answer : Answer
-    answer = step b l .reply .answer
-
-    -- nothing
-    pub record Rests : Type 0 where
-      pub same : b′ ≡ b
-      pub idle : ¬ Acts answer
-      pub events : eventsOf b l ≡ []
-
-    -- the call a on k
-    pub record Calls (k : ℕ) (a : Call) : Type 0 where
-      pub near : k < 16
-      pub fair : Fair (b .pool) a
-      pub who : step b l .reply .who ≡ k
-      pub answered : answer ≡ out k a .answer
-      pub number : (s : Stmt) → out k a .answer ≡ signed s → getElem? (b′ .pool) (step b l .reply .number) ≡ some s
-      pub after : After b k (seatOf (out k a)) (signedIn (out k a .answer)) b′
-      pub events : eventsOf b l ≡ (if isFollower b k then call k a ∷ [] else map signing (signedIn (out k a .answer)))
-
-    -- an addition of each that k misses
-    pub record Gives (k : ℕ) : Type 0 where
-      pub near : k < 16
-      pub answered : answer ≡ taken
-      pub fits : length (seat b k .statements) + length (missing b k) ≤ 512
-      pub after : After b k (filled k) [] b′
-      pub events : eventsOf b l ≡ (if isFollower b k then map (λ s. call k (addCall s)) (missing b k) else [])
-
-    -- a signing of s by one who is marked
-    pub record Lies (s : Stmt) : Type 0 where
-      pub marked : T (bit (b .faulty) (s .origin))
-      pub clean : T (fieldRules controllers s)
-      pub answered : answer ≡ taken
-      pub after : After b 0 (seat b 0) (s ∷ []) b′
-      pub events : eventsOf b l ≡ signing s ∷ []
-
-  pub data Effect (l : Option Line) : Type 0 where
-    rests : Rests l → Effect l
-    calls : (k : ℕ) (a : Call) → Calls l k a → Effect l
-    gives : (k : ℕ) → Gives l k → Effect l
-    lies : (s : Stmt) → Lies l s → Effect l
-
--- ---- before the setup
-
-new-seat : (k : ℕ) → seat newBench k ≡ emptySeat
-new-seat k = elim (decLt k 16) [
-  | yes l ↦ table-at controllers (λ k. emptySeat) emptySeat k l
-  | no l ↦ List·getD-eq-default (table controllers (λ k. emptySeat)) emptySeat (omega (arith, table-length controllers (λ (k : ℕ). emptySeat)))
-]
-
--- the bench after the setup
-abbrev pub startedBench : ℕ → ℕ → ℕ → Bench
-startedBench members sender faulty = record { isSetUp = true; faulty = faulty; seats = table controllers (λ k. record { controller = started k members sender; statements = [] }); pool = [] }
-
-pub record Starts (b : Bench) (members sender faulty : ℕ) : Type 0 where
-  pub before : b .isSetUp ≡ false
-  pub allowed : T (setupAllowed 0 members sender)
-  pub after : step b (some (setup members sender faulty)) .bench ≡ startedBench members sender faulty
-
-module _ (b : Bench) (members sender faulty : ℕ) where
-  -- by whether the bench is set up, and whether the setup is allowed
-  abbrev setupBy : Bool → Bool → Stepped
-  setupBy x y = if x || not y then refuse b (if ltb sender controllers then sender else nobody) badSetup else record { reply = record { who = sender; answer = taken; number = 0 }; bench = startedBench members sender faulty }
-
-  pub setup-taken : step b (some (setup members sender faulty)) .reply .answer ≡ taken → Starts b members sender faulty
-  unfolding step setUp
-  setup-taken e = go (b .isSetUp) (setupAllowed 0 members sender) refl refl e
+  pub step-valid : (l : Option Line) → Legible l → Valid u (step b l .bench)
+  step-valid l g = go (effect u ok l g)
     where
-      go : (x y : Bool) → b .isSetUp ≡ x → setupAllowed 0 members sender ≡ y → setupBy x y .reply .answer ≡ taken → Starts b members sender faulty
-      go true y f g h = let z : _≡_ {A = ℕ} 0 1 = cc (h) in absurd (omega arith)
-      go false false f g h = let z : _≡_ {A = ℕ} 0 1 = cc (h) in absurd (omega arith)
-      go false true f g h = record { before = f; allowed = subst T (sym g) tt; after = ap₂ (λ x y. setupBy x y .bench) f g }
+      go : Effect b l → Valid u (step b l .bench)
+      go (rests r) = subst (Valid u) (sym (r .same)) ok
+      go (calls k a c) = let o = left-by k (c .near) a (c .proper) in valid-after k (seatOf (out b k a)) (c .near) (c .after) (o .inRing) (o .known) (λ s m. o .signs s m .0)
+      go (gives k c) =
+          let o = ok .each k (c .near) in
+          valid-after k (filled b k) (c .near) (c .after) (o .inRing) (λ s m. inl (elim (List·Memᴰ·append-cases (seat b k .statements) m) [ inl i ↦ o .known s i | inr i ↦ missing-in k s i ]))
+          (λ s m. absurd (List·Memᴰ·not-nil m))
+      go (lies s c) =
+          let o = ok .each 0 (omega arith) in
+          valid-after 0 (seat b 0) (omega arith) (c .after) (o .inRing) (λ x m. inl (o .known x m)) (λ x m. subst (λ x. T (fieldRules controllers x)) (sym (List·Memᴰ·eq-of-singleton m)) (c .clean))
 
--- a call on any controller is refused
-module _ (l : Option Line) (k : ℕ) where
-  abbrev unready : Outcome
-  unready = refused-by notSetUp [] outOfPlace
+  -- the pool grows at its end
+  pub grows : (l : Option Line) → Effect b l → (D : List Stmt) × (step b l .bench .pool ≡ b .pool ++ D)
+  grows l (rests r) = ([], ap (λ x. x .pool) (r .same) ∙ sym (append-nil (b .pool)))
+  grows l (calls k a c) = c .after .pool .longer
+  grows l (gives k c) = c .after .pool .longer
+  grows l (lies s c) = c .after .pool .longer
 
-  new-call : step newBench l ≡ at newBench k unready [] 0 → eventsOf newBench l ≡ [] → Rests newBench l
-  new-call e f = record {
-    same = ap (λ r. r .bench) e ∙ ap (λ S. record { isSetUp = false; faulty = 0; seats = S; pool = [] }) (ap (set (newBench .seats) k) (sym (new-seat k)) ∙ set-getD (newBench .seats) k emptySeat);
-    idle = subst (λ r. ¬ Acts (r .reply .answer)) (sym e) (λ t. t);
-    events = f;
-  }
+  -- ---- what the events of a line are
 
--- until a setup is taken nothing changes
-pub new-line : (l : Option Line) → Rests newBench l ⊎ ((members sender faulty : ℕ) × (l ≡ some (setup members sender faulty)) × Starts newBench members sender faulty)
-unfolding step setUp giveTo giveAll turnAt afterTurn lieOf requestJoin requestLeave requestSend turnOf eventsOf callOn isFollower signedIn
-new-line none = inl (record { same = refl; idle = λ t. t; events = refl })
-new-line (some (setup m s f)) = go (setupAllowed 0 m s) refl
-  where
-    go : (y : Bool) → setupAllowed 0 m s ≡ y → Rests newBench (some (setup m s f)) ⊎ ((members sender faulty : ℕ) × (some (setup m s f) ≡ some (setup members sender faulty)) × Starts newBench members sender faulty)
-    go true e = inr (m, s, f, refl, setup-taken newBench m s f (ap (λ y. setupBy newBench m s f false y .reply .answer) e))
-    go false e = inl (record { same = ap (λ y. setupBy newBench m s f false y .bench) e; idle = subst (λ y. ¬ Acts (setupBy newBench m s f false y .reply .answer)) (sym e) (λ t. t); events = refl })
-new-line (some (join k)) = inl (new-call (some (join k)) k (ap (λ x. at newBench k (requestJoin (x .controller) (x .statements)) [] 0) (new-seat k)) refl)
-new-line (some (leave k)) = inl (new-call (some (leave k)) k (ap (λ x. at newBench k (requestLeave (x .controller) (x .statements)) [] 0) (new-seat k)) refl)
-new-line (some (send k m)) = inl (new-call (some (send k m)) k (ap (λ x. at newBench k (requestSend (x .controller) (x .statements) m) [] 0) (new-seat k)) refl)
-new-line (some (give k n)) = inl (record { same = refl; idle = λ t. t; events = either (λ E. E ≡ []) (ltb n 0) (λ e. refl) (λ e. refl) })
-new-line (some (all k)) = inl (record { same = refl; idle = λ t. t; events = refl })
-new-line (some (turn k)) =
-    let e = ap (λ x. let o : Outcome = turnOf (x .controller) (x .statements) (hasRoom []) in afterTurn newBench k o (o .answer)) (new-seat k) in
-    inl (new-call (some (turn k)) k e (ap (λ r. map signing (signedIn (r .reply .answer))) e))
-new-line (some (lie s)) = inl (record { same = refl; idle = λ t. t; events = refl })
-new-line (some noStatement) = inl (record { same = refl; idle = λ t. t; events = refl })
+  -- a proper call on a rule-follower, or a signing by a rule-breaker
+  abbrev pub Admitted : Event → Type 0
+  Admitted (call k a) = T (follower faulty k) × Proper (b .pool) a
+  Admitted (signing s) = T (not (follower faulty (s .origin))) × T (fieldRules controllers s)
 
--- ---- after the setup
+  abbrev All : List Event → Type 0
+  All E = (e : Event) → e ∈ E → Admitted e
 
-module _ (members sender : ℕ) (allowed : T (setupAllowed 0 members sender)) (faulty : ℕ) where
-  -- what every line keeps: each pooled statement keeps the field rules and stands once, and each record has only pooled statements
-  pub record Healthy (b : Bench) : Type 0 where
-    pub isSetUp : b .isSetUp ≡ true
-    pub marks : b .faulty ≡ faulty
-    pub long : length (b .seats) ≡ 16
-    pub clean : Clean (b .pool)
-    pub different : Different (b .pool)
-    pub each : (k : ℕ) → k < 16 → Seated members sender allowed (b .pool) k (seat b k)
+  marked-breaks : (k : ℕ) → T (bit faulty k) → T (not (follower faulty k))
+  unfolding follower
+  marked-breaks k t = not-T (ltb k controllers && not (bit faulty k)) (λ u. T-not (bit faulty k) (and-second (ltb k controllers) (not (bit faulty k)) u) t)
 
-  pub started-seat : (k : ℕ) → k < 16 → seat (startedBench members sender faulty) k ≡ record { controller = started k members sender; statements = [] }
-  started-seat k l = table-at controllers (λ k. record { controller = started k members sender; statements = [] }) emptySeat k l
+  pub admitted : (l : Option Line) → Effect b l → All (eventsOf b l)
+  admitted l (rests r) = subst All (sym (r .events)) (λ e m. absurd (List·Memᴰ·not-nil m))
+  admitted l (calls k a c) = subst All (sym (c .events)) (either All (isFollower b k) (λ f e m. subst Admitted (sym (List·Memᴰ·eq-of-singleton m)) (yes-follows u ok k f, c .proper))
+      (λ f e m. let (s, i, q) = Memᴰ·of-map signing (signedIn (out b k a .answer)) m in
+      let (clean, origin) = left-by k (c .near) a (c .proper) .signs s i in
+      subst Admitted q (subst (λ j. T (not (follower faulty j))) (sym origin) (subst (λ x. T (not x)) (sym (no-follows u ok k f)) tt), clean)))
+  admitted l (gives k c) = subst All (sym (c .events)) (either All (isFollower b k)
+      (λ f e m. let (s, i, q) = Memᴰ·of-map (λ s. call k (addCall s)) (missing b k) m in subst Admitted q (yes-follows u ok k f, missing-in k s i)) (λ f e m. absurd (List·Memᴰ·not-nil m)))
+  admitted l (lies s c) = subst All (sym (c .events)) (λ e m. subst Admitted (sym (List·Memᴰ·eq-of-singleton m)) (marked-breaks (s .origin) (subst (λ x. T (bit x (s .origin))) (ok .marks) (c .marked)), c .clean))
 
-  pub started-healthy : Healthy (startedBench members sender faulty)
-  started-healthy = record {
-    isSetUp = refl;
-    marks = refl;
-    long = table-length controllers (λ k. record { controller = started k members sender; statements = [] });
-    clean = λ s m. absurd (List·Memᴰ·not-nil m);
-    different = tt;
-    each = λ k l. subst (Seated members sender allowed [] k) (sym (started-seat k l)) (record { steady = started-steady members sender allowed k; known = λ a m. m });
-  }
+  -- ---- the lines of turns
 
-  module _ {b : Bench} (ok : Healthy b) where
-    pub follower-is : (k : ℕ) → isFollower b k ≡ follower faulty k
-    unfolding isFollower
-    follower-is k = rw (ok .isSetUp, ok .marks) refl
+  -- an event that is a turn of k comes of a line that is a turn of k
+  abbrev Turns : Option Line → ℕ → List Event → Type 0
+  Turns l k E = call k turnCall ∈ E → Calls b l k turnCall
 
-    -- who follows the rules
-    pub yes-follows : (k : ℕ) → isFollower b k ≡ true → T (follower faulty k)
-    yes-follows k e = subst T (follower-is k) (subst T (sym e) tt)
+  pub turn-line : (l : Option Line) (k : ℕ) → Effect b l → call k turnCall ∈ eventsOf b l → Calls b l k turnCall
+  turn-line l k (rests r) = subst (Turns l k) (sym (r .events)) (λ m. absurd (List·Memᴰ·not-nil m))
+  turn-line l k (calls j a c) = subst (Turns l k) (sym (c .events)) (either (Turns l k) (isFollower b j) (λ f m. let e = List·Memᴰ·eq-of-singleton m in let p : j ≡ k = cc (e) in let q : a ≡ turnCall = cc (e) in subst (λ k. Calls b l k turnCall) p (subst (Calls b l j) q c))
+      (λ f m. let (s, i, q) = Memᴰ·of-map signing (signedIn (out b j a .answer)) m in let z : _≡_ {A = ℕ} 0 1 = cc (q) in absurd (omega arith)))
+  turn-line l k (gives j c) = subst (Turns l k) (sym (c .events)) (either (Turns l k) (isFollower b j)
+      (λ f m. let (s, i, q) = Memᴰ·of-map (λ s. call j (addCall s)) (missing b j) m in let z : _≡_ {A = ℕ} 0 1 = cc (q) in absurd (omega arith)) (λ f m. absurd (List·Memᴰ·not-nil m)))
+  turn-line l k (lies s c) = subst (Turns l k) (sym (c .events)) (λ m. let e = List·Memᴰ·eq-of-singleton m in let z : _≡_ {A = ℕ} 0 1 = cc (e) in absurd (omega arith))
 
-    pub no-follows : (k : ℕ) → isFollower b k ≡ false → follower faulty k ≡ false
-    no-follows k e = sym (follower-is k) ∙ e
-
-    -- ---- what a line does
-
-    refusal : (l : Option Line) (w : ℕ) (r : Refusal) → ¬ Acts (refused r) → step b l ≡ refuse b w r → eventsOf b l ≡ [] → Effect b l
-    refusal l w r idle e f = rests (record { same = ap (λ x. x .bench) e; idle = subst (λ x. ¬ Acts (x .reply .answer)) (sym e) idle; events = f })
-
-    called : (l : Option Line) (k : ℕ) (a : Call) (Q : List Stmt) (n : ℕ) → k < 16 → Fair (b .pool) a → step b l ≡ at b k (out b k a) Q n → Grown (b .pool) (signedIn (out b k a .answer)) Q
-        → ((s : Stmt) → out b k a .answer ≡ signed s → getElem? Q n ≡ some s) → eventsOf b l ≡ (if isFollower b k then call k a ∷ [] else map signing (signedIn (out b k a .answer))) → Effect b l
-    called l k a Q n near fair e g number events = calls k a (record {
-      near = near;
-      fair = fair;
-      who = ap (λ r. r .reply .who) e;
-      answered = ap (λ r. r .reply .answer) e;
-      number = λ s f. subst (λ r. getElem? (r .bench .pool) (r .reply .number) ≡ some s) (sym e) (number s f);
-      after = subst (λ r. After b k (seatOf (out b k a)) (signedIn (out b k a .answer)) (r .bench)) (sym e) (record { isSetUp = refl; marks = refl; seats = refl; pool = g });
-      events = events;
-    })
-
-    -- a call other than a turn
-    asked : (l : Option Line) (k : ℕ) (a : Call) → NoTurn a → k < 16 → Fair (b .pool) a → step b l ≡ at b k (out b k a) (b .pool) 0 → eventsOf b l ≡ callOn b k a → Effect b l
-    unfolding callOn
-    asked l k a t near fair e events =
-        let rest = idle (hasRoom (b .pool)) (seat b k .controller) (seat b k .statements) a t in
-        let none = unsigned (out b k a .answer) rest in
-        called l k a (b .pool) 0 near fair e (grown-none (b .pool) none) (λ s f. absurd (rest (subst Acts (sym f) tt))) (events ∙ ap (λ S. if isFollower b k then call k a ∷ [] else map signing S) (sym none))
-
-    -- a refusal leaves the seat as it was
-    refuse-at : (k : ℕ) (r : Refusal) → refuse b k r ≡ at b k (refused-by (seat b k .controller) (seat b k .statements) r) (b .pool) 0
-    refuse-at k r = ap (λ S. record { reply = record { who = k; answer = refused r; number = 0 }; bench = record { isSetUp = b .isSetUp; faulty = b .faulty; seats = S; pool = b .pool } }) (sym (set-getD (b .seats) k emptySeat))
-
-    -- a give of what the pool has is an addition
-    give-adds : (k n : ℕ) → k < 16 → n < length (b .pool) → giveTo b k n ≡ at b k (out b k (addCall (getD (b .pool) n noStmt))) (b .pool) 0
-    unfolding giveTo outcome
-    give-adds k n near h =
-        let steady = ok .each k near .steady in
-        let i : s ∈ b .pool = getD-in (b .pool) n noStmt h in
-        ap₂ (λ x y. if x then (if y then refuse b k outOfPlace else given (any (sameStmt s) X) (leb 512 (length X))) else refuse b k outOfPlace) (ok .isSetUp) (lt-leb (length (b .pool)) n h)
-        ∙ cases (any (sameStmt s) X) (leb 512 (length X)) ∙ ap (λ o. at b k o (b .pool) 0) (sym (add-is c X (b .pool) s (steady .isSetUp) (ap (λ R. R .width) (steady .ring)) (ok .clean s i) i))
-      where
-        s : Stmt
-        s = getD (b .pool) n noStmt
-
-        c : Controller
-        c = seat b k .controller
-
-        X : List Stmt
-        X = seat b k .statements
-
-        given : Bool → Bool → Stepped
-        given x y = if x then refuse b k repeated else if y then refuse b k full else at b k (added c X s) (b .pool) 0
-
-        cases : (x y : Bool) → given x y ≡ at b k (if x then refused-by c X repeated else if y then refused-by c X full else added c X s) (b .pool) 0
-        cases true y = refuse-at k repeated
-        cases false true = refuse-at k full
-        cases false false = refl
-
-    give-past : (k n : ℕ) → length (b .pool) ≤ n → giveTo b k n ≡ refuse b k outOfPlace
-    unfolding giveTo
-    give-past k n h = rw (ok .isSetUp, le-leb (length (b .pool)) n h) refl
-
-    give-effect : (k n : ℕ) → k < 16 → Effect b (some (give k n))
-    unfolding step eventsOf
-    give-effect k n near = go (ltb n (length (b .pool))) refl
-      where
-        go : (x : Bool) → ltb n (length (b .pool)) ≡ x → Effect b (some (give k n))
-        go true e =
-            let h = ltb-true n (length (b .pool)) e in
-            let a : Call = addCall (getD (b .pool) n noStmt) in
-            asked (some (give k n)) k a tt near (getD-in (b .pool) n noStmt h) (give-adds k n near h) (ap (λ x. if x then callOn b k a else []) e)
-        go false e = refusal (some (give k n)) k outOfPlace (λ t. t) (give-past k n (ltb-false n (length (b .pool)) e)) (ap (λ x. if x then callOn b k (addCall (getD (b .pool) n noStmt)) else []) e)
-
-    all-effect : (k : ℕ) → k < 16 → Effect b (some (all k))
-    unfolding step giveAll eventsOf
-    all-effect k near = go (either AllIs (b .isSetUp) (λ e. either AllIs (ltb 512 room) (λ f. inl refl) (λ f. inr (ltb-false 512 room f, refl))) (λ e. absurd (true≢false (sym (ok .isSetUp) ∙ e))))
-      where
-        room : ℕ
-        room = length (seat b k .statements) + length (missing b k)
-
-        full-row : Stepped
-        full-row = refuse b k full
-
-        filled-row : Stepped
-        filled-row = at b k (record { answer = taken; controller = seat b k .controller; statements = seat b k .statements ++ missing b k }) (b .pool) (length (missing b k))
-
-        AllIs : Stepped → Type 0
-        AllIs r = (r ≡ full-row) ⊎ ((room ≤ 512) × (r ≡ filled-row))
-
-        events : (r : Stepped) → giveAll b k ≡ r → eventsOf b (some (all k)) ≡ (if isFollower b k && isTaken (r .reply .answer) then map (λ s. call k (addCall s)) (missing b k) else [])
-        events r e = ap (λ r. if isFollower b k && isTaken (r .reply .answer) then map (λ s. call k (addCall s)) (missing b k) else []) e
-
-        go : AllIs (giveAll b k) → Effect b (some (all k))
-        go (inl e) = refusal (some (all k)) k full (λ t. t) e (events full-row e ∙ rw (and-false (isFollower b k)) refl)
-        go (inr (h, e)) = gives k (record {
-          near = near;
-          answered = ap (λ r. r .reply .answer) e;
-          fits = h;
-          after = subst (λ r. After b k (filled b k) [] (r .bench)) (sym e) (record { isSetUp = refl; marks = refl; seats = refl; pool = grown-none (b .pool) refl });
-          events = events filled-row e ∙ rw (and-true (isFollower b k)) refl;
-        })
-
-    turn-effect : (k : ℕ) → k < 16 → Effect b (some (turn k))
-    unfolding step turnAt afterTurn outcome eventsOf signedIn
-    turn-effect k near = go (o .answer) refl
-      where
-        o : Outcome
-        o = out b k turnCall
-
-        turned : (a : Answer) (Q : List Stmt) (n : ℕ) → o .answer ≡ a → afterTurn b k o a ≡ at b k o Q n → Grown (b .pool) (signedIn a) Q → ((s : Stmt) → a ≡ signed s → getElem? Q n ≡ some s) → Effect b (some (turn k))
-        turned a Q n e f g number =
-            let is : turnAt b k ≡ at b k o Q n = ap (afterTurn b k o) e ∙ f in
-            called (some (turn k)) k turnCall Q n near tt is (subst (λ a. Grown (b .pool) (signedIn a) Q) (sym e) g) (λ s h. number s (sym e ∙ h))
-            (ap (λ r. if isFollower b k then call k turnCall ∷ [] else map signing (signedIn (r .reply .answer))) is)
-
-        still : (a : Answer) → o .answer ≡ a → signedIn a ≡ [] → afterTurn b k o a ≡ at b k o (b .pool) 0 → Effect b (some (turn k))
-        still a e n f = turned a (b .pool) 0 e f (grown-none (b .pool) n) (λ s h. absurd (List·Memᴰ·not-nil (subst (λ S. s ∈ S) (sym (ap signedIn h) ∙ n) (List·Memᴰ·head refl))))
-
-        go : (a : Answer) → o .answer ≡ a → Effect b (some (turn k))
-        go (signed s) e = turned (signed s) (pooled s (b .pool)) (numberOf s (b .pool)) e refl (grown-pooled (b .pool) s) (λ x f. let p : s ≡ x = cc (f) in numbered s (b .pool) ∙ ap some p)
-        go taken e = still taken e refl refl
-        go (entered v) e = still (entered v) e refl refl
-        go (delivered m) e = still (delivered m) e refl refl
-        go left e = still left e refl refl
-        go quiet e = still quiet e refl refl
-        go (refused r) e = still (refused r) e refl refl
-
-    lie-effect : (s : Stmt) → T (fieldRules controllers s) → Effect b (some (lie s))
-    unfolding step lieOf eventsOf
-    lie-effect s clean = go
-        (either LieIs (b .isSetUp) (λ e. either LieIs (not (bit (b .faulty) (s .origin))) (λ f. inl (outOfPlace, (λ t. t), refl)) (λ f. either LieIs (any (sameStmt s) (b .pool)) (λ g. inl (repeated, (λ t. t), refl))
-        (λ g. either LieIs (leb 512 (length (b .pool))) (λ h. inl (full, (λ t. t), refl)) (λ h. inr (f, g, refl))))) (λ e. inl (outOfPlace, (λ t. t), refl)))
-      where
-        lied : Stepped
-        lied = record { reply = record { who = s .origin; answer = taken; number = length (b .pool) }; bench = record { isSetUp = b .isSetUp; faulty = b .faulty; seats = b .seats; pool = b .pool ++ (s ∷ []) } }
-
-        LieIs : Stepped → Type 0
-        LieIs r = ((x : Refusal) × (¬ Acts (refused x)) × (r ≡ refuse b (s .origin) x)) ⊎ ((not (bit (b .faulty) (s .origin)) ≡ false) × (any (sameStmt s) (b .pool) ≡ false) × (r ≡ lied))
-
-        events : (r : Stepped) → lieOf b s ≡ r → eventsOf b (some (lie s)) ≡ (if isTaken (r .reply .answer) then signing s ∷ [] else [])
-        events r e = ap (λ r. if isTaken (r .reply .answer) then signing s ∷ [] else []) e
-
-        go : LieIs (lieOf b s) → Effect b (some (lie s))
-        go (inl (x, idle, e)) = refusal (some (lie s)) (s .origin) x idle e (events (refuse b (s .origin) x) e)
-        go (inr (f, g, e)) = lies s (record {
-          marked = subst T (sym (not-false (bit (b .faulty) (s .origin)) f)) tt;
-          clean = clean;
-          answered = ap (λ r. r .reply .answer) e;
-          after = subst (λ r. After b 0 (seat b 0) (s ∷ []) (r .bench)) (sym e) (record { isSetUp = refl; marks = refl; seats = sym (set-getD (b .seats) 0 emptySeat); pool = grown-new (b .pool) s g });
-          events = events lied e;
-        })
-
-    pub effect : (l : Option Line) → Legible l → Effect b l
-    unfolding step setUp eventsOf outcome
-    effect none g = refusal none nobody outOfPlace (λ t. t) refl refl
-    effect (some (setup m s f)) g = refusal (some (setup m s f)) (if ltb s controllers then s else nobody) badSetup (λ t. t) (ap (λ x. setupBy b m s f x (setupAllowed 0 m s)) (ok .isSetUp)) refl
-    effect (some (join k)) g = asked (some (join k)) k joinCall tt g tt refl refl
-    effect (some (leave k)) g = asked (some (leave k)) k leaveCall tt g tt refl refl
-    effect (some (send k m)) (g, h) = asked (some (send k m)) k (sendCall m) tt g h refl refl
-    effect (some (give k n)) g = give-effect k n g
-    effect (some (all k)) g = all-effect k g
-    effect (some (turn k)) g = turn-effect k g
-    effect (some (lie s)) g = lie-effect s g
-    effect (some noStatement) g = refusal (some noStatement) nobody badStatement (λ t. t) (ap (λ x. if x then refuse b nobody badStatement else refuse b nobody outOfPlace) (ok .isSetUp)) refl
-
-    -- ---- what it keeps
-
-    abbrev Steadily : ℕ → Controller → Type 0
-    Steadily k c = Steady members sender allowed k c
-
-    -- where the seat of k is x, and S has gone to the pool
-    healthy-after : (k : ℕ) (x : Seat) {S : List Stmt} {b′ : Bench} → k < 16 → After b k x S b′ → Steadily k (x .controller) → ((s : Stmt) → s ∈ x .statements → (s ∈ b .pool) ⊎ (s ∈ S))
-        → ((s : Stmt) → s ∈ S → T (fieldRules controllers s)) → Healthy b′
-    healthy-after k x {S} {b′} near a steady known clean = record {
-      isSetUp = a .isSetUp ∙ ok .isSetUp;
-      marks = a .marks ∙ ok .marks;
-      long = ap length (a .seats) ∙ length-set (b .seats) k x ∙ ok .long;
-      clean = λ s m. elim (a .pool .only s m) [ inl i ↦ ok .clean s i | inr i ↦ clean s i ];
-      different = a .pool .different (ok .different);
-      each = λ j l. subst (λ S. Seated members sender allowed (b′ .pool) j (getD S j emptySeat)) (sym (a .seats)) (elim (ℕ-discrete j k) [
-        | yes e ↦ subst (λ j. Seated members sender allowed (b′ .pool) j (getD (set (b .seats) k x) j emptySeat)) (sym e) (subst (Seated members sender allowed (b′ .pool) k) (sym (getD-set-same (b .seats) k x emptySeat (omega (arith, ok .long))))
-            (record { steady = steady; known = λ s m. elim (known s m) [ inl i ↦ grown-more (a .pool) s i | inr i ↦ a .pool .has s i ] }))
-        | no e ↦ let o = ok .each j l in subst (Seated members sender allowed (b′ .pool) j) (sym (getD-set-other (b .seats) k j x emptySeat e)) (record { steady = o .steady; known = λ s m. grown-more (a .pool) s (o .known s m) })
-      ]);
-    }
-
-    pub missing-in : (k : ℕ) → missing b k ⊆ b .pool
-    missing-in k a m = filter-out (λ s. not (any (sameStmt s) (seat b k .statements))) (b .pool) m .0
-
-    pub left-by : (k : ℕ) → k < 16 → (a : Call) → Fair (b .pool) a → Leaves members sender allowed (b .pool) k (out b k a)
-    left-by k near a fair = keeps members sender allowed (b .pool) (ok .clean) k near (seat b k .controller) (seat b k .statements) (ok .each k near) (hasRoom (b .pool)) a fair
-
-    pub step-healthy : (l : Option Line) → Legible l → Healthy (step b l .bench)
-    step-healthy l g = go (effect l g)
-      where
-        go : Effect b l → Healthy (step b l .bench)
-        go (rests r) = subst Healthy (sym (r .same)) ok
-        go (calls k a c) = let o = left-by k (c .near) a (c .fair) in healthy-after k (seatOf (out b k a)) (c .near) (c .after) (o .steady) (o .known) (λ s m. o .signs s m .0)
-        go (gives k c) =
-            let o = ok .each k (c .near) in
-            healthy-after k (filled b k) (c .near) (c .after) (o .steady) (λ s m. inl (elim (List·Memᴰ·append-cases (seat b k .statements) m) [ inl i ↦ o .known s i | inr i ↦ missing-in k s i ]))
-            (λ s m. absurd (List·Memᴰ·not-nil m))
-        go (lies s c) =
-            let o = ok .each 0 (omega arith) in
-            healthy-after 0 (seat b 0) (omega arith) (c .after) (o .steady) (λ x m. inl (o .known x m)) (λ x m. subst (λ x. T (fieldRules controllers x)) (sym (List·Memᴰ·eq-of-singleton m)) (c .clean))
-
-    -- the pool grows at its end
-    pub grows : (l : Option Line) → Effect b l → (D : List Stmt) × (step b l .bench .pool ≡ b .pool ++ D)
-    grows l (rests r) = ([], ap (λ x. x .pool) (r .same) ∙ sym (append-nil (b .pool)))
-    grows l (calls k a c) = c .after .pool .longer
-    grows l (gives k c) = c .after .pool .longer
-    grows l (lies s c) = c .after .pool .longer
-
-    -- ---- what the events of a line are
-
-    -- a fair call on a rule-follower, or a signing by a rule-breaker
-    abbrev pub Apt : Event → Type 0
-    Apt (call k a) = T (follower faulty k) × Fair (b .pool) a
-    Apt (signing s) = T (not (follower faulty (s .origin))) × T (fieldRules controllers s)
-
-    abbrev All : List Event → Type 0
-    All E = (e : Event) → e ∈ E → Apt e
-
-    marked-breaks : (k : ℕ) → T (bit faulty k) → T (not (follower faulty k))
-    unfolding follower
-    marked-breaks k t = not-T (ltb k controllers && not (bit faulty k)) (λ u. T-not (bit faulty k) (and-second (ltb k controllers) (not (bit faulty k)) u) t)
-
-    pub apt : (l : Option Line) → Effect b l → All (eventsOf b l)
-    apt l (rests r) = subst All (sym (r .events)) (λ e m. absurd (List·Memᴰ·not-nil m))
-    apt l (calls k a c) = subst All (sym (c .events)) (either All (isFollower b k) (λ f e m. subst Apt (sym (List·Memᴰ·eq-of-singleton m)) (yes-follows k f, c .fair))
-        (λ f e m. let (s, i, q) = Memᴰ·of-map signing (signedIn (out b k a .answer)) m in
-        let (clean, origin) = left-by k (c .near) a (c .fair) .signs s i in
-        subst Apt q (subst (λ j. T (not (follower faulty j))) (sym origin) (subst (λ x. T (not x)) (sym (no-follows k f)) tt), clean)))
-    apt l (gives k c) = subst All (sym (c .events)) (either All (isFollower b k)
-        (λ f e m. let (s, i, q) = Memᴰ·of-map (λ s. call k (addCall s)) (missing b k) m in subst Apt q (yes-follows k f, missing-in k s i)) (λ f e m. absurd (List·Memᴰ·not-nil m)))
-    apt l (lies s c) = subst All (sym (c .events)) (λ e m. subst Apt (sym (List·Memᴰ·eq-of-singleton m)) (marked-breaks (s .origin) (subst (λ x. T (bit x (s .origin))) (ok .marks) (c .marked)), c .clean))
-
-    -- ---- the lines of turns
-
-    -- an event that is a turn of k comes of a line that is a turn of k
-    abbrev Turns : Option Line → ℕ → List Event → Type 0
-    Turns l k E = call k turnCall ∈ E → Calls b l k turnCall
-
-    pub turn-line : (l : Option Line) (k : ℕ) → Effect b l → call k turnCall ∈ eventsOf b l → Calls b l k turnCall
-    turn-line l k (rests r) = subst (Turns l k) (sym (r .events)) (λ m. absurd (List·Memᴰ·not-nil m))
-    turn-line l k (calls j a c) = subst (Turns l k) (sym (c .events)) (either (Turns l k) (isFollower b j) (λ f m. let e = List·Memᴰ·eq-of-singleton m in let p : j ≡ k = cc (e) in let q : a ≡ turnCall = cc (e) in subst (λ k. Calls b l k turnCall) p (subst (Calls b l j) q c))
-        (λ f m. let (s, i, q) = Memᴰ·of-map signing (signedIn (out b j a .answer)) m in let z : _≡_ {A = ℕ} 0 1 = cc (q) in absurd (omega arith)))
-    turn-line l k (gives j c) = subst (Turns l k) (sym (c .events)) (either (Turns l k) (isFollower b j)
-        (λ f m. let (s, i, q) = Memᴰ·of-map (λ s. call j (addCall s)) (missing b j) m in let z : _≡_ {A = ℕ} 0 1 = cc (q) in absurd (omega arith)) (λ f m. absurd (List·Memᴰ·not-nil m)))
-    turn-line l k (lies s c) = subst (Turns l k) (sym (c .events)) (λ m. let e = List·Memᴰ·eq-of-singleton m in let z : _≡_ {A = ℕ} 0 1 = cc (e) in absurd (omega arith))
-
-    -- so does a row that only a turn prints
-    pub acting-line : (l : Option Line) → Effect b l → Acts (step b l .reply .answer) → Calls b l (step b l .reply .who) turnCall
-    acting-line l (rests r) t = absurd (r .idle t)
-    acting-line l (calls k a c) t =
-        let q = turn-only (hasRoom (b .pool)) (seat b k .controller) (seat b k .statements) a (subst Acts (c .answered) t) in
-        subst (λ k. Calls b l k turnCall) (sym (c .who)) (subst (Calls b l k) q c)
-    acting-line l (gives k c) t = absurd (subst Acts (c .answered) t)
-    acting-line l (lies s c) t = absurd (subst Acts (c .answered) t)
+  -- so does a row that only a turn prints
+  pub acting-line : (l : Option Line) → Effect b l → Acts (step b l .reply .answer) → Calls b l (step b l .reply .who) turnCall
+  acting-line l (rests r) t = absurd (r .idle t)
+  acting-line l (calls k a c) t =
+      let q = turn-only (hasRoom (b .pool)) (seat b k .controller) (seat b k .statements) a (subst Acts (c .answered) t) in
+      subst (λ k. Calls b l k turnCall) (sym (c .who)) (subst (Calls b l k) q c)
+  acting-line l (gives k c) t = absurd (subst Acts (c .answered) t)
+  acting-line l (lies s c) t = absurd (subst Acts (c .answered) t)

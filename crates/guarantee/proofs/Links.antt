@@ -1,37 +1,37 @@
 -- Event by event and line by line the bench goes as the run goes.
 -- Assumes nothing.
 use mathlib.Core.Path.{_≡_, refl, sym, ap, ap₂, subst, _∙_}
-use mathlib.Core.Logic.{_≢_, _⊎_, inl, inr}
-use mathlib.Core.Bool.{Bool, true, false, not, _&&_}
-use mathlib.Core.List.{List, [], _∷_, _++_, map, append-assoc, append-nil, List·Memᴰ·head, List·Memᴰ·tail, List·Memᴰ·not-nil, Memᴰ·append-left, Memᴰ·append-right, List·Memᴰ·append-cases, List·Memᴰ·eq-of-singleton, Memᴰ·of-map}
-use mathlib.Core.Option.{Option, some, none}
+use mathlib.Core.Logic.{_≢_, inl, inr}
+use mathlib.Core.Bool.{true, false, not}
+use mathlib.Core.List.{List, [], _∷_, _++_, map, append-assoc, append-nil, List·Memᴰ·head, List·Memᴰ·tail, Memᴰ·append-left, Memᴰ·append-right, List·Memᴰ·append-cases, List·Memᴰ·eq-of-singleton}
+use mathlib.Core.Option.{Option, some}
 use Prim.Native.Nat.{ℕ, suc, _+_, _≤_, _<_}
 use native.Mathlib.Decide.{ℕ-discrete, decLt}
 use native.Mathlib.Omega.{arith}
 use borrow.Author.Tests.{ne-eqb}
-use lib.Dec.{T, eqb, ltb, eqb-refl, T-not, not-T}
+use lib.Dec.{T, eqb, eqb-refl, T-not}
 use lib.ListN.{length, getD, getElem?}
 use lib.Seq.{append-snoc, getD-set-same, getD-set-other, set-getD}
-use Rattle.protocol.specs.Sets.{bit}
-use Rattle.protocol.specs.Lists.{if_then_else_, _∈_, _⊆_, any}
+use Rattle.protocol.specs.Lists.{_∈_, _⊆_, any}
 use Rattle.protocol.specs.View.{controllers}
 use Rattle.protocol.specs.Statement.{Stmt, sameStmt, fieldRules}
-use Rattle.protocol.specs.Controller.{Controller, Answer, taken, Outcome}
-use Rattle.protocol.specs.Call.{setupAllowed}
+use Rattle.protocol.specs.Controller.{Controller, Answer, taken}
 use Rattle.protocol.specs.Pool.{hasRoom}
-use Rattle.protocol.specs.Run.{Call, addCall, turnCall, outcome, Event, call, signing, Run, afterEvent, signedIn, event, returned, signedBy, signedBefore}
+use Rattle.protocol.specs.Run.{Call, addCall, outcome, Event, call, signing, Run, afterEvent, signedIn, event, returned, signedBy, signedBefore}
 use Rattle.protocol.proofs.Found.{filter-out}
-use Rattle.protocol.proofs.Rules.{and-second}
 use Rattle.protocol.proofs.Different.{Different}
 use Rattle.protocol.proofs.Asked.{says-has}
 use Rattle.schedule.specs.Line.{Line}
 use Rattle.bench.specs.Bench.{Seat, emptySeat, Bench, seat, missing, step}
-use Rattle.guarantee.specs.Events.{follower, Occurrence, isFollower, eventsOf, occurs, roomAt, runWith}
+use Rattle.guarantee.specs.Events.{follower, Occurrence, isFollower, eventsOf, roomAt, runWith}
 use Rattle.guarantee.proofs.Laws.{holds, fails, either, at-seam, one-longer, map-at, filter-different}
-use Rattle.guarantee.proofs.Seats.{seatOf, Fair}
-use Rattle.guarantee.proofs.Benches.{Grown, grown-more, grown-none, After, out, Calls, Gives, Effect, rests, calls, gives, lies, add-taken, Healthy, yes-follows, no-follows}
+use Rattle.guarantee.proofs.Seats.{seatOf, Setup}
+use Rattle.guarantee.proofs.Pools.{Grown, grown-more, grown-none, add-taken}
+use Rattle.guarantee.proofs.Lines.{After, Calls, Gives, Effect, rests, calls, gives, lies, Valid, yes-follows, no-follows}
 
-module _ (every : List Occurrence) (members sender faulty : ℕ) where
+module _ (every : List Occurrence) (u : Setup) where
+  open Setup u using (members, sender, faulty)
+
   abbrev R : Run
   R = runWith every members sender faulty
 
@@ -174,7 +174,7 @@ module _ (every : List Occurrence) (members sender faulty : ℕ) where
     pub linked : Linked q (step b l .bench)
     pub told : Told p q (step b l .reply .answer)
 
-  module _ (allowed : T (setupAllowed 0 members sender)) {b : Bench} (ok : Healthy members sender allowed faulty b) (l : Option Line) (p : ℕ) (link : Linked p b) where
+  module _ {b : Bench} (ok : Valid u b) (l : Option Line) (p : ℕ) (link : Linked p b) where
     abbrev b′ : Bench
     b′ = step b l .bench
 
@@ -220,7 +220,7 @@ module _ (every : List Occurrence) (members sender faulty : ℕ) where
 
     goes-all : (k : ℕ) → T (follower faulty k) → Gives b l k → Goes (map (λ s. call k (addCall s)) (missing b k))
     goes-all k t c comes =
-        let s = ok .each k (c .near) .steady in
+        let s = ok .each k (c .near) .inRing in
         let h = additions (b .pool) k (seat b k .controller) (s .isSetUp) (ap (λ Q. Q .width) (s .ring)) (missing b k) p (seat b k .statements) comes (link .seats k t) new
         (filter-different (λ s. not (any (sameStmt s) (seat b k .statements))) (b .pool) (ok .different)) (c .fits) in
         record {
@@ -236,6 +236,6 @@ module _ (every : List Occurrence) (members sender faulty : ℕ) where
     -- EACH LINE TAKES THE BENCH WHERE ITS EVENTS TAKE THE RUN
     pub goes : Effect b l → Goes (eventsOf b l)
     goes (rests r) = subst Goes (sym (r .events)) (goes-signings [] (subst (λ b′. Grown (b .pool) [] (b′ .pool)) (sym (r .same)) (grown-none (b .pool) refl)) (λ j t. ap (λ x. seat x j) (r .same)))
-    goes (calls k a c) = subst Goes (sym (c .events)) (either Goes (isFollower b k) (λ f. goes-call k a (yes-follows members sender allowed faulty ok k f) c) (λ f. goes-apart k (c .after) (no-follows members sender allowed faulty ok k f)))
-    goes (gives k c) = subst Goes (sym (c .events)) (either Goes (isFollower b k) (λ f. goes-all k (yes-follows members sender allowed faulty ok k f) c) (λ f. goes-apart k (c .after) (no-follows members sender allowed faulty ok k f)))
+    goes (calls k a c) = subst Goes (sym (c .events)) (either Goes (isFollower b k) (λ f. goes-call k a (yes-follows u ok k f) c) (λ f. goes-apart k (c .after) (no-follows u ok k f)))
+    goes (gives k c) = subst Goes (sym (c .events)) (either Goes (isFollower b k) (λ f. goes-all k (yes-follows u ok k f) c) (λ f. goes-apart k (c .after) (no-follows u ok k f)))
     goes (lies s c) = subst Goes (sym (c .events)) (goes-signings (s ∷ []) (c .after .pool) (λ j t. ap (λ X. getD X j emptySeat) (c .after .seats ∙ set-getD (b .seats) 0 emptySeat)))

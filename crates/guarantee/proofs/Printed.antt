@@ -27,15 +27,16 @@ use Rattle.protocol.proofs.Steps.{no-members}
 use Rattle.protocol.proofs.Carried.{carried, carried-no-conflict}
 use Rattle.schedule.specs.Line.{Line, lines, ReadAll}
 use Rattle.bench.specs.Bench.{newBench, Reply, step}
-use Rattle.bench.specs.Rows.{rowText, headerText, refusedRow, rowsFrom, Printed, Answered}
+use Rattle.bench.specs.Rows.{rowText, headerText, refusedRow, rowsFrom, Printed}
 use Rattle.bench.proofs.One.{read-all-one}
 use Rattle.guarantee.specs.Events.{follower, after}
 use Rattle.guarantee.specs.Rows.{InText, RepliedTo, finalPool, FewFaulty, Names, Says, SetUpBy, rows, Kept, Guarantee, InMemory}
-use Rattle.guarantee.proofs.Benches.{Legible, legible}
+use Rattle.guarantee.proofs.Lines.{Legible, legible}
+use Rattle.guarantee.proofs.Schedules.{AllLegible, Schedule}
 use Rattle.guarantee.proofs.Rows.{signed-number, entered-view, rows-kept}
 use Rattle.guarantee.proofs.Texts.{view-told, Told, answer-told, rowAt, out-at}
 
-legible-at : (S : List (List ℕ)) (L : List (Option Line)) → ReadAll S L → (n : ℕ) (l : Option Line) → getElem? L n ≡ some l → Legible l
+legible-at : (S : List (List ℕ)) (L : List (Option Line)) → ReadAll S L → AllLegible L
 legible-at [] [] r n l e = absurd (none≢some e)
 legible-at (s ∷ S) (x ∷ L) r zero l e = subst Legible (some-injective e) (legible s x (r .0))
 legible-at (s ∷ S) (x ∷ L) r (suc n) l e = legible-at S L (r .1) n l e
@@ -86,8 +87,8 @@ module _ (schedule out : List ℕ) (printed : Printed schedule out) (short : len
   set-up : SetUpBy L (RepliedTo L) first members sender faulty
   set-up = let b = behind first _ (start .taken .row) in record { line = start .line; taken = same first sender taken b (b .told) tt }
 
-  legibly : (n : ℕ) (l : Option Line) → getElem? L n ≡ some l → Legible l
-  legibly = legible-at (lines schedule) L reads
+  abbrev S : Schedule
+  S = record { L = L; reads = legible-at (lines schedule) L reads; first = first; members = members; sender = sender; faulty = faulty; start = set-up }
 
   module _ (few : FewFaulty L members faulty) where
     fits : (v : View) → T (isView controllers v) → (v .joined < 2 ^ 16) × (v .left < 2 ^ 16)
@@ -100,12 +101,12 @@ module _ (schedule out : List ℕ) (printed : Printed schedule out) (short : len
         let b = behind n _ (s .row) in
         let (y, e, f) = b .told in
         let here : getElem? (finalPool L) (b .number) ≡ some x = ap (getElem? (finalPool L)) f ∙ s .names in
-        let q : y ≡ x = some-injective (sym (signed-number L legibly first members sender faulty set-up n k y (b .number) (replies n b (signed y) e)) ∙ here) in
+        let q : y ≡ x = some-injective (sym (signed-number S n k y (b .number) (replies n b (signed y) e)) ∙ here) in
         same n k (signed x) b (e ∙ ap signed q) here
     said n k (entered v) t s =
         let b = behind n _ (s .row) in
         let (u, e, f) = b .told in
-        let here = entered-view L legibly first members sender faulty set-up few n k (b .number) u t (replies n b (entered u) e) in
+        let here = entered-view S few n k (b .number) u t (replies n b (entered u) e) in
         same n k (entered v) b (e ∙ ap entered (view-told u v (fits u here) (fits v (s .names)) f)) (s .names)
     said n k (delivered m) t s = let b = behind n _ (s .row) in same n k (delivered m) b (b .told) tt
     said n k left t s = let b = behind n _ (s .row) in same n k left b (b .told) tt
@@ -116,7 +117,7 @@ module _ (schedule out : List ℕ) (printed : Printed schedule out) (short : len
     back n k s t p = record { number = p .number; row = shown n _ (p .row); names = p .names }
 
     kept : Kept L (RepliedTo L) members sender faulty
-    kept = rows-kept L legibly first members sender faulty set-up few
+    kept = rows-kept S few
 
     printed-kept : Kept L (InText out) members sender faulty
     printed-kept =

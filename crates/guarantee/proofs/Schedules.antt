@@ -3,7 +3,7 @@
 --     is-run    it is a run as IsRun asks, where few are marked faulty
 -- Assumes nothing.
 use mathlib.Core.Path.{_≡_, refl, sym, ap, ap₂, subst, _∙_}
-use mathlib.Core.Logic.{_⊎_, inl, inr}
+use mathlib.Core.Logic.{inl, inr}
 use mathlib.Core.Bool.{Bool, true, false, not, _&&_, true≢false}
 use mathlib.Core.List.{List, [], _++_, map, append-assoc, append-nil, Memᴰ·append-left, Memᴰ·of-map}
 use mathlib.Core.Option.{Option, some, none}
@@ -17,44 +17,40 @@ use Rattle.protocol.specs.Sets.{bit}
 use Rattle.protocol.specs.Lists.{_∈_, _⊆_}
 use Rattle.protocol.specs.View.{controllers, View, member}
 use Rattle.protocol.specs.History.{top}
-use Rattle.protocol.specs.Statement.{Stmt}
 use Rattle.protocol.specs.Evidence.{Sealed}
 use Rattle.protocol.specs.Controller.{taken}
-use Rattle.protocol.specs.Call.{setupAllowed, ringOf}
+use Rattle.protocol.specs.Call.{ringOf}
 use Rattle.protocol.specs.Run.{Call, addCall, Event, call, signing, Run, event, returned, signedBefore, statements, FewBreakers, IsRun}
 use Rattle.protocol.proofs.Found.{none≢some, some-injective}
 use Rattle.protocol.proofs.Rules.{and-first, and-second}
 use Rattle.protocol.proofs.Counting.{count-mono}
 use Rattle.protocol.proofs.Monotone.{mono}
 use Rattle.schedule.specs.Line.{Line, setup}
-use Rattle.bench.specs.Bench.{Bench, newBench, step}
+use Rattle.bench.specs.Bench.{newBench, step}
 use Rattle.guarantee.specs.Events.{follower, Occurrence, afterLine, occurs, eventsOf, line, after, occurred, runOf}
-use Rattle.guarantee.specs.Link.{RowOf, MakesUp}
+use Rattle.guarantee.specs.Link.{eventsBefore, RowOf, MakesUp}
 use Rattle.guarantee.specs.Rows.{RepliedTo, SetUpBy, finalPool, FewFaulty}
 use Rattle.guarantee.proofs.Laws.{at-in, at-cases, at-map, once-in}
-use Rattle.guarantee.proofs.Seats.{seatOf, setup-starts}
-use Rattle.guarantee.proofs.Benches.{Legible, Acts, Rests, Effect, startedBench, Starts, setup-taken, new-line, Healthy, started-seat, started-healthy, effect, step-healthy, Apt, apt}
+use Rattle.guarantee.proofs.Seats.{seatOf, Setup, setup-starts}
+use Rattle.guarantee.proofs.Lines.{Legible, Acts, Rests, Effect, startedBench, Starts, setupOf, setup-taken, new-line, Valid, started-seat, started-valid, effect}
+use Rattle.guarantee.proofs.Benches.{step-valid, Admitted, admitted}
 use Rattle.guarantee.proofs.Links.{Comes, past-is, comes-at, Linked, Passes, goes}
 
-module _ (L : List (Option Line)) (reads : (n : ℕ) (l : Option Line) → getElem? L n ≡ some l → Legible l) where
-  -- ---- what comes of the lines
+-- ---- what comes of the lines
 
+module _ (L : List (Option Line)) where
   -- what came before goes on
   prefix : (m n : ℕ) → m ≤ n → (D : List Occurrence) × (occurred L n ≡ occurred L m ++ D)
   unfolding occurred
   prefix m n h = le-ind (λ n. (D : List Occurrence) × (occurred L n ≡ occurred L m ++ D)) ([], sym (append-nil (occurred L m)))
       (λ j _ (D, e). (D ++ occurs (after L j) (line L j), ap (λ O. O ++ occurs (after L j) (line L j)) e ∙ append-assoc (occurred L m) D (occurs (after L j) (line L j)))) n h
 
-  -- the place in the run to which n lines lead
-  abbrev pub place : ℕ → ℕ
-  place n = length (occurred L n)
-
-  pub place-up : (m n : ℕ) → m ≤ n → place m ≤ place n
+  pub place-up : (m n : ℕ) → m ≤ n → eventsBefore L m ≤ eventsBefore L n
   place-up m n h = let (D, e) = prefix m n h in omega (arith, ap length e, length-append (occurred L m) D)
 
-  pub place-next : (n : ℕ) (l : Option Line) → getElem? L n ≡ some l → place (suc n) ≡ place n + length (occurs (after L n) (some l))
+  pub place-next : (n : ℕ) (l : Option Line) → getElem? L n ≡ some l → eventsBefore L (suc n) ≡ eventsBefore L n + length (occurs (after L n) (some l))
   unfolding occurred
-  place-next n l e = length-append (occurred L n) (occurs (after L n) (line L n)) ∙ ap (λ x. place n + length (occurs (after L n) x)) e
+  place-next n l e = length-append (occurred L n) (occurs (after L n) (line L n)) ∙ ap (λ x. eventsBefore L n + length (occurs (after L n) x)) e
 
   -- an occurrence comes of a line
   record From (i : ℕ) (o : Occurrence) : Type 0 where
@@ -62,8 +58,8 @@ module _ (L : List (Option Line)) (reads : (n : ℕ) (l : Option Line) → getEl
     of : Option Line
     there : getElem? L at ≡ some of
     one : o ∈ occurs (after L at) (some of)
-    low : place at ≤ i
-    high : i < place (suc at)
+    low : eventsBefore L at ≤ i
+    high : i < eventsBefore L (suc at)
 
   from : (N i : ℕ) (o : Occurrence) → getElem? (occurred L N) i ≡ some o → From i o
   unfolding occurred occurs
@@ -76,212 +72,228 @@ module _ (L : List (Option Line)) (reads : (n : ℕ) (l : Option Line) → getEl
           let (m, lt) = at-in (occurs (after L N) (some l)) j h in
           record { at = N; of = l; there = f; one = m; low = omega arith; high = omega (arith, place-next N l f) }
 
-  -- ---- a setup that is taken in line `first`
+-- ---- a setup that is taken in line `first`
 
-  module _ (first members sender faulty : ℕ) (there : getElem? L first ≡ some (some (setup members sender faulty))) (starts : Starts (after L first) members sender faulty) where
-    started-at : after L (suc first) ≡ startedBench members sender faulty
-    unfolding after afterLine
-    started-at = ap (afterLine (after L first)) there ∙ starts .after
+abbrev pub AllLegible : List (Option Line) → Type 0
+AllLegible L = (n : ℕ) (l : Option Line) → getElem? L n ≡ some l → Legible l
 
-    well-from : (n : ℕ) → first < n → Healthy members sender (starts .allowed) faulty (after L n)
-    unfolding after afterLine
-    well-from n h = le-ind Well (subst (Healthy members sender (starts .allowed) faulty) (sym started-at) (started-healthy members sender (starts .allowed) faulty)) (λ j _ w. go j w (line L j) refl) n h
-      where
-        Well : ℕ → Type 0
-        Well n = Healthy members sender (starts .allowed) faulty (after L n)
+module _ (L : List (Option Line)) (reads : AllLegible L) (first : ℕ) {members sender faulty : ℕ} (there : getElem? L first ≡ some (some (setup members sender faulty))) (starts : Starts (after L first) members sender faulty) where
+  started-at : after L (suc first) ≡ startedBench members sender faulty
+  unfolding after afterLine
+  started-at = ap (afterLine (after L first)) there ∙ starts .after
 
-        go : (j : ℕ) → Well j → (x : Option (Option Line)) → line L j ≡ x → Healthy members sender (starts .allowed) faulty (afterLine (after L j) x)
-        go j w none e = w
-        go j w (some l) e = step-healthy members sender (starts .allowed) faulty w l (reads j l e)
+  valid-from : (n : ℕ) → first < n → Valid (setupOf starts) (after L n)
+  unfolding after afterLine
+  valid-from n h = le-ind (λ n. Valid (setupOf starts) (after L n)) (subst (Valid (setupOf starts)) (sym started-at) (started-valid (setupOf starts))) (λ j _ v. go j v (line L j) refl) n h
+    where
+      go : (j : ℕ) → Valid (setupOf starts) (after L j) → (x : Option (Option Line)) → line L j ≡ x → Valid (setupOf starts) (afterLine (after L j) x)
+      go j v none e = v
+      go j v (some l) e = step-valid (setupOf starts) v l (reads j l e)
 
-  module _ (first members sender faulty : ℕ) (start : SetUpBy L (RepliedTo L) first members sender faulty) where
-    answered : step (after L first) (some (setup members sender faulty)) .reply .answer ≡ taken
-    answered =
-        let r = start .taken .row in
-        ap (λ l. step (after L first) l .reply .answer) (some-injective (sym (start .line) ∙ r .there)) ∙ ap (λ x. x .answer) (r .reply)
+-- a schedule whose setup in line `first` is taken
+pub record Schedule : Type 0 where
+  pub L : List (Option Line)
+  pub reads : AllLegible L
+  pub first : ℕ
+  pub members : ℕ
+  pub sender : ℕ
+  pub faulty : ℕ
+  pub start : SetUpBy L (RepliedTo L) first members sender faulty
 
-    pub begun : Starts (after L first) members sender faulty
-    begun = setup-taken (after L first) members sender faulty answered
+module _ (S : Schedule) where
+  open Schedule S using (L, reads, first, members, sender, faulty, start)
 
-    abbrev pub ok : T (setupAllowed 0 members sender)
-    ok = begun .allowed
+  answered : step (after L first) (some (setup members sender faulty)) .reply .answer ≡ taken
+  answered =
+      let r = start .taken .row in
+      ap (λ l. step (after L first) l .reply .answer) (some-injective (sym (start .line) ∙ r .there)) ∙ ap (λ x. x .answer) (r .reply)
 
-    pub well : (n : ℕ) → first < n → Healthy members sender ok faulty (after L n)
-    well = well-from first members sender faulty (start .line) begun
+  -- the place in the run to which n lines lead
+  abbrev pub place : ℕ → ℕ
+  place n = eventsBefore L n
 
-    -- before it nothing happens
-    early : (n : ℕ) → n < first → after L n ≡ newBench → (l : Option Line) → getElem? L n ≡ some l → Rests newBench l
-    early n h e l there = elim (new-line l) [
-      | inl r ↦ r
-      | inr (m, s, f, q, w) ↦ absurd (true≢false (sym (well-from n m s f (there ∙ ap some q) (subst (λ b. Starts b m s f) (sym e) w) first h .isSetUp) ∙ begun .before))
+  pub begun : Starts (after L first) members sender faulty
+  begun = setup-taken (after L first) members sender faulty answered
+
+  abbrev pub u : Setup
+  u = setupOf begun
+
+  pub valid : (n : ℕ) → first < n → Valid u (after L n)
+  valid = valid-from L reads first (start .line) begun
+
+  -- before it nothing happens
+  early : (n : ℕ) → n < first → after L n ≡ newBench → (l : Option Line) → getElem? L n ≡ some l → Rests newBench l
+  early n h e l there = elim (new-line l) [
+    | inl r ↦ r
+    | inr (m, s, f, q, w) ↦ absurd (true≢false (sym (valid-from L reads n (there ∙ ap some q) (subst (λ b. Starts b m s f) (sym e) w) first h .isSetUp) ∙ begun .before))
+  ]
+
+  fresh : (n : ℕ) → n ≤ first → (after L n ≡ newBench) × (occurred L n ≡ [])
+  unfolding after afterLine occurred occurs
+  fresh zero h = (refl, refl)
+  fresh (suc n) h = let (e, f) = fresh n (omega arith) in go e f (line L n) refl
+    where
+      go : after L n ≡ newBench → occurred L n ≡ [] → (x : Option (Option Line)) → line L n ≡ x → (afterLine (after L n) x ≡ newBench) × (occurred L n ++ occurs (after L n) x ≡ [])
+      go e f none g = (e, ap (λ O. O ++ []) f)
+      go e f (some l) g =
+          let r = early n (omega arith) e l g in
+          (ap (λ b. step b l .bench) e ∙ r .same, ap₂ (λ O b. O ++ occurs b (some l)) f e ∙ ap (map (λ e. record { event = e; pool = [] })) (r .events))
+
+  nothing-yet : occurred L (suc first) ≡ []
+  unfolding occurred occurs eventsOf
+  nothing-yet = let (_, f) = fresh first (omega arith) in ap₂ (λ O x. O ++ occurs (after L first) x) f (start .line)
+
+  -- so a row that only a turn prints comes later, and so does what occurs
+  pub acts-late : (n : ℕ) (l : Option Line) → getElem? L n ≡ some l → Acts (step (after L n) l .reply .answer) → first < n
+  acts-late n l e t = elim (decLt first n) [
+    | yes h ↦ h
+    | no h ↦ elim (decLt n first) [
+      | yes g ↦ let (f, _) = fresh n (omega arith) in absurd (early n g f l e .idle (subst (λ b. Acts (step b l .reply .answer)) f t))
+      | no g ↦
+          let is : n ≡ first = omega arith in
+          let q : l ≡ some (setup members sender faulty) = some-injective (sym e ∙ ap (getElem? L) is ∙ start .line) in
+          absurd (subst Acts (ap₂ (λ n l. step (after L n) l .reply .answer) is q ∙ answered) t)
     ]
+  ]
 
-    fresh : (n : ℕ) → n ≤ first → (after L n ≡ newBench) × (occurred L n ≡ [])
-    unfolding after afterLine occurred occurs
-    fresh zero h = (refl, refl)
-    fresh (suc n) h = let (e, f) = fresh n (omega arith) in go e f (line L n) refl
-      where
-        go : after L n ≡ newBench → occurred L n ≡ [] → (x : Option (Option Line)) → line L n ≡ x → (afterLine (after L n) x ≡ newBench) × (occurred L n ++ occurs (after L n) x ≡ [])
-        go e f none g = (e, ap (λ O. O ++ []) f)
-        go e f (some l) g =
-            let r = early n (omega arith) e l g in
-            (ap (λ b. step b l .bench) e ∙ r .same, ap₂ (λ O b. O ++ occurs b (some l)) f e ∙ ap (map (λ e. record { event = e; pool = [] })) (r .events))
+  late : (i n : ℕ) → i < place (suc n) → first < n
+  late i n h = elim (decLt first n) [ yes l ↦ l | no l ↦ absurd (omega (arith, place-up L (suc n) (suc first) (omega arith), ap length nothing-yet)) ]
 
-    nothing-yet : occurred L (suc first) ≡ []
-    unfolding occurred occurs eventsOf
-    nothing-yet = let (_, f) = fresh first (omega arith) in ap₂ (λ O x. O ++ occurs (after L first) x) f (start .line)
+  -- ---- the run
 
-    -- so a row that only a turn prints comes later, and so does what occurs
-    pub acts-late : (n : ℕ) (l : Option Line) → getElem? L n ≡ some l → Acts (step (after L n) l .reply .answer) → first < n
-    acts-late n l e t = elim (decLt first n) [
-      | yes h ↦ h
-      | no h ↦ elim (decLt n first) [
-        | yes g ↦ let (f, _) = fresh n (omega arith) in absurd (early n g f l e .idle (subst (λ b. Acts (step b l .reply .answer)) f t))
-        | no g ↦
-            let is : n ≡ first = omega arith in
-            let q : l ≡ some (setup members sender faulty) = some-injective (sym e ∙ ap (getElem? L) is ∙ start .line) in
-            absurd (subst Acts (ap₂ (λ n l. step (after L n) l .reply .answer) is q ∙ answered) t)
-      ]
-    ]
+  abbrev pub every : List Occurrence
+  every = occurred L (length L)
 
-    late : (i n : ℕ) → i < place (suc n) → first < n
-    late i n h = elim (decLt first n) [ yes l ↦ l | no l ↦ absurd (omega (arith, place-up (suc n) (suc first) (omega arith), ap length nothing-yet)) ]
+  abbrev pub run : Run
+  run = runOf L members sender faulty
 
-    -- ---- the run
+  abbrev pub LinkedAt : ℕ → Type 0
+  LinkedAt n = Linked every u (place n) (after L n)
 
-    abbrev pub every : List Occurrence
-    every = occurred L (length L)
+  first-link : Linked every u 0 (startedBench members sender faulty)
+  unfolding returned signedBefore follower
+  first-link = record {
+    seats = λ k t. let l = ltb→lt k controllers (and-first (ltb k controllers) (not (bit faulty k)) t) in ap seatOf (setup-starts u k l) ∙ sym (started-seat u k l);
+    known = λ a m. m;
+    has = λ a m. m;
+  }
 
-    abbrev pub run : Run
-    run = runOf L members sender faulty
+  pub effect-at : (n : ℕ) (l : Option Line) → getElem? L n ≡ some l → first < n → Effect (after L n) l
+  effect-at n l e h = effect u (valid n h) l (reads n l e)
 
-    abbrev pub LinkedAt : ℕ → Type 0
-    LinkedAt n = Linked every members sender faulty (place n) (after L n)
+  pub comes : (n : ℕ) (l : Option Line) → getElem? L n ≡ some l → Comes every u (place n) (occurs (after L n) (some l))
+  unfolding occurred
+  comes n l e =
+      let (D, f) = prefix L (suc n) (length L) (at-in L n e .1) in
+      comes-at every u (occurs (after L n) (some l)) (occurred L n) D (f ∙ ap (λ x. (occurred L n ++ occurs (after L n) x) ++ D) e ∙ append-assoc (occurred L n) (occurs (after L n) (some l)) D)
 
-    first-link : Linked every members sender faulty 0 (startedBench members sender faulty)
-    unfolding returned signedBefore follower
-    first-link = record {
-      seats = λ k t. let l = ltb→lt k controllers (and-first (ltb k controllers) (not (bit faulty k)) t) in ap seatOf (setup-starts members sender ok k l) ∙ sym (started-seat members sender ok faulty k l);
-      known = λ a m. m;
-      has = λ a m. m;
-    }
+  pub passes : (n : ℕ) (l : Option Line) → getElem? L n ≡ some l → first < n → LinkedAt n → Passes every u (after L n) l (place n) (place (suc n))
+  unfolding occurs
+  passes n l e h link =
+      subst (Passes every u (after L n) l (place n)) (past-is every u (place n) (occurs (after L n) (some l)) ∙ sym (place-next L n l e))
+      (goes every u (valid n h) l (place n) link (effect-at n l e h) (comes n l e))
 
-    pub effect-at : (n : ℕ) (l : Option Line) → getElem? L n ≡ some l → first < n → Effect (after L n) l
-    effect-at n l e h = effect members sender ok faulty (well n h) l (reads n l e)
+  -- after any number of lines the bench is where the run is
+  pub linked : (n : ℕ) → first < n → LinkedAt n
+  unfolding after afterLine occurred occurs
+  linked n h = le-ind LinkedAt (subst (λ O. Linked every u (length O) (after L (suc first))) (sym nothing-yet) (subst (Linked every u 0) (sym (started-at L reads first (start .line) begun)) first-link))
+      (λ j l k. go j l k (line L j) refl) n h
+    where
+      go : (j : ℕ) → suc first ≤ j → LinkedAt j → (x : Option (Option Line)) → line L j ≡ x → LinkedAt (suc j)
+      go j l k none e = subst (λ x. Linked every u (length (occurred L j ++ occurs (after L j) x)) (afterLine (after L j) x)) (sym e) (subst (λ O. Linked every u (length O) (after L j)) (sym (append-nil (occurred L j))) k)
+      go j l k (some x) e = subst (λ y. Linked every u (place (suc j)) (afterLine (after L j) y)) (sym e) (passes j x e l k .linked)
 
-    pub comes : (n : ℕ) (l : Option Line) → getElem? L n ≡ some l → Comes every members sender faulty (place n) (occurs (after L n) (some l))
-    unfolding occurred
-    comes n l e =
-        let (D, f) = prefix (suc n) (length L) (at-in L n e .1) in
-        comes-at every members sender faulty (occurs (after L n) (some l)) (occurred L n) D (f ∙ ap (λ x. (occurred L n ++ occurs (after L n) x) ++ D) e ∙ append-assoc (occurred L n) (occurs (after L n) (some l)) D)
+  -- ---- its premises
 
-    pub passes : (n : ℕ) (l : Option Line) → getElem? L n ≡ some l → first < n → LinkedAt n → Passes every members sender faulty (after L n) l (place n) (place (suc n))
-    unfolding occurs
-    passes n l e h link =
-        subst (Passes every members sender faulty (after L n) l (place n)) (past-is every members sender faulty (place n) (occurs (after L n) (some l)) ∙ sym (place-next n l e))
-        (goes every members sender faulty ok (well n h) l (place n) link (effect-at n l e h) (comes n l e))
+  -- event i of the run, and the line that it comes of
+  pub record FromLine (i : ℕ) (e : Event) : Type 0 where
+    pub at : ℕ
+    pub of : Option Line
+    pub there : getElem? L at ≡ some of
+    pub one : e ∈ eventsOf (after L at) of
+    pub low : place at ≤ i
+    pub high : i < place (suc at)
+    pub later : first < at
 
-    -- after any number of lines the bench is where the run is
-    pub linked : (n : ℕ) → first < n → LinkedAt n
-    unfolding after afterLine occurred occurs
-    linked n h = le-ind LinkedAt (subst (λ O. Linked every members sender faulty (length O) (after L (suc first))) (sym nothing-yet) (subst (Linked every members sender faulty 0) (sym (started-at first members sender faulty (start .line) begun)) first-link))
-        (λ j l k. go j l k (line L j) refl) n h
-      where
-        go : (j : ℕ) → suc first ≤ j → LinkedAt j → (x : Option (Option Line)) → line L j ≡ x → LinkedAt (suc j)
-        go j l k none e = subst (λ x. Linked every members sender faulty (length (occurred L j ++ occurs (after L j) x)) (afterLine (after L j) x)) (sym e) (subst (λ O. Linked every members sender faulty (length O) (after L j)) (sym (append-nil (occurred L j))) k)
-        go j l k (some x) e = subst (λ y. Linked every members sender faulty (place (suc j)) (afterLine (after L j) y)) (sym e) (passes j x e l k .linked)
+  pub from-line : (i : ℕ) (e : Event) → event run i ≡ some e → FromLine i e
+  unfolding occurs
+  from-line i e f =
+      let (o, g, h) = at-map (λ (o : Occurrence). o .event) every i f in
+      let r = from L (length L) i o g in
+      let (x, m, q) = Memᴰ·of-map (λ e. record { event = e; pool = after L (r .at) .pool }) (eventsOf (after L (r .at)) (r .of)) (r .one) in
+      let is : x ≡ e = ap (λ (o : Occurrence). o .event) q ∙ h in
+      record { at = r .at; of = r .of; there = r .there; one = subst (λ e. e ∈ eventsOf (after L (r .at)) (r .of)) is m; low = r .low; high = r .high; later = late i (r .at) (r .high) }
 
-    -- ---- its premises
+  pub admitted-at : (i : ℕ) (e : Event) (r : FromLine i e) → Admitted u (valid (r .at) (r .later)) e
+  admitted-at i e r = admitted u (valid (r .at) (r .later)) (r .of) (effect-at (r .at) (r .of) (r .there) (r .later)) e (r .one)
 
-    -- event i of the run, and the line that it comes of
-    pub record Stems (i : ℕ) (e : Event) : Type 0 where
-      pub at : ℕ
-      pub of : Option Line
-      pub there : getElem? L at ≡ some of
-      pub one : e ∈ eventsOf (after L at) of
-      pub low : place at ≤ i
-      pub high : i < place (suc at)
-      pub later : first < at
+  signed-on : (m n : ℕ) → m ≤ n → signedBefore run m ⊆ signedBefore run n
+  unfolding signedBefore
+  signed-on m n h = le-ind (λ n. signedBefore run m ⊆ signedBefore run n) (λ a i. i) (λ j _ f a i. Memᴰ·append-left _ (f a i)) n h
 
-    pub stem : (i : ℕ) (e : Event) → event run i ≡ some e → Stems i e
-    unfolding occurs
-    stem i e f =
-        let (o, g, h) = at-map (λ (o : Occurrence). o .event) every i f in
-        let r = from (length L) i o g in
-        let (x, m, q) = Memᴰ·of-map (λ e. record { event = e; pool = after L (r .at) .pool }) (eventsOf (after L (r .at)) (r .of)) (r .one) in
-        let is : x ≡ e = ap (λ (o : Occurrence). o .event) q ∙ h in
-        record { at = r .at; of = r .of; there = r .there; one = subst (λ e. e ∈ eventsOf (after L (r .at)) (r .of)) is m; low = r .low; high = r .high; later = late i (r .at) (r .high) }
+  -- the whole schedule is after the setup
+  whole : first < length L
+  whole = at-in L first (start .line) .1
 
-    pub apt-at : (i : ℕ) (e : Event) (r : Stems i e) → Apt members sender ok faulty (well (r .at) (r .later)) e
-    apt-at i e r = apt members sender ok faulty (well (r .at) (r .later)) (r .of) (effect-at (r .at) (r .of) (r .there) (r .later)) e (r .one)
+  long-is : length (run .events) ≡ place (length L)
+  long-is = length-map every (λ o. o .event)
 
-    signed-on : (m n : ℕ) → m ≤ n → signedBefore run m ⊆ signedBefore run n
-    unfolding signedBefore
-    signed-on m n h = le-ind (λ n. signedBefore run m ⊆ signedBefore run n) (λ a i. i) (λ j _ f a i. Memᴰ·append-left _ (f a i)) n h
+  statements-pooled : statements run ⊆ finalPool L
+  unfolding statements
+  statements-pooled a m = linked (length L) whole .known a (subst (λ n. a ∈ signedBefore run n) long-is m)
 
-    -- the whole schedule is after the setup
-    whole : first < length L
-    whole = at-in L first (start .line) .1
+  pub pooled-statements : finalPool L ⊆ statements run
+  unfolding statements
+  pooled-statements a m = subst (λ n. a ∈ signedBefore run n) (sym long-is) (linked (length L) whole .has a m)
 
-    long-is : length (run .events) ≡ place (length L)
-    long-is = length-map every (λ o. o .event)
+  premises : ((H : List View) → Sealed (ringOf members) (statements run) H → FewBreakers run (top (ringOf members) H)) → IsRun run
+  unfolding follower
+  premises few = record {
+    numbered = λ k t. ltb→lt k controllers (and-first (ltb k controllers) (not (bit faulty k)) t);
+    started = λ k l. ap (λ o. o .answer) (setup-starts u k l);
+    calls = λ n k c e. admitted-at n (call k c) (from-line n (call k c) e) .0;
+    signings = λ n s e. admitted-at n (signing s) (from-line n (signing s) e);
+    unforged = λ n k s e _. let r = from-line n (call k (addCall s)) e in signed-on (place (r .at)) n (r .low) s (linked (r .at) (r .later) .has s (admitted-at n (call k (addCall s)) r .1));
+    fewBreakers = few;
+  }
 
-    statements-pooled : statements run ⊆ finalPool L
-    unfolding statements
-    statements-pooled a m = linked (length L) whole .known a (subst (λ n. a ∈ signedBefore run n) long-is m)
+  row-of : (i k : ℕ) (c : Call) → event run i ≡ some (call k c) → RowOf L run i k
+  row-of i k c e =
+      let r = from-line i (call k c) e in
+      record {
+        number = r .at;
+        line = r .of;
+        there = r .there;
+        from = r .low;
+        to = r .high;
+        answer = passes (r .at) (r .of) (r .there) (r .later) (linked (r .at) (r .later)) .told i k c (r .low) (r .high) e;
+      }
 
-    pub pooled-statements : finalPool L ⊆ statements run
-    unfolding statements
-    pooled-statements a m = subst (λ n. a ∈ signedBefore run n) (sym long-is) (linked (length L) whole .has a m)
+  -- THE LINES OF A SCHEDULE MAKE UP A RUN
+  pub makes-up : MakesUp L first members sender faulty
+  makes-up = record {
+    premises = premises;
+    controllers = λ n k h t. ap (λ s. s .controller) (linked n h .seats k t);
+    records = λ n k h t. ap (λ s. s .statements) (linked n h .seats k t);
+    pooled = λ n h. linked n h .known;
+    signed = λ n h. linked n h .has;
+    once = λ n i j s h e f. once-in (after L n .pool) (valid n h .different) i j e f;
+    answers = row-of;
+  }
 
-    premises : ((H : List View) → Sealed (ringOf members) (statements run) H → FewBreakers run (top (ringOf members) H)) → IsRun run
-    unfolding follower
-    premises few = record {
-      numbered = λ k t. ltb→lt k controllers (and-first (ltb k controllers) (not (bit faulty k)) t);
-      started = λ k l. ap (λ o. o .answer) (setup-starts members sender ok k l);
-      calls = λ n k c e. apt-at n (call k c) (stem n (call k c) e) .0;
-      signings = λ n s e. apt-at n (signing s) (stem n (signing s) e);
-      unforged = λ n k s e _. let r = stem n (call k (addCall s)) e in signed-on (place (r .at)) n (r .low) s (linked (r .at) (r .later) .has s (apt-at n (call k (addCall s)) r .1));
-      fewBreakers = few;
-    }
+  few-break : FewFaulty L members faulty → (H : List View) → Sealed (ringOf members) (statements run) H → FewBreakers run (top (ringOf members) H)
+  unfolding FewBreakers follower
+  few-break few H h =
+      let t : View = top (ringOf members) H in
+      omega (arith, few .few H (mono statements-pooled h), count-mono controllers (λ k. member t k && not (ltb k controllers && not (bit faulty k))) (λ k. member t k && bit faulty k) (marked t))
+    where
+      both : (x y : Bool) → T x → T (not (true && not y)) → T (x && y)
+      both true true s t = tt
+      both true false s t = t
 
-    row-of : (i k : ℕ) (c : Call) → event run i ≡ some (call k c) → RowOf L run i k
-    row-of i k c e =
-        let r = stem i (call k c) e in
-        record {
-          number = r .at;
-          line = r .of;
-          there = r .there;
-          from = r .low;
-          to = r .high;
-          answer = passes (r .at) (r .of) (r .there) (r .later) (linked (r .at) (r .later)) .told i k c (r .low) (r .high) e;
-        }
+      marked : (t : View) (k : ℕ) → k < controllers → T (member t k && not (ltb k controllers && not (bit faulty k))) → T (member t k && bit faulty k)
+      marked t k l m = both (member t k) (bit faulty k) (and-first (member t k) (not (ltb k controllers && not (bit faulty k))) m)
+          (subst (λ x. T (not (x && not (bit faulty k)))) (lt-ltb k controllers l) (and-second (member t k) (not (ltb k controllers && not (bit faulty k))) m))
 
-    -- THE LINES OF A SCHEDULE MAKE UP A RUN
-    pub makes-up : MakesUp L first members sender faulty
-    makes-up = record {
-      premises = premises;
-      controllers = λ n k h t. ap (λ s. s .controller) (linked n h .seats k t);
-      records = λ n k h t. ap (λ s. s .statements) (linked n h .seats k t);
-      pooled = λ n h. linked n h .known;
-      signed = λ n h. linked n h .has;
-      once = λ n i j s h e f. once-in (after L n .pool) (well n h .different) i j e f;
-      answers = row-of;
-    }
-
-    few-break : FewFaulty L members faulty → (H : List View) → Sealed (ringOf members) (statements run) H → FewBreakers run (top (ringOf members) H)
-    unfolding FewBreakers follower
-    few-break few H h =
-        let t : View = top (ringOf members) H in
-        omega (arith, few .few H (mono statements-pooled h), count-mono controllers (λ k. member t k && not (ltb k controllers && not (bit faulty k))) (λ k. member t k && bit faulty k) (marked t))
-      where
-        both : (x y : Bool) → T x → T (not (true && not y)) → T (x && y)
-        both true true s t = tt
-        both true false s t = t
-
-        marked : (t : View) (k : ℕ) → k < controllers → T (member t k && not (ltb k controllers && not (bit faulty k))) → T (member t k && bit faulty k)
-        marked t k l m = both (member t k) (bit faulty k) (and-first (member t k) (not (ltb k controllers && not (bit faulty k))) m)
-            (subst (λ x. T (not (x && not (bit faulty k)))) (lt-ltb k controllers l) (and-second (member t k) (not (ltb k controllers && not (bit faulty k))) m))
-
-    pub is-run : FewFaulty L members faulty → IsRun run
-    is-run few = premises (few-break few)
+  pub is-run : FewFaulty L members faulty → IsRun run
+  is-run few = premises (few-break few)

@@ -16,7 +16,7 @@ use Rattle.protocol.specs.View.{controllers, View, member, memberCount, isView}
 use Rattle.protocol.specs.History.{top}
 use Rattle.protocol.specs.Statement.{Stmt, Binding, bound, sameStmt, fieldRules}
 use Rattle.protocol.specs.Evidence.{candidates, isConflict}
-use Rattle.protocol.specs.Controller.{Controller, notSetUp, withBinding, withEntered, withDelivered, withRequests, Refusal, badSetup, badStatement, repeated, full, badRequest, manyCandidates, conflict, outOfPlace, Answer, taken, signed, entered, delivered, left, quiet, refused, Outcome}
+use Rattle.protocol.specs.Controller.{Controller, notSetUp, withBinding, withEntered, withDelivered, withRequests, Refusal, badSetup, badStatement, repeated, full, badRequest, manyCandidates, conflict, outOfPlace, Answer, taken, entered, delivered, left, quiet, refused, Outcome}
 use Rattle.protocol.specs.Call.{ringOf, isFull, setupAllowed, started, setup, refuse, note, requestJoin, requestLeave, requestSend, add}
 use Rattle.protocol.specs.Turn.{enteredAfter, countedReports, Action, sign, bindAndSign, enter, deliver, T as Top, firstRule, signing, perform, turn}
 use Rattle.protocol.specs.Run.{Call, setupCall, joinCall, leaveCall, sendCall, addCall, turnCall, outcome, Run, signedIn, FewBreakers, IsRun}
@@ -35,13 +35,13 @@ abbrev pub Clean : List Stmt → Type 0
 Clean P = (s : Stmt) → s ∈ P → T (fieldRules controllers s)
 
 -- a payload that is sent is of 64 bits, and what is added is in the pool
-abbrev pub Fair : List Stmt → Call → Type 0
-Fair P (setupCall n m s) = Unit {0}
-Fair P joinCall = Unit {0}
-Fair P leaveCall = Unit {0}
-Fair P (sendCall m) = m < 2 ^ 64
-Fair P (addCall s) = s ∈ P
-Fair P turnCall = Unit {0}
+abbrev pub Proper : List Stmt → Call → Type 0
+Proper P (setupCall n m s) = Unit {0}
+Proper P joinCall = Unit {0}
+Proper P leaveCall = Unit {0}
+Proper P (sendCall m) = m < 2 ^ 64
+Proper P (addCall s) = s ∈ P
+Proper P turnCall = Unit {0}
 
 -- where the controller and its record are sound, the payload that a turn binds it to is of 64 bits
 module _ (c : Controller) (X : List Stmt) (ok : Sound c X) where
@@ -61,8 +61,17 @@ module _ (c : Controller) (X : List Stmt) (ok : Sound c X) where
     | inr (x, i, e) ↦ subst (λ m. m < 2 ^ 64) e (says-fields (c .ring) x .sound (ok .allKeep x (counted-in c X i)) .payload)
   ]
 
-module _ (members sender : ℕ) (allowed : T (setupAllowed 0 members sender)) where
-  -- ---- the setup
+-- a setup that is taken
+pub record Setup : Type 0 where
+  pub members : ℕ
+  pub sender : ℕ
+  pub faulty : ℕ
+  pub allowed : T (setupAllowed 0 members sender)
+
+module _ (u : Setup) where
+  open Setup u using (members, sender, allowed)
+
+  -- ---- what it gives
 
   allowed-at : (k : ℕ) → k < controllers → setupAllowed k members sender ≡ true
   unfolding setupAllowed
@@ -94,7 +103,7 @@ module _ (members sender : ℕ) (allowed : T (setupAllowed 0 members sender)) wh
 
   -- ---- one seat, over the pool P
 
-  pub record Steady (k : ℕ) (c : Controller) : Type 0 where
+  pub record InRing (k : ℕ) (c : Controller) : Type 0 where
     pub isSetUp : c .isSetUp ≡ true
     pub number : c .number ≡ k
     pub ring : c .ring ≡ ringOf members
@@ -102,16 +111,16 @@ module _ (members sender : ℕ) (allowed : T (setupAllowed 0 members sender)) wh
     pub send : (m : ℕ) → c .sendRequested ≡ some m → m < 2 ^ 64
 
   pub record Seated (P : List Stmt) (k : ℕ) (s : Seat) : Type 0 where
-    pub steady : Steady k (s .controller)
+    pub inRing : InRing k (s .controller)
     pub known : s .statements ⊆ P
 
-  pub started-steady : (k : ℕ) → Steady k (started k members sender)
+  pub started-in-ring : (k : ℕ) → InRing k (started k members sender)
   unfolding started
-  started-steady k = record { isSetUp = refl; number = refl; ring = refl; binding = λ m e. let z : _≡_ {A = ℕ} 0 1 = cc (e) in absurd (omega arith); send = λ m e. absurd (none≢some e) }
+  started-in-ring k = record { isSetUp = refl; number = refl; ring = refl; binding = λ m e. let z : _≡_ {A = ℕ} 0 1 = cc (e) in absurd (omega arith); send = λ m e. absurd (none≢some e) }
 
   -- what a call leaves
-  pub record Leaves (P : List Stmt) (k : ℕ) (o : Outcome) : Type 0 where
-    pub steady : Steady k (o .controller)
+  pub record Yields (P : List Stmt) (k : ℕ) (o : Outcome) : Type 0 where
+    pub inRing : InRing k (o .controller)
     pub known : (s : Stmt) → s ∈ o .statements → (s ∈ P) ⊎ (s ∈ signedIn (o .answer))
     pub signs : (s : Stmt) → s ∈ signedIn (o .answer) → T (fieldRules controllers s) × (s .origin ≡ k)
 
@@ -119,7 +128,7 @@ module _ (members sender : ℕ) (allowed : T (setupAllowed 0 members sender)) wh
     sound : Sound c X
     unfolding nothing
     sound =
-        let s = ok .steady in
+        let s = ok .inRing in
         record {
           manned = subst (λ Q. 0 < memberCount (Q .width) (Q .init)) (sym (s .ring)) (manned nothing-is);
           initView = subst (λ Q. T (isView (Q .width) (Q .init))) (sym (s .ring)) (init-view nothing-is);
@@ -129,62 +138,62 @@ module _ (members sender : ℕ) (allowed : T (setupAllowed 0 members sender)) wh
           send = s .send;
         }
 
-    bound-to : (b : Binding) → ((m : ℕ) → b ≡ bound m → m < 2 ^ 64) → Steady k (withBinding b c)
-    bound-to b h = let s = ok .steady in record { isSetUp = s .isSetUp; number = s .number; ring = s .ring; binding = h; send = s .send }
+    bound-to : (b : Binding) → ((m : ℕ) → b ≡ bound m → m < 2 ^ 64) → InRing k (withBinding b c)
+    bound-to b h = let s = ok .inRing in record { isSetUp = s .isSetUp; number = s .number; ring = s .ring; binding = h; send = s .send }
 
     -- an answer that signs nothing
-    rests : (a : Answer) (d : Controller) → signedIn a ≡ [] → Steady k d → Leaves P k (record { answer = a; controller = d; statements = X })
-    rests a d e s = record { steady = s; known = λ x m. inl (ok .known x m); signs = λ x m. absurd (List·Memᴰ·not-nil (subst (λ S. x ∈ S) e m)) }
+    rests : (a : Answer) (d : Controller) → signedIn a ≡ [] → InRing k d → Yields P k (record { answer = a; controller = d; statements = X })
+    rests a d e s = record { inRing = s; known = λ x m. inl (ok .known x m); signs = λ x m. absurd (List·Memᴰ·not-nil (subst (λ S. x ∈ S) e m)) }
 
-    refuses : (r : Refusal) → Leaves P k (refuse c X r)
+    refuses : (r : Refusal) → Yields P k (refuse c X r)
     unfolding signedIn
-    refuses r = rests (refused r) c refl (ok .steady)
+    refuses r = rests (refused r) c refl (ok .inRing)
 
-    notes : (j l : Bool) (p : Option ℕ) → ((m : ℕ) → p ≡ some m → m < 2 ^ 64) → Leaves P k (note c X (withRequests j l p c))
+    notes : (j l : Bool) (p : Option ℕ) → ((m : ℕ) → p ≡ some m → m < 2 ^ 64) → Yields P k (note c X (withRequests j l p c))
     unfolding signedIn
-    notes j l p h = let s = ok .steady in rests taken (withRequests j l p c) refl (record { isSetUp = s .isSetUp; number = s .number; ring = s .ring; binding = s .binding; send = h })
+    notes j l p h = let s = ok .inRing in rests taken (withRequests j l p c) refl (record { isSetUp = s .isSetUp; number = s .number; ring = s .ring; binding = s .binding; send = h })
 
-    adds : (s : Stmt) → s ∈ P → Leaves P k (record { answer = taken; controller = c; statements = X ++ (s ∷ []) })
+    adds : (s : Stmt) → s ∈ P → Yields P k (record { answer = taken; controller = c; statements = X ++ (s ∷ []) })
     unfolding signedIn
     adds s i = record {
-      steady = ok .steady;
+      inRing = ok .inRing;
       known = λ x m. inl (elim (List·Memᴰ·append-cases X m) [ inl j ↦ ok .known x j | inr j ↦ subst (λ x. x ∈ P) (sym (List·Memᴰ·eq-of-singleton j)) i ]);
       signs = λ x m. absurd (List·Memᴰ·not-nil m);
     }
 
-    signs-it : (room : Stmt → Bool) (d : Controller) (s : Stmt) {b : Binding} → T (not (isConflict (c .ring) (c .sender) X)) → T (not (ltb 16 (length (candidates (c .ring) X)))) → Signs c X s b → Steady k d → Leaves P k (signing c X room d s)
+    signs-it : (room : Stmt → Bool) (d : Controller) (s : Stmt) {b : Binding} → T (not (isConflict (c .ring) (c .sender) X)) → T (not (ltb 16 (length (candidates (c .ring) X)))) → Signs c X s b → InRing k d → Yields P k (signing c X room d s)
     unfolding signing signedIn
-    signs-it room d s t u w steady = either (Leaves P k) (isFull room X s) (λ e. refuses full) (λ e. record {
-      steady = steady;
+    signs-it room d s t u w inRing = either (Yields P k) (isFull room X s) (λ e. refuses full) (λ e. record {
+      inRing = inRing;
       known = λ x m. elim (List·Memᴰ·append-cases X m) [ inl i ↦ inl (ok .known x i) | inr i ↦ inr i ];
       signs = λ x m. subst (λ x. T (fieldRules controllers x) × (x .origin ≡ k)) (sym (List·Memᴰ·eq-of-singleton m))
-          (subst (λ Q. T (fieldRules (Q .width) s)) (ok .steady .ring) (signs-fields c X sound t u w), signs-origin w ∙ ok .steady .number);
+          (subst (λ Q. T (fieldRules (Q .width) s)) (ok .inRing .ring) (signs-fields c X sound t u w), signs-origin w ∙ ok .inRing .number);
     })
 
-    performs : (room : Stmt → Bool) → T (not (isConflict (c .ring) (c .sender) X)) → T (not (ltb 16 (length (candidates (c .ring) X)))) → (o : Option Action) → firstRule c X ≡ o → Leaves P k (perform c X room o)
+    performs : (room : Stmt → Bool) → T (not (isConflict (c .ring) (c .sender) X)) → T (not (ltb 16 (length (candidates (c .ring) X)))) → (o : Option Action) → firstRule c X ≡ o → Yields P k (perform c X room o)
     unfolding perform signedIn
-    performs room t u none e = either (λ a. Leaves P k (record { answer = a; controller = c; statements = X })) (bit (Top c X .left) (c .number)) (λ f. rests left c refl (ok .steady)) (λ f. rests quiet c refl (ok .steady))
-    performs room t u (some (sign s)) e = signs-it room c s t u (acting c X t e .0) (ok .steady)
+    performs room t u none e = either (λ a. Yields P k (record { answer = a; controller = c; statements = X })) (bit (Top c X .left) (c .number)) (λ f. rests left c refl (ok .inRing)) (λ f. rests quiet c refl (ok .inRing))
+    performs room t u (some (sign s)) e = signs-it room c s t u (acting c X t e .0) (ok .inRing)
     performs room t u (some (bindAndSign m s)) e = let w = acting c X t e .0 in signs-it room (withBinding (bound m) c) s t u w (bound-to (bound m) (signs-small c X sound w))
     performs room t u (some (enter v b)) e =
         let s = bound-to b (enters-small c X sound (acting c X t e)) in
         rests (entered v) (withEntered (enteredAfter v (c .entered)) (withBinding b c)) refl (record { isSetUp = s .isSetUp; number = s .number; ring = s .ring; binding = s .binding; send = s .send })
     performs room t u (some (deliver m)) e =
-        let s = ok .steady in
+        let s = ok .inRing in
         rests (delivered m) (withDelivered c) refl (record { isSetUp = s .isSetUp; number = s .number; ring = s .ring; binding = s .binding; send = s .send })
 
     abbrev Good : Outcome → Type 0
-    Good o = Leaves P k o
+    Good o = Yields P k o
 
     -- EVERY CALL KEEPS IT
-    pub keeps : (room : Stmt → Bool) (a : Call) → Fair P a → Leaves P k (outcome room c X a)
+    pub keeps : (room : Stmt → Bool) (a : Call) → Proper P a → Yields P k (outcome room c X a)
     unfolding outcome setup requestJoin requestLeave requestSend add turn
-    keeps room (setupCall n m s) f = either Good (c .isSetUp || not (setupAllowed n m s)) (λ e. refuses badSetup) (λ e. absurd (true≢false (subst (λ b. (b || not (setupAllowed n m s)) ≡ false) (ok .steady .isSetUp) e)))
+    keeps room (setupCall n m s) f = either Good (c .isSetUp || not (setupAllowed n m s)) (λ e. refuses badSetup) (λ e. absurd (true≢false (subst (λ b. (b || not (setupAllowed n m s)) ≡ false) (ok .inRing .isSetUp) e)))
     keeps room joinCall f =
-        either Good (c .isSetUp) (λ e. either Good (member (c .ring .init) (c .number) || c .joinRequested) (λ g. refuses badRequest) (λ g. notes true (c .leaveRequested) (c .sendRequested) (ok .steady .send)))
+        either Good (c .isSetUp) (λ e. either Good (member (c .ring .init) (c .number) || c .joinRequested) (λ g. refuses badRequest) (λ g. notes true (c .leaveRequested) (c .sendRequested) (ok .inRing .send)))
         (λ e. refuses outOfPlace)
     keeps room leaveCall f =
-        either Good (c .isSetUp) (λ e. either Good (eqb (length (c .entered)) 0 || c .leaveRequested) (λ g. refuses badRequest) (λ g. notes (c .joinRequested) true (c .sendRequested) (ok .steady .send)))
+        either Good (c .isSetUp) (λ e. either Good (eqb (length (c .entered)) 0 || c .leaveRequested) (λ g. refuses badRequest) (λ g. notes (c .joinRequested) true (c .sendRequested) (ok .inRing .send)))
         (λ e. refuses outOfPlace)
     keeps room (sendCall m) f =
         either Good (c .isSetUp) (λ e. either Good (not (eqb (c .number) (c .sender)) || isSome (c .sendRequested)) (λ g. refuses badRequest)
