@@ -25,7 +25,7 @@ use Rattle.guarantee.specs.Events.{follower, isFollower, eventsOf}
 use Rattle.guarantee.proofs.Laws.{either}
 use Rattle.guarantee.proofs.Seats.{seatOf, Setup, InRing, Seated, Yields, Proper, keeps}
 use Rattle.guarantee.proofs.Pools.{grown-more}
-use Rattle.guarantee.proofs.Lines.{Legible, Acts, turn-only, After, out, filled, Calls, Effect, rests, calls, gives, lies, Valid, yes-follows, no-follows, effect}
+use Rattle.guarantee.proofs.Lines.{Legible, Acts, NoTurn, turn-only, After, out, filled, Calls, Effect, rests, calls, gives, lies, Valid, yes-follows, no-follows, effect}
 
 module _ (u : Setup) {b : Bench} (ok : Valid u b) where
   open Setup u using (members, sender, faulty)
@@ -77,47 +77,34 @@ module _ (u : Setup) {b : Bench} (ok : Valid u b) where
 
   -- ---- what the events of a line are
 
-  -- a proper call on a rule-follower, or a signing by a rule-breaker
-  abbrev pub Admitted : Event → Type 0
-  Admitted (call k a) = T (follower faulty k) × Proper (b .pool) a
-  Admitted (signing s) = T (not (follower faulty (s .origin))) × T (fieldRules controllers s)
-
-  abbrev All : List Event → Type 0
-  All E = (e : Event) → e ∈ E → Admitted e
-
   marked-breaks : (k : ℕ) → T (bit faulty k) → T (not (follower faulty k))
   unfolding follower
   marked-breaks k t = not-T (ltb k controllers && not (bit faulty k)) (λ u. T-not (bit faulty k) (and-second (ltb k controllers) (not (bit faulty k)) u) t)
 
-  pub admitted : (l : Option Line) → Effect b l → All (eventsOf b l)
-  admitted l (rests r) = subst All (sym (r .events)) (λ e m. absurd (List·Memᴰ·not-nil m))
-  admitted l (calls k a c) = subst All (sym (c .events)) (either All (isFollower b k) (λ f e m. subst Admitted (sym (List·Memᴰ·eq-of-singleton m)) (yes-follows u ok k f, c .proper))
-      (λ f e m. let (s, i, q) = Memᴰ·of-map signing (signedIn (out b k a .answer)) m in
-      let (clean, origin) = left-by k (c .near) a (c .proper) .signs s i in
-      subst Admitted q (subst (λ j. T (not (follower faulty j))) (sym origin) (subst (λ x. T (not x)) (sym (no-follows u ok k f)) tt), clean)))
-  admitted l (gives k c) = subst All (sym (c .events)) (either All (isFollower b k)
-      (λ f e m. let (s, i, q) = Memᴰ·of-map (λ s. call k (addCall s)) (missing b k) m in subst Admitted q (yes-follows u ok k f, missing-in k s i)) (λ f e m. absurd (List·Memᴰ·not-nil m)))
-  admitted l (lies s c) = subst All (sym (c .events)) (λ e m. subst Admitted (sym (List·Memᴰ·eq-of-singleton m)) (marked-breaks (s .origin) (subst (λ x. T (bit x (s .origin))) (ok .marks) (c .marked)), c .clean))
+  module _ (l : Option Line) where
+    -- a proper call on a rule-follower, which the line does if it is a turn; or a signing by a rule-breaker
+    abbrev pub Admitted : Event → Type 0
+    Admitted (call k a) = T (follower faulty k) × Proper (b .pool) a × (NoTurn a ⊎ Calls b l k a)
+    Admitted (signing s) = T (not (follower faulty (s .origin))) × T (fieldRules controllers s)
 
-  -- ---- the lines of turns
+    abbrev All : List Event → Type 0
+    All E = (e : Event) → e ∈ E → Admitted e
 
-  -- an event that is a turn of k comes of a line that is a turn of k
-  abbrev Turns : Option Line → ℕ → List Event → Type 0
-  Turns l k E = call k turnCall ∈ E → Calls b l k turnCall
+    pub admitted : Effect b l → All (eventsOf b l)
+    admitted (rests r) = subst All (sym (r .events)) (λ e m. absurd (List·Memᴰ·not-nil m))
+    admitted (calls k a c) = subst All (sym (c .events)) (either All (isFollower b k) (λ f e m. subst Admitted (sym (List·Memᴰ·eq-of-singleton m)) (yes-follows u ok k f, c .proper, inr c))
+        (λ f e m. let (s, i, q) = Memᴰ·of-map signing (signedIn (out b k a .answer)) m in
+        let (clean, origin) = left-by k (c .near) a (c .proper) .signs s i in
+        subst Admitted q (subst (λ j. T (not (follower faulty j))) (sym origin) (subst (λ x. T (not x)) (sym (no-follows u ok k f)) tt), clean)))
+    admitted (gives k c) = subst All (sym (c .events)) (either All (isFollower b k)
+        (λ f e m. let (s, i, q) = Memᴰ·of-map (λ s. call k (addCall s)) (missing b k) m in subst Admitted q (yes-follows u ok k f, missing-in k s i, inl tt)) (λ f e m. absurd (List·Memᴰ·not-nil m)))
+    admitted (lies s c) = subst All (sym (c .events)) (λ e m. subst Admitted (sym (List·Memᴰ·eq-of-singleton m)) (marked-breaks (s .origin) (subst (λ x. T (bit x (s .origin))) (ok .marks) (c .marked)), c .clean))
 
-  pub turn-line : (l : Option Line) (k : ℕ) → Effect b l → call k turnCall ∈ eventsOf b l → Calls b l k turnCall
-  turn-line l k (rests r) = subst (Turns l k) (sym (r .events)) (λ m. absurd (List·Memᴰ·not-nil m))
-  turn-line l k (calls j a c) = subst (Turns l k) (sym (c .events)) (either (Turns l k) (isFollower b j) (λ f m. let e = List·Memᴰ·eq-of-singleton m in let p : j ≡ k = cc (e) in let q : a ≡ turnCall = cc (e) in subst (λ k. Calls b l k turnCall) p (subst (Calls b l j) q c))
-      (λ f m. let (s, i, q) = Memᴰ·of-map signing (signedIn (out b j a .answer)) m in let z : _≡_ {A = ℕ} 0 1 = cc (q) in absurd (omega arith)))
-  turn-line l k (gives j c) = subst (Turns l k) (sym (c .events)) (either (Turns l k) (isFollower b j)
-      (λ f m. let (s, i, q) = Memᴰ·of-map (λ s. call j (addCall s)) (missing b j) m in let z : _≡_ {A = ℕ} 0 1 = cc (q) in absurd (omega arith)) (λ f m. absurd (List·Memᴰ·not-nil m)))
-  turn-line l k (lies s c) = subst (Turns l k) (sym (c .events)) (λ m. let e = List·Memᴰ·eq-of-singleton m in let z : _≡_ {A = ℕ} 0 1 = cc (e) in absurd (omega arith))
-
-  -- so does a row that only a turn prints
-  pub acting-line : (l : Option Line) → Effect b l → Acts (step b l .reply .answer) → Calls b l (step b l .reply .who) turnCall
-  acting-line l (rests r) t = absurd (r .idle t)
-  acting-line l (calls k a c) t =
-      let q = turn-only (hasRoom (b .pool)) (seat b k .controller) (seat b k .statements) a (subst Acts (c .answered) t) in
-      subst (λ k. Calls b l k turnCall) (sym (c .who)) (subst (Calls b l k) q c)
-  acting-line l (gives k c) t = absurd (subst Acts (c .answered) t)
-  acting-line l (lies s c) t = absurd (subst Acts (c .answered) t)
+    -- a row that only a turn prints comes of a line that is a turn
+    pub acting-line : Effect b l → Acts (step b l .reply .answer) → Calls b l (step b l .reply .who) turnCall
+    acting-line (rests r) t = absurd (r .idle t)
+    acting-line (calls k a c) t =
+        let q = turn-only (hasRoom (b .pool)) (seat b k .controller) (seat b k .statements) a (subst Acts (c .answered) t) in
+        subst (λ k. Calls b l k turnCall) (sym (c .who)) (subst (Calls b l k) q c)
+    acting-line (gives k c) t = absurd (subst Acts (c .answered) t)
+    acting-line (lies s c) t = absurd (subst Acts (c .answered) t)

@@ -1,11 +1,12 @@
 -- Tests, and lists by place.
 -- Assumes nothing.
-use mathlib.Core.Path.{_≡_, refl, sym, ap}
+use mathlib.Core.Path.{_≡_, refl, sym, ap, _∙_}
 use mathlib.Core.Logic.{_⊎_, inl, inr}
 use mathlib.Core.Bool.{Bool, true, false}
-use mathlib.Core.List.{List, [], _∷_, _++_, map, List·Memᴰ·head, List·Memᴰ·tail}
+use mathlib.Core.List.{List, [], _∷_, _++_, map, append-assoc, append-nil, List·Memᴰ·head, List·Memᴰ·tail}
 use mathlib.Core.Option.{some}
-use Prim.Native.Nat.{ℕ, zero, suc, _+_, _<_}
+use Prim.Native.Nat.{ℕ, zero, suc, _+_, _≤_, _<_}
+use native.Mathlib.Decide.{le-ind}
 use native.Mathlib.Omega.{arith}
 use lib.Dec.{T}
 use lib.ListN.{length, getD, getElem?, length-append}
@@ -65,6 +66,10 @@ module _ {A : Type 0} where
   once-in (x ∷ l) (d, _) zero (suc j) e f = absurd (d _ (at-in l j f .0) (some-injective e))
   once-in (x ∷ l) (d, _) (suc i) zero e f = absurd (d _ (at-in l i e .0) (some-injective f))
   once-in (x ∷ l) (_, d) (suc i) (suc j) e f = ap suc (once-in l d i j e f)
+
+  -- a list that grows at its end
+  pub longer-on : (l : ℕ → List A) (m : ℕ) → ((j : ℕ) → m ≤ j → (D : List A) × (l (suc j) ≡ l j ++ D)) → (n : ℕ) → m ≤ n → (D : List A) × (l n ≡ l m ++ D)
+  longer-on l m f n h = le-ind (λ n. (D : List A) × (l n ≡ l m ++ D)) ([], sym (append-nil (l m))) (λ j i (D, e). let (E, g) = f j i in (D ++ E, g ∙ ap (λ k. k ++ E) e ∙ append-assoc (l m) D E)) n h
 
   pub filter-different : (p : A → Bool) (l : List A) → Different l → Different (filter p l)
   unfolding filter

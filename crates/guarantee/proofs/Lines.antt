@@ -4,13 +4,13 @@
 -- Assumes nothing.
 use mathlib.Core.Path.{_≡_, refl, sym, ap, ap₂, subst, _∙_}
 use mathlib.Core.Logic.{_⊎_, inl, inr}
-use mathlib.Core.Bool.{Bool, true, false, not, _&&_, _||_, true≢false, and-false, and-true}
+use mathlib.Core.Bool.{Bool, true, false, not, _||_, true≢false, and-false, and-true}
 use mathlib.Core.List.{List, [], _∷_, _++_, map, List·Memᴰ·head, List·Memᴰ·not-nil}
 use mathlib.Core.Option.{Option, some, none}
 use Prim.Native.Nat.{ℕ, _+_, _^_, _≤_, _<_}
 use native.Mathlib.Decide.{decLt}
 use native.Mathlib.Omega.{arith}
-use borrow.Author.Tests.{lt-leb, le-leb, ltb-true, ltb-false, not-false}
+use borrow.Author.Tests.{le-ltb, lt-leb, le-leb, ltb-true, ltb-false, not-false}
 use lib.Dec.{T, eqb, leb, ltb}
 use lib.ListN.{length, getD, getElem?, set, List·getD-eq-default}
 use lib.Seq.{set-getD}
@@ -28,7 +28,7 @@ use Rattle.views.specs.Table.{table}
 use Rattle.views.proofs.Tables.{table-at, table-length}
 use Rattle.schedule.specs.Line.{Line, setup, join, leave, send, give, all, turn, lie, noStatement, Reads}
 use Rattle.bench.specs.Bench.{Seat, emptySeat, Bench, newBench, Stepped, nobody, seat, at, refuse, setUp, missing, giveTo, giveAll, afterTurn, turnAt, lieOf, step}
-use Rattle.guarantee.specs.Events.{follower, isTaken, isFollower, callOn, eventsOf}
+use Rattle.guarantee.specs.Events.{follower, isFollower, callOn, eventsOf}
 use Rattle.guarantee.proofs.Laws.{either, getD-in}
 use Rattle.guarantee.proofs.Seats.{seatOf, Setup, Seated, Clean, started-in-ring, Proper}
 use Rattle.guarantee.proofs.Pools.{Grown, grown-none, grown-new, grown-pooled, numbered, added, add-is}
@@ -173,6 +173,32 @@ module _ (b : Bench) where
     gives : (k : ℕ) → Gives l k → Effect l
     lies : (s : Stmt) → Lies l s → Effect l
 
+-- ---- the two outcomes of an `all`, and of a lie
+
+module _ (b : Bench) (k : ℕ) where
+  abbrev count : ℕ
+  count = length (seat b k .statements) + length (missing b k)
+
+  abbrev AllIs : Stepped → Type 0
+  AllIs r = (r ≡ refuse b k full) ⊎ ((count ≤ 512) × (r ≡ at b k (record { answer = taken; controller = seat b k .controller; statements = filled b k .statements }) (b .pool) (length (missing b k))))
+
+  all-is : b .isSetUp ≡ true → AllIs (giveAll b k)
+  unfolding giveAll
+  all-is ready = either AllIs (b .isSetUp) (λ e. either AllIs (ltb 512 count) (λ f. inl refl) (λ f. inr (ltb-false 512 count f, refl))) (λ e. absurd (true≢false (sym ready ∙ e)))
+
+module _ (b : Bench) (s : Stmt) where
+  abbrev lied : Stepped
+  lied = record { reply = record { who = s .origin; answer = taken; number = length (b .pool) }; bench = record { isSetUp = b .isSetUp; faulty = b .faulty; seats = b .seats; pool = b .pool ++ (s ∷ []) } }
+
+  abbrev LieIs : Stepped → Type 0
+  LieIs r = ((x : Refusal) × (¬ Acts (refused x)) × (r ≡ refuse b (s .origin) x)) ⊎ ((not (bit (b .faulty) (s .origin)) ≡ false) × (any (sameStmt s) (b .pool) ≡ false) × (r ≡ lied))
+
+  lie-is : LieIs (lieOf b s)
+  unfolding lieOf
+  lie-is =
+      either LieIs (b .isSetUp) (λ e. either LieIs (not (bit (b .faulty) (s .origin))) (λ f. inl (outOfPlace, (λ t. t), refl)) (λ f. either LieIs (any (sameStmt s) (b .pool)) (λ g. inl (repeated, (λ t. t), refl))
+      (λ g. either LieIs (leb 512 (length (b .pool))) (λ h. inl (full, (λ t. t), refl)) (λ h. inr (f, g, refl))))) (λ e. inl (outOfPlace, (λ t. t), refl))
+
 -- ---- before the setup
 
 new-seat : (k : ℕ) → seat newBench k ≡ emptySeat
@@ -231,7 +257,7 @@ new-line (some (setup m s f)) = go (setupAllowed 0 m s) refl
 new-line (some (join k)) = inl (new-call (some (join k)) k (ap (λ x. at newBench k (requestJoin (x .controller) (x .statements)) [] 0) (new-seat k)) refl)
 new-line (some (leave k)) = inl (new-call (some (leave k)) k (ap (λ x. at newBench k (requestLeave (x .controller) (x .statements)) [] 0) (new-seat k)) refl)
 new-line (some (send k m)) = inl (new-call (some (send k m)) k (ap (λ x. at newBench k (requestSend (x .controller) (x .statements) m) [] 0) (new-seat k)) refl)
-new-line (some (give k n)) = inl (record { same = refl; idle = λ t. t; events = either (λ E. E ≡ []) (ltb n 0) (λ e. refl) (λ e. refl) })
+new-line (some (give k n)) = inl (record { same = refl; idle = λ t. t; events = rw (le-ltb n 0 (omega arith)) refl })
 new-line (some (all k)) = inl (record { same = refl; idle = λ t. t; events = refl })
 new-line (some (turn k)) =
     let e = ap (λ x. let o : Outcome = turnOf (x .controller) (x .statements) (hasRoom []) in afterTurn newBench k o (o .answer)) (new-seat k) in
@@ -345,36 +371,21 @@ module _ (u : Setup) where
         go true e =
             let h = ltb-true n (length (b .pool)) e in
             let a : Call = addCall (getD (b .pool) n noStmt) in
-            asked (some (give k n)) k a tt near (getD-in (b .pool) n noStmt h) (give-adds k n near h) (ap (λ x. if x then callOn b k a else []) e)
-        go false e = refusal (some (give k n)) k outOfPlace (λ t. t) (give-past k n (ltb-false n (length (b .pool)) e)) (ap (λ x. if x then callOn b k (addCall (getD (b .pool) n noStmt)) else []) e)
+            asked (some (give k n)) k a tt near (getD-in (b .pool) n noStmt h) (give-adds k n near h) (rw e refl)
+        go false e = refusal (some (give k n)) k outOfPlace (λ t. t) (give-past k n (ltb-false n (length (b .pool)) e)) (rw e refl)
 
     all-effect : (k : ℕ) → k < 16 → Effect b (some (all k))
-    unfolding step giveAll eventsOf
-    all-effect k near = go (either AllIs (b .isSetUp) (λ e. either AllIs (ltb 512 room) (λ f. inl refl) (λ f. inr (ltb-false 512 room f, refl))) (λ e. absurd (true≢false (sym (ok .isSetUp) ∙ e))))
+    unfolding step eventsOf
+    all-effect k near = go (all-is b k (ok .isSetUp))
       where
-        room : ℕ
-        room = length (seat b k .statements) + length (missing b k)
-
-        full-row : Stepped
-        full-row = refuse b k full
-
-        filled-row : Stepped
-        filled-row = at b k (record { answer = taken; controller = seat b k .controller; statements = seat b k .statements ++ missing b k }) (b .pool) (length (missing b k))
-
-        AllIs : Stepped → Type 0
-        AllIs r = (r ≡ full-row) ⊎ ((room ≤ 512) × (r ≡ filled-row))
-
-        events : (r : Stepped) → giveAll b k ≡ r → eventsOf b (some (all k)) ≡ (if isFollower b k && isTaken (r .reply .answer) then map (λ s. call k (addCall s)) (missing b k) else [])
-        events r e = ap (λ r. if isFollower b k && isTaken (r .reply .answer) then map (λ s. call k (addCall s)) (missing b k) else []) e
-
-        go : AllIs (giveAll b k) → Effect b (some (all k))
-        go (inl e) = refusal (some (all k)) k full (λ t. t) e (events full-row e ∙ rw (and-false (isFollower b k)) refl)
+        go : AllIs b k (giveAll b k) → Effect b (some (all k))
+        go (inl e) = refusal (some (all k)) k full (λ t. t) e (rw (e, and-false (isFollower b k)) refl)
         go (inr (h, e)) = gives k (record {
           near = near;
           answered = ap (λ r. r .reply .answer) e;
           fits = h;
           after = subst (λ r. After b k (filled b k) [] (r .bench)) (sym e) (record { isSetUp = refl; marks = refl; seats = refl; pool = grown-none (b .pool) refl });
-          events = events filled-row e ∙ rw (and-true (isFollower b k)) refl;
+          events = rw (e, and-true (isFollower b k)) refl;
         })
 
     turn-effect : (k : ℕ) → k < 16 → Effect b (some (turn k))
@@ -403,28 +414,17 @@ module _ (u : Setup) where
         go (refused r) e = still (refused r) e refl refl
 
     lie-effect : (s : Stmt) → T (fieldRules controllers s) → Effect b (some (lie s))
-    unfolding step lieOf eventsOf
-    lie-effect s clean = go
-        (either LieIs (b .isSetUp) (λ e. either LieIs (not (bit (b .faulty) (s .origin))) (λ f. inl (outOfPlace, (λ t. t), refl)) (λ f. either LieIs (any (sameStmt s) (b .pool)) (λ g. inl (repeated, (λ t. t), refl))
-        (λ g. either LieIs (leb 512 (length (b .pool))) (λ h. inl (full, (λ t. t), refl)) (λ h. inr (f, g, refl))))) (λ e. inl (outOfPlace, (λ t. t), refl)))
+    unfolding step eventsOf
+    lie-effect s clean = go (lie-is b s)
       where
-        lied : Stepped
-        lied = record { reply = record { who = s .origin; answer = taken; number = length (b .pool) }; bench = record { isSetUp = b .isSetUp; faulty = b .faulty; seats = b .seats; pool = b .pool ++ (s ∷ []) } }
-
-        LieIs : Stepped → Type 0
-        LieIs r = ((x : Refusal) × (¬ Acts (refused x)) × (r ≡ refuse b (s .origin) x)) ⊎ ((not (bit (b .faulty) (s .origin)) ≡ false) × (any (sameStmt s) (b .pool) ≡ false) × (r ≡ lied))
-
-        events : (r : Stepped) → lieOf b s ≡ r → eventsOf b (some (lie s)) ≡ (if isTaken (r .reply .answer) then signing s ∷ [] else [])
-        events r e = ap (λ r. if isTaken (r .reply .answer) then signing s ∷ [] else []) e
-
-        go : LieIs (lieOf b s) → Effect b (some (lie s))
-        go (inl (x, idle, e)) = refusal (some (lie s)) (s .origin) x idle e (events (refuse b (s .origin) x) e)
+        go : LieIs b s (lieOf b s) → Effect b (some (lie s))
+        go (inl (x, idle, e)) = refusal (some (lie s)) (s .origin) x idle e (rw e refl)
         go (inr (f, g, e)) = lies s (record {
           marked = subst T (sym (not-false (bit (b .faulty) (s .origin)) f)) tt;
           clean = clean;
           answered = ap (λ r. r .reply .answer) e;
           after = subst (λ r. After b 0 (seat b 0) (s ∷ []) (r .bench)) (sym e) (record { isSetUp = refl; marks = refl; seats = sym (set-getD (b .seats) 0 emptySeat); pool = grown-new (b .pool) s g });
-          events = events lied e;
+          events = rw e refl;
         })
 
     pub effect : (l : Option Line) → Legible l → Effect b l

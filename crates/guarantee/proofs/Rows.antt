@@ -6,10 +6,10 @@
 use mathlib.Core.Path.{_≡_, refl, sym, ap, ap₂, subst, _∙_}
 use mathlib.Core.Logic.{inl, inr}
 use mathlib.Core.Bool.{true}
-use mathlib.Core.List.{List, [], _∷_, _++_, map, append-assoc, append-nil}
+use mathlib.Core.List.{List, [], _∷_, _++_, map, append-nil}
 use mathlib.Core.Option.{Option, some, none}
 use Prim.Native.Nat.{ℕ, suc, _+_, _≤_, _<_}
-use native.Mathlib.Decide.{decLt, le-ind}
+use native.Mathlib.Decide.{decLt}
 use native.Mathlib.Omega.{arith}
 use lib.Dec.{T}
 use lib.ListN.{length, getElem?}
@@ -28,11 +28,11 @@ use Rattle.schedule.specs.Line.{Line}
 use Rattle.bench.specs.Bench.{step}
 use Rattle.guarantee.specs.Events.{follower, isFollower, afterLine, occurs, line, after}
 use Rattle.guarantee.specs.Rows.{RepliedTo, finalPool, FewFaulty, Says, rows, Kept}
-use Rattle.guarantee.proofs.Laws.{holds, at-in, at-left, map-at}
+use Rattle.guarantee.proofs.Laws.{longer-on, holds, at-in, at-left, map-at}
 use Rattle.guarantee.proofs.Lines.{Acts, Calls, out, follower-is}
-use Rattle.guarantee.proofs.Benches.{grows, turn-line, acting-line}
+use Rattle.guarantee.proofs.Benches.{grows, Admitted, acting-line}
 use Rattle.guarantee.proofs.Links.{Comes}
-use Rattle.guarantee.proofs.Schedules.{place-up, place-next, Schedule, place, u, valid, every, run, effect-at, comes, passes, linked, acts-late, from-line, admitted-at, pooled-statements, is-run}
+use Rattle.guarantee.proofs.Schedules.{place-up, place-next, Schedule, place, u, valid, every, run, effect-at, comes, passes, linked, acts-late, From, late, from-line, admitted-at, pooled-statements, is-run}
 
 module _ (S : Schedule) where
   open Schedule S using (L, reads, first, members, sender, faulty, start)
@@ -79,8 +79,7 @@ module _ (S : Schedule) where
   -- after more lines the pool has more at its end
   pool-longer : (m n : ℕ) → first < m → m ≤ n → (D : List Stmt) × (after L n .pool ≡ after L m .pool ++ D)
   unfolding after afterLine
-  pool-longer m n h l = le-ind (λ n. (D : List Stmt) × (after L n .pool ≡ after L m .pool ++ D)) ([], sym (append-nil (after L m .pool)))
-      (λ j i (D, e). let (E, f) = next j (omega arith) (line L j) refl in (D ++ E, f ∙ ap (λ P. P ++ E) e ∙ append-assoc (after L m .pool) D E)) n l
+  pool-longer m n h l = longer-on (λ n. after L n .pool) m (λ j i. next j (omega arith) (line L j) refl) n l
     where
       next : (j : ℕ) → first < j → (x : Option (Option Line)) → line L j ≡ x → (D : List Stmt) × (afterLine (after L j) x .pool ≡ after L j .pool ++ D)
       next j h none e = ([], sym (append-nil (after L j .pool)))
@@ -96,15 +95,17 @@ module _ (S : Schedule) where
 
   -- an event of the run that is a turn and signs is a row
   row-of : (i k : ℕ) (s : Stmt) → TurnAnswers R i k (signed s) → (n : ℕ) × (at n ≡ i) × Says L (RepliedTo L) n k (signed s)
-  row-of i k s t =
-      let r = from-line S i (call k turnCall) (t .isTurn) in
-      let c = turn-line (u S) (valid S (r .at) (r .later)) (r .of) k (effect-at S (r .at) (r .of) (r .there) (r .later)) (r .one) in
-      let x = at-turn (r .at) k (r .of) (r .there) (r .later) (admitted-at S i (call k turnCall) r .0) c in
-      let is : at (r .at) ≡ i = omega (arith, r .low, r .high, x .next) in
-      let says : step (after L (r .at)) (r .of) .reply .answer ≡ signed s = sym (x .turns .answers) ∙ ap (λ j. returned R k (suc j) .answer) is ∙ t .answers in
-      let number : ℕ = step (after L (r .at)) (r .of) .reply .number in
-      let row : RepliedTo L (r .at) (record { who = k; answer = signed s; number = number }) = record { line = r .of; there = r .there; reply = ap₂ (λ w a. record { who = w; answer = a; number = number }) (c .who) says } in
-      (r .at, is, record { number = number; row = row; names = signed-number (r .at) k s number row })
+  row-of i k s t = let r = from-line S i (call k turnCall) (t .isTurn) in go r (admitted-at S r)
+    where
+      go : (r : From L i (call k turnCall)) → Admitted (u S) (valid S (r .at) (late S r)) (r .of) (call k turnCall) → (n : ℕ) × (at n ≡ i) × Says L (RepliedTo L) n k (signed s)
+      go r (f, _, inl c) = absurd c
+      go r (f, _, inr c) =
+          let x = at-turn (r .at) k (r .of) (r .there) (late S r) f c in
+          let is : at (r .at) ≡ i = omega (arith, r .low, r .high, x .next) in
+          let says : step (after L (r .at)) (r .of) .reply .answer ≡ signed s = sym (x .turns .answers) ∙ ap (λ j. returned R k (suc j) .answer) is ∙ t .answers in
+          let number : ℕ = step (after L (r .at)) (r .of) .reply .number in
+          let row : RepliedTo L (r .at) (record { who = k; answer = signed s; number = number }) = record { line = r .of; there = r .there; reply = ap₂ (λ w a. record { who = w; answer = a; number = number }) (c .who) says } in
+          (r .at, is, record { number = number; row = row; names = signed-number (r .at) k s number row })
 
   -- a row, and a later one
   apart : (n m k : ℕ) (a : Answer) → AtTurn n k a → n < m → at n < at m

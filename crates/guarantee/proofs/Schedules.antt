@@ -30,7 +30,7 @@ use Rattle.bench.specs.Bench.{newBench, step}
 use Rattle.guarantee.specs.Events.{follower, Occurrence, afterLine, occurs, eventsOf, line, after, occurred, runOf}
 use Rattle.guarantee.specs.Link.{eventsBefore, RowOf, MakesUp}
 use Rattle.guarantee.specs.Rows.{RepliedTo, SetUpBy, finalPool, FewFaulty}
-use Rattle.guarantee.proofs.Laws.{at-in, at-cases, at-map, once-in}
+use Rattle.guarantee.proofs.Laws.{longer-on, at-in, at-cases, at-map, once-in}
 use Rattle.guarantee.proofs.Seats.{seatOf, Setup, setup-starts}
 use Rattle.guarantee.proofs.Lines.{Legible, Acts, Rests, Effect, startedBench, Starts, setupOf, setup-taken, new-line, Valid, started-seat, started-valid, effect}
 use Rattle.guarantee.proofs.Benches.{step-valid, Admitted, admitted}
@@ -42,8 +42,7 @@ module _ (L : List (Option Line)) where
   -- what came before goes on
   prefix : (m n : ℕ) → m ≤ n → (D : List Occurrence) × (occurred L n ≡ occurred L m ++ D)
   unfolding occurred
-  prefix m n h = le-ind (λ n. (D : List Occurrence) × (occurred L n ≡ occurred L m ++ D)) ([], sym (append-nil (occurred L m)))
-      (λ j _ (D, e). (D ++ occurs (after L j) (line L j), ap (λ O. O ++ occurs (after L j) (line L j)) e ∙ append-assoc (occurred L m) D (occurs (after L j) (line L j)))) n h
+  prefix m n h = longer-on (occurred L) m (λ j _. (occurs (after L j) (line L j), refl)) n h
 
   pub place-up : (m n : ℕ) → m ≤ n → eventsBefore L m ≤ eventsBefore L n
   place-up m n h = let (D, e) = prefix m n h in omega (arith, ap length e, length-append (occurred L m) D)
@@ -52,25 +51,26 @@ module _ (L : List (Option Line)) where
   unfolding occurred
   place-next n l e = length-append (occurred L n) (occurs (after L n) (line L n)) ∙ ap (λ x. eventsBefore L n + length (occurs (after L n) x)) e
 
-  -- an occurrence comes of a line
-  record From (i : ℕ) (o : Occurrence) : Type 0 where
-    at : ℕ
-    of : Option Line
-    there : getElem? L at ≡ some of
-    one : o ∈ occurs (after L at) (some of)
-    low : eventsBefore L at ≤ i
-    high : i < eventsBefore L (suc at)
+  -- event i comes of a line
+  pub record From (i : ℕ) (e : Event) : Type 0 where
+    pub at : ℕ
+    pub of : Option Line
+    pub there : getElem? L at ≡ some of
+    pub one : e ∈ eventsOf (after L at) of
+    pub low : eventsBefore L at ≤ i
+    pub high : i < eventsBefore L (suc at)
 
-  from : (N i : ℕ) (o : Occurrence) → getElem? (occurred L N) i ≡ some o → From i o
+  from : (N i : ℕ) (o : Occurrence) → getElem? (occurred L N) i ≡ some o → From i (o .event)
   unfolding occurred occurs
   from zero i o e = absurd (none≢some e)
   from (suc N) i o e = elim (at-cases (occurred L N) (occurs (after L N) (line L N)) i e) [ inl f ↦ from N i o f | inr (j, g, h) ↦ new (line L N) refl j g h ]
     where
-      new : (x : Option (Option Line)) → line L N ≡ x → (j : ℕ) → i ≡ length (occurred L N) + j → getElem? (occurs (after L N) x) j ≡ some o → From i o
+      new : (x : Option (Option Line)) → line L N ≡ x → (j : ℕ) → i ≡ length (occurred L N) + j → getElem? (occurs (after L N) x) j ≡ some o → From i (o .event)
       new none f j g h = absurd (none≢some h)
       new (some l) f j g h =
           let (m, lt) = at-in (occurs (after L N) (some l)) j h in
-          record { at = N; of = l; there = f; one = m; low = omega arith; high = omega (arith, place-next N l f) }
+          let (x, k, q) = Memᴰ·of-map (λ e. record { event = e; pool = after L N .pool }) (eventsOf (after L N) l) m in
+          record { at = N; of = l; there = f; one = subst (λ o. o .event ∈ eventsOf (after L N) l) q k; low = omega arith; high = omega (arith, place-next N l f) }
 
 -- ---- a setup that is taken in line `first`
 
@@ -156,8 +156,8 @@ module _ (S : Schedule) where
     ]
   ]
 
-  late : (i n : ℕ) → i < place (suc n) → first < n
-  late i n h = elim (decLt first n) [ yes l ↦ l | no l ↦ absurd (omega (arith, place-up L (suc n) (suc first) (omega arith), ap length nothing-yet)) ]
+  pub late : {i : ℕ} {e : Event} (r : From L i e) → first < r .at
+  late r = elim (decLt first (r .at)) [ yes l ↦ l | no l ↦ absurd (omega (arith, r .high, place-up L (suc (r .at)) (suc first) (omega arith), ap length nothing-yet)) ]
 
   -- ---- the run
 
@@ -205,27 +205,11 @@ module _ (S : Schedule) where
 
   -- ---- its premises
 
-  -- event i of the run, and the line that it comes of
-  pub record FromLine (i : ℕ) (e : Event) : Type 0 where
-    pub at : ℕ
-    pub of : Option Line
-    pub there : getElem? L at ≡ some of
-    pub one : e ∈ eventsOf (after L at) of
-    pub low : place at ≤ i
-    pub high : i < place (suc at)
-    pub later : first < at
+  pub from-line : (i : ℕ) (e : Event) → event run i ≡ some e → From L i e
+  from-line i e f = let (o, g, h) = at-map (λ (o : Occurrence). o .event) every i f in subst (From L i) h (from L (length L) i o g)
 
-  pub from-line : (i : ℕ) (e : Event) → event run i ≡ some e → FromLine i e
-  unfolding occurs
-  from-line i e f =
-      let (o, g, h) = at-map (λ (o : Occurrence). o .event) every i f in
-      let r = from L (length L) i o g in
-      let (x, m, q) = Memᴰ·of-map (λ e. record { event = e; pool = after L (r .at) .pool }) (eventsOf (after L (r .at)) (r .of)) (r .one) in
-      let is : x ≡ e = ap (λ (o : Occurrence). o .event) q ∙ h in
-      record { at = r .at; of = r .of; there = r .there; one = subst (λ e. e ∈ eventsOf (after L (r .at)) (r .of)) is m; low = r .low; high = r .high; later = late i (r .at) (r .high) }
-
-  pub admitted-at : (i : ℕ) (e : Event) (r : FromLine i e) → Admitted u (valid (r .at) (r .later)) e
-  admitted-at i e r = admitted u (valid (r .at) (r .later)) (r .of) (effect-at (r .at) (r .of) (r .there) (r .later)) e (r .one)
+  pub admitted-at : {i : ℕ} {e : Event} (r : From L i e) → Admitted u (valid (r .at) (late r)) (r .of) e
+  admitted-at {i} {e} r = admitted u (valid (r .at) (late r)) (r .of) (effect-at (r .at) (r .of) (r .there) (late r)) e (r .one)
 
   signed-on : (m n : ℕ) → m ≤ n → signedBefore run m ⊆ signedBefore run n
   unfolding signedBefore
@@ -251,9 +235,9 @@ module _ (S : Schedule) where
   premises few = record {
     numbered = λ k t. ltb→lt k controllers (and-first (ltb k controllers) (not (bit faulty k)) t);
     started = λ k l. ap (λ o. o .answer) (setup-starts u k l);
-    calls = λ n k c e. admitted-at n (call k c) (from-line n (call k c) e) .0;
-    signings = λ n s e. admitted-at n (signing s) (from-line n (signing s) e);
-    unforged = λ n k s e _. let r = from-line n (call k (addCall s)) e in signed-on (place (r .at)) n (r .low) s (linked (r .at) (r .later) .has s (admitted-at n (call k (addCall s)) r .1));
+    calls = λ n k c e. admitted-at (from-line n (call k c) e) .0;
+    signings = λ n s e. admitted-at (from-line n (signing s) e);
+    unforged = λ n k s e _. let r = from-line n (call k (addCall s)) e in signed-on (place (r .at)) n (r .low) s (linked (r .at) (late r) .has s (admitted-at r .1));
     fewBreakers = few;
   }
 
@@ -266,7 +250,7 @@ module _ (S : Schedule) where
         there = r .there;
         from = r .low;
         to = r .high;
-        answer = passes (r .at) (r .of) (r .there) (r .later) (linked (r .at) (r .later)) .told i k c (r .low) (r .high) e;
+        answer = passes (r .at) (r .of) (r .there) (late r) (linked (r .at) (late r)) .told i k c (r .low) (r .high) e;
       }
 
   -- THE LINES OF A SCHEDULE MAKE UP A RUN
