@@ -10,9 +10,12 @@ use native.Mathlib.Decide.{le-ind}
 use native.Mathlib.Omega.{arith}
 use lib.Dec.{T}
 use lib.ListN.{length, getD, getElem?, length-append}
+use Rattle.protocol.specs.Sets.{count}
 use Rattle.protocol.specs.Lists.{if_then_else_, _∈_, filter}
 use Rattle.protocol.proofs.Found.{none≢some, some-injective, filter-out}
+use Rattle.protocol.proofs.Counting.{count-mono}
 use Rattle.protocol.proofs.Different.{Different}
+use Rattle.protocol.proofs.Steps.{no-members}
 
 -- ---- tests
 
@@ -27,6 +30,10 @@ fails false f = refl
 pub either : {A : Type 0} (P : A → Type 0) (b : Bool) {x y : A} → (b ≡ true → P x) → (b ≡ false → P y) → P (if b then x else y)
 either P true f g = f refl
 either P false f g = g refl
+
+-- a number that no test counts
+pub count-none : (n : ℕ) (p : ℕ → Bool) → ((k : ℕ) → k < n → ¬ T (p k)) → count n p ≡ 0
+count-none n p f = omega (arith, count-mono n p (λ k. false) f, no-members n)
 
 -- ---- lists
 

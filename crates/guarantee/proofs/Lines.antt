@@ -19,7 +19,7 @@ use Rattle.protocol.specs.Lists.{if_then_else_, _∈_, any, isSome}
 use Rattle.protocol.specs.View.{controllers, member}
 use Rattle.protocol.specs.Statement.{Stmt, noStmt, sameStmt, fieldRules}
 use Rattle.protocol.specs.Controller.{Controller, notSetUp, badSetup, repeated, full, outOfPlace, Refusal, badStatement, Answer, taken, signed, entered, delivered, left, quiet, refused, refusalNumber, Outcome}
-use Rattle.protocol.specs.Call.{setupAllowed, started, isFull, setup as setupCalled, requestJoin, requestLeave, requestSend, add, refuse as refused-by}
+use Rattle.protocol.specs.Call.{setupAllowed, started, isFull, setup as setupCalled, requestJoin, requestLeave, requestSend, add, refuse as refusedBy}
 use Rattle.protocol.specs.Pool.{numberOf, pooled, hasRoom}
 use Rattle.protocol.specs.Turn.{turn as turnOf}
 use Rattle.protocol.specs.Run.{Call, setupCall, joinCall, leaveCall, sendCall, addCall, turnCall, outcome, call, signing, signedIn}
@@ -236,7 +236,7 @@ module _ (b : Bench) (members sender faulty : ℕ) where
 -- a call on any controller is refused
 module _ (l : Option Line) (k : ℕ) where
   abbrev unready : Outcome
-  unready = refused-by notSetUp [] outOfPlace
+  unready = refusedBy notSetUp [] outOfPlace
 
   new-call : step newBench l ≡ at newBench k unready [] 0 → eventsOf newBench l ≡ [] → Rests newBench l
   new-call e f = record {
@@ -330,7 +330,7 @@ module _ (u : Setup) where
         called l k a (b .pool) 0 near proper e (grown-none (b .pool) none) (λ s f. absurd (rest (subst Acts (sym f) tt))) (events ∙ ap (λ S. if isFollower b k then call k a ∷ [] else map signing S) (sym none))
 
     -- a refusal leaves the seat as it was
-    refuse-at : (k : ℕ) (r : Refusal) → refuse b k r ≡ at b k (refused-by (seat b k .controller) (seat b k .statements) r) (b .pool) 0
+    refuse-at : (k : ℕ) (r : Refusal) → refuse b k r ≡ at b k (refusedBy (seat b k .controller) (seat b k .statements) r) (b .pool) 0
     refuse-at k r = ap (λ S. record { reply = record { who = k; answer = refused r; number = 0 }; bench = record { isSetUp = b .isSetUp; faulty = b .faulty; seats = S; pool = b .pool } }) (sym (set-getD (b .seats) k emptySeat))
 
     -- a give of what the pool has is an addition
@@ -354,7 +354,7 @@ module _ (u : Setup) where
         given : Bool → Bool → Stepped
         given x y = if x then refuse b k repeated else if y then refuse b k full else at b k (added c X s) (b .pool) 0
 
-        cases : (x y : Bool) → given x y ≡ at b k (if x then refused-by c X repeated else if y then refused-by c X full else added c X s) (b .pool) 0
+        cases : (x y : Bool) → given x y ≡ at b k (if x then refusedBy c X repeated else if y then refusedBy c X full else added c X s) (b .pool) 0
         cases true y = refuse-at k repeated
         cases false true = refuse-at k full
         cases false false = refl

@@ -145,6 +145,8 @@ module _ (every : List Occurrence) (u : Setup) where
           let x : Seat = record { controller = c; statements = X } in
           let took = add-taken c X P s ready width clean has new (omega arith) in
           let now = call-mine p P k (addCall s) here x h ∙ took in
+          let same : signedBefore R (suc p) ≡ signedBefore R p =
+          call-signed p P k (addCall s) here x h ∙ ap (λ o. signedBefore R p ++ signedIn (o .answer)) took ∙ append-nil (signedBefore R p) in
           let r = additions Y (suc p) (X ++ (s ∷ [])) rest (ap seatOf now)
           (λ t m. let (u, v, w) = f t (List·Memᴰ·tail m) in (
             u,
@@ -157,7 +159,7 @@ module _ (every : List Occurrence) (u : Setup) where
           record {
             mine = r .mine ∙ ap (λ Z. record { controller = c; statements = Z }) (append-snoc X s Y);
             others = λ j n. r .others j n ∙ call-other p P k (addCall s) here j n;
-            signed = r .signed ∙ call-signed p P k (addCall s) here x h ∙ ap (λ o. signedBefore R p ++ signedIn (o .answer)) took ∙ append-nil (signedBefore R p);
+            signed = r .signed ∙ same;
             told = λ i j b low high e. elim (decLt i (suc p)) [ yes z ↦ call-told p P k (addCall s) here i j b low z e ∙ ap (λ o. o .answer) now | no z ↦ r .told i j b (omega arith) high e ];
           }
 

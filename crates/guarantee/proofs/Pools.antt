@@ -13,7 +13,7 @@ use Rattle.protocol.specs.Lists.{if_then_else_, _∈_, _⊆_, any}
 use Rattle.protocol.specs.View.{controllers}
 use Rattle.protocol.specs.Statement.{Stmt, sameStmt, fieldRules}
 use Rattle.protocol.specs.Controller.{Controller, repeated, full, taken, Outcome}
-use Rattle.protocol.specs.Call.{isFull, add, refuse as refused-by}
+use Rattle.protocol.specs.Call.{isFull, add, refuse as refusedBy}
 use Rattle.protocol.specs.Pool.{numberOf, pooled, hasRoom}
 use Rattle.protocol.proofs.Different.{Different, ordered-append}
 use Rattle.protocol.proofs.Asked.{says-has, says-same-stmt}
@@ -82,7 +82,7 @@ abbrev pub added : Controller → List Stmt → Stmt → Outcome
 added c X s = record { answer = taken; controller = c; statements = X ++ (s ∷ []) }
 
 module _ (c : Controller) (X P : List Stmt) (s : Stmt) (ready : c .isSetUp ≡ true) (width : c .ring .width ≡ controllers) (clean : T (fieldRules controllers s)) (has : s ∈ P) where
-  pub add-is : add c X (hasRoom P) s ≡ (if any (sameStmt s) X then refused-by c X repeated else if leb 512 (length X) then refused-by c X full else added c X s)
+  pub add-is : add c X (hasRoom P) s ≡ (if any (sameStmt s) X then refusedBy c X repeated else if leb 512 (length X) then refusedBy c X full else added c X s)
   unfolding add isFull hasRoom
   add-is = rw (ready, width, holds (fieldRules controllers s) clean, holds (any (sameStmt s) P) (says-has .complete has), or-false (leb 512 (length X))) refl
 

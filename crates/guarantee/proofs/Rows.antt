@@ -1,4 +1,5 @@
 -- What is promised holds of the replies to the lines of a schedule.
+--     acting         a row `signed`, `entered`, `delivered` or `refused,7` is that of a turn
 --     rows-kept      demand 3, and no row `refused,7`
 --     signed-number  the number in a row `signed` is that of the statement in the final pool
 --     entered-view   a view in a row `entered` is one of the ring

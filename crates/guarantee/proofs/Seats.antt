@@ -5,12 +5,12 @@ use mathlib.Core.Logic.{_⊎_, inl, inr}
 use mathlib.Core.Bool.{Bool, true, false, not, _&&_, _||_, true≢false}
 use mathlib.Core.List.{List, [], _∷_, _++_, List·Memᴰ·not-nil, List·Memᴰ·append-cases, List·Memᴰ·eq-of-singleton}
 use mathlib.Core.Option.{Option, some, none}
-use Prim.Native.Nat.{ℕ, _-_, _^_, _/_, _≤_, _<_}
+use Prim.Native.Nat.{ℕ, _^_, _<_}
 use native.Mathlib.Omega.{arith}
 use borrow.Author.Tests.{lt-ltb}
 use lib.Dec.{T, eqb, ltb, ltb→lt, lt→ltb, T-not}
 use lib.ListN.{length}
-use Rattle.protocol.specs.Sets.{bit, count}
+use Rattle.protocol.specs.Sets.{bit}
 use Rattle.protocol.specs.Lists.{_∈_, _⊆_, any, isSome}
 use Rattle.protocol.specs.View.{controllers, View, member, memberCount, isView}
 use Rattle.protocol.specs.History.{top}
@@ -21,12 +21,11 @@ use Rattle.protocol.specs.Call.{ringOf, isFull, setupAllowed, started, setup, r
 use Rattle.protocol.specs.Turn.{enteredAfter, countedReports, Action, sign, bindAndSign, enter, deliver, T as Top, firstRule, signing, perform, turn}
 use Rattle.protocol.specs.Run.{Call, setupCall, joinCall, leaveCall, sendCall, addCall, turnCall, outcome, Run, signedIn, FewBreakers, IsRun}
 use Rattle.protocol.proofs.Found.{none≢some, some-injective}
-use Rattle.protocol.proofs.Counting.{count-mono}
 use Rattle.protocol.proofs.Rules.{and-second, Signs, reports, agreesView, agreesHistory, acks, stores, joins, leaves, sends, EntersBy, acting, merged-bound, counted-in}
 use Rattle.protocol.proofs.FieldRules.{says-fields, Sound, ack-small, signs-fields}
-use Rattle.protocol.proofs.Steps.{no-members, manned, init-view, signs-origin}
+use Rattle.protocol.proofs.Steps.{manned, init-view, signs-origin}
 use Rattle.bench.specs.Bench.{Seat}
-use Rattle.guarantee.proofs.Laws.{holds, either}
+use Rattle.guarantee.proofs.Laws.{count-none, holds, either}
 
 abbrev pub seatOf : Outcome → Seat
 seatOf o = record { controller = o .controller; statements = o .statements }
@@ -93,13 +92,9 @@ module _ (u : Setup) where
     calls = λ n k c e. absurd (none≢some e);
     signings = λ n s e. absurd (none≢some e);
     unforged = λ n k s e. absurd (none≢some e);
-    fewBreakers = λ H h. few-none (top (ringOf members) H);
+    fewBreakers = λ H h. let t : View = top (ringOf members) H in
+        let e = count-none controllers (λ k. member t k && not (ltb k controllers)) (λ k l m. T-not (ltb k controllers) (and-second (member t k) (not (ltb k controllers)) m) (lt→ltb k controllers l)) in omega (arith, e);
   }
-    where
-      few-none : (t : View) → count controllers (λ k. member t k && not (ltb k controllers)) ≤ (memberCount controllers t - 1) / 3
-      few-none t =
-          let h = count-mono controllers (λ k. member t k && not (ltb k controllers)) (λ k. false) (λ k l m. T-not (ltb k controllers) (and-second (member t k) (not (ltb k controllers)) m) (lt→ltb k controllers l)) in
-          omega (arith, h, no-members controllers)
 
   -- ---- one seat, over the pool P
 

@@ -29,21 +29,21 @@ use Rattle.guarantee.specs.Events.{afterLine, after}
 
 -- ---- texts of signs from b on
 
-abbrev From : ℕ → List ℕ → Type 0
-From b [] = Unit {0}
-From b (c ∷ t) = (b ≤ c) × From b t
+abbrev AtLeast : ℕ → List ℕ → Type 0
+AtLeast b [] = Unit {0}
+AtLeast b (c ∷ t) = (b ≤ c) × AtLeast b t
 
-from-append : (b : ℕ) (s t : List ℕ) → From b s → From b t → From b (s ++ t)
-from-append b [] t p q = q
-from-append b (c ∷ s) t (h, p) q = (h, from-append b s t p q)
+least-append : (b : ℕ) (s t : List ℕ) → AtLeast b s → AtLeast b t → AtLeast b (s ++ t)
+least-append b [] t p q = q
+least-append b (c ∷ s) t (h, p) q = (h, least-append b s t p q)
 
-from-less : (a b : ℕ) → a ≤ b → (t : List ℕ) → From b t → From a t
-from-less a b l [] p = tt
-from-less a b l (c ∷ t) (h, p) = (omega arith, from-less a b l t p)
+least-less : (a b : ℕ) → a ≤ b → (t : List ℕ) → AtLeast b t → AtLeast a t
+least-less a b l [] p = tt
+least-less a b l (c ∷ t) (h, p) = (omega arith, least-less a b l t p)
 
 -- a digit or a letter is 48 or more; a comma is 44, and the end of a line 10
 abbrev Plain : List ℕ → Type 0
-Plain t = From 48 t
+Plain t = AtLeast 48 t
 
 plain-of : (t : List ℕ) → T (all (leb 48) t) → Plain t
 unfolding all
@@ -64,7 +64,7 @@ plain-digits (suc steps) n = go (ltb n 10) (plain-digits steps (n / 10))
   where
     go : (b : Bool) → Plain (digits steps (n / 10)) → Plain (cond b (glyph n ∷ []) (digits steps (n / 10) ++ (glyph (n % 10) ∷ [])))
     go true p = (plain-glyph n, tt)
-    go false p = from-append 48 (digits steps (n / 10)) (glyph (n % 10) ∷ []) p (plain-glyph (n % 10), tt)
+    go false p = least-append 48 (digits steps (n / 10)) (glyph (n % 10) ∷ []) p (plain-glyph (n % 10), tt)
 
 plain-dec : (n : ℕ) → Plain (decText n)
 unfolding decText
@@ -73,7 +73,7 @@ plain-dec n = plain-digits n n
 plain-hex : (k n : ℕ) → Plain (hexText k n)
 unfolding hexText
 plain-hex zero n = tt
-plain-hex (suc k) n = from-append 48 (hexText k (n / 16)) (glyph (n % 16) ∷ []) (plain-hex k (n / 16)) (plain-glyph (n % 16), tt)
+plain-hex (suc k) n = least-append 48 (hexText k (n / 16)) (glyph (n % 16) ∷ []) (plain-hex k (n / 16)) (plain-glyph (n % 16), tt)
 
 plain-word : (a : Answer) → Plain (wordText a)
 unfolding all
@@ -89,7 +89,7 @@ plain-value : (n : ℕ) (a : Answer) → Plain (valueText (answerValue n a))
 unfolding viewText
 plain-value n taken = plain-dec n
 plain-value n (signed s) = plain-dec n
-plain-value n (entered v) = from-append 48 (hexText 4 (v .joined)) (hexText 4 (v .left)) (plain-hex 4 (v .joined)) (plain-hex 4 (v .left))
+plain-value n (entered v) = least-append 48 (hexText 4 (v .joined)) (hexText 4 (v .left)) (plain-hex 4 (v .joined)) (plain-hex 4 (v .left))
 plain-value n (delivered m) = plain-dec m
 plain-value n left = plain-dec 0
 plain-value n quiet = plain-dec 0
@@ -122,11 +122,11 @@ fields-told (f ∷ F) [] p q l e = absurd (omega arith)
 fields-told (f ∷ []) (g ∷ y ∷ G) p q l e = absurd (omega arith)
 fields-told (f ∷ x ∷ F) (g ∷ []) p q l e = absurd (omega arith)
 
-parted-from : (F : List (List ℕ)) → Plains F → From 44 (parted F)
+parted-least : (F : List (List ℕ)) → Plains F → AtLeast 44 (parted F)
 unfolding parted
-parted-from [] p = tt
-parted-from (f ∷ []) (p, _) = from-less 44 48 (omega arith) f p
-parted-from (f ∷ x ∷ F) (p, q) = from-append 44 f (44 ∷ parted (x ∷ F)) (from-less 44 48 (omega arith) f p) (omega arith, parted-from (x ∷ F) q)
+parted-least [] p = tt
+parted-least (f ∷ []) (p, _) = least-less 44 48 (omega arith) f p
+parted-least (f ∷ x ∷ F) (p, q) = least-append 44 f (44 ∷ parted (x ∷ F)) (least-less 44 48 (omega arith) f p) (omega arith, parted-least (x ∷ F) q)
 
 -- ---- a number is told by its text
 
@@ -155,18 +155,18 @@ dec-told m n e = sym (read-dec (suc m) m (omega arith)) ∙ ap (read 0) e ∙ re
 -- ---- an answer is told by its word and its value
 
 -- a word by its first letter
-place : ℕ → ℕ
-place c = if eqb c 116 then 0 else if eqb c 115 then 1 else if eqb c 101 then 2 else if eqb c 100 then 3 else if eqb c 108 then 4 else if eqb c 113 then 5 else 6
+wordPlace : ℕ → ℕ
+wordPlace c = if eqb c 116 then 0 else if eqb c 115 then 1 else if eqb c 101 then 2 else if eqb c 100 then 3 else if eqb c 108 then 4 else if eqb c 113 then 5 else 6
 
-place-is : (a : Answer) → place (getD (wordText a) 0 0) ≡ answerWord a
-unfolding place
-place-is taken = refl
-place-is (signed s) = refl
-place-is (entered v) = refl
-place-is (delivered m) = refl
-place-is left = refl
-place-is quiet = refl
-place-is (refused r) = refl
+word-place-is : (a : Answer) → wordPlace (getD (wordText a) 0 0) ≡ answerWord a
+unfolding wordPlace
+word-place-is taken = refl
+word-place-is (signed s) = refl
+word-place-is (entered v) = refl
+word-place-is (delivered m) = refl
+word-place-is left = refl
+word-place-is quiet = refl
+word-place-is (refused r) = refl
 
 -- what the word's place tells
 abbrev Tells : ℕ → Answer → Type 0
@@ -188,7 +188,7 @@ tells quiet = refl
 tells (refused r) = (r, refl)
 
 word-told : (a b : Answer) → wordText a ≡ wordText b → Tells (answerWord b) a
-word-told a b e = subst (λ w. Tells w a) (sym (place-is a) ∙ ap (λ t. place (getD t 0 0)) e ∙ place-is b) (tells a)
+word-told a b e = subst (λ w. Tells w a) (sym (word-place-is a) ∙ ap (λ t. wordPlace (getD t 0 0)) e ∙ word-place-is b) (tells a)
 
 -- a refusal by its number
 refusals : List Refusal
@@ -250,16 +250,21 @@ answer-told n r s e =
     let f = fields-told (fields n r) (fields n s) (plains n r) (plains n s) refl e in
     (dec-told (r .who) (s .who) (ap (λ F. getD F 1 []) f), told (r .number) (s .number) (r .answer) (s .answer) (ap (λ F. getD F 2 []) f) (ap (λ F. getD F 3 []) f))
 
+-- the row that an unmarked controller never gets: n,k,refused,7
+pub conflict-row : (n k number : ℕ) → rowText n (record { who = k; answer = refused conflict; number = number }) ≡ parted (decText n ∷ decText k ∷ (114 ∷ 101 ∷ 102 ∷ 117 ∷ 115 ∷ 101 ∷ 100 ∷ []) ∷ (55 ∷ []) ∷ []) ++ (10 ∷ [])
+unfolding rowText decText digits
+conflict-row n k number = refl
+
 -- ---- the lines of the output
 
-line-first : (t S : List ℕ) → From 44 t → lines ((t ++ (10 ∷ [])) ++ S) ≡ (t ++ (10 ∷ [])) ∷ lines S
+line-first : (t S : List ℕ) → AtLeast 44 t → lines ((t ++ (10 ∷ [])) ++ S) ≡ (t ++ (10 ∷ [])) ∷ lines S
 unfolding lines
 line-first [] S f = refl
 line-first (c ∷ t) S (h, f) = ap (λ b. if b then (10 ∷ []) ∷ lines ((t ++ (10 ∷ [])) ++ S) else before c (lines ((t ++ (10 ∷ [])) ++ S))) (ne-eqb c 10 (λ e. omega arith)) ∙ ap (before c) (line-first t S f)
 
 row-first : (n : ℕ) (r : Reply) (S : List ℕ) → lines (rowText n r ++ S) ≡ rowText n r ∷ lines S
 unfolding rowText
-row-first n r S = line-first (parted (fields n r)) S (parted-from (fields n r) (plains n r))
+row-first n r S = line-first (parted (fields n r)) S (parted-least (fields n r) (plains n r))
 
 -- the row of a line
 abbrev pub rowAt : ℕ → Bench → Option (Option Line) → Option (List ℕ)

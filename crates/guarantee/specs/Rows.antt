@@ -53,7 +53,7 @@ module _ (L : List (Option Line)) where
 
   -- A row is taken by its reply (`RepliedTo`), or as it stands in the text that is printed (`InText`).
   module _ (Row : ℕ → Reply → Type 0) where
-    -- The row of line n names controller k, and answers a.
+    -- The row of line n names controller k and answers a, and its value stands for what a carries.
     pub record Says (n k : ℕ) (a : Answer) : Type 0 where
       pub number : ℕ
       pub row : Row n (record { who = k; answer = a; number = number })
@@ -65,7 +65,8 @@ module _ (L : List (Option Line)) where
       pub taken : Says n sender taken
 
     module _ (members sender faulty : ℕ) where
-      -- What is seen of the ring in its rows: those who are not marked faulty follow the rules, what comes n-th is line n, and its row has the answer.
+      -- What is seen of the ring in its rows. Those who are not marked faulty follow the rules; what comes n-th is line n, and its row has the answer:
+      -- a row `signed`, `entered`, `delivered` or `refused,7` is that of a turn.
       abbrev pub rows : Observed
       rows = record {
         follows = follower faulty;
@@ -81,16 +82,17 @@ module _ (L : List (Option Line)) where
         pub promises : Promises rows
         pub noConflict : NoConflict rows
 
--- The promise about the text that is printed for a schedule which is not too long: for its reading, where a setup is taken and few are marked faulty.
--- The reading is the only one, and so is the text (`read-all-one`, `printed-one` in crates/bench).
+-- What is promised of a text `out`, as that of a schedule which is not too long: for its reading, where a setup is taken and few are marked faulty.
+-- A schedule has one reading (`read-all-one` in crates/bench).
 abbrev pub Promised : List ℕ → List ℕ → Type 0
 Promised schedule out =
     length schedule ≤ 65536 → (L : List (Option Line)) → ReadAll (lines schedule) L
     → (first members sender faulty : ℕ) → SetUpBy L (InText out) first members sender faulty → FewFaulty L members faulty → Kept L (InText out) members sender faulty
 
+-- The promise, of the text that is printed for a schedule; it is one (`printed-one` in crates/bench).
 abbrev pub Guarantee : Type 0
 Guarantee = (schedule out : List ℕ) → Printed schedule out → Promised schedule out
 
--- And about what `run` of crates/bench leaves in memory that has room for it.
+-- The same of what `run` of crates/bench leaves in memory that has room for it: r is the number that it answers.
 abbrev pub InMemory : Type 0
 InMemory = (schedule rows : List ℕ) (r : ℕ) (memory : List ℕ) (a : Answered schedule rows r memory) → length (a .text) ≤ length rows → Promised schedule (take r memory)
