@@ -1,0 +1,39 @@
+-- THE THEOREMS, in the order in which a buyer meets them: what is promised of the rows, of a host's calls, of the engine's calls, and of a run.
+-- Each promises the same: `Promises`, demand 3 of document 01, and `NoConflict`, no refusal with 7; both are said in crates/protocol/specs/Promises.antt.
+-- Assumes nothing.
+use Prim.Native.Nat.{ℕ}
+use mathlib.Core.List.{List}
+use Rattle.protocol.specs.Run.{Run, IsRun}
+use Rattle.protocol.specs.Promises.{observed, Promises, NoConflict, NeverBarred}
+use Rattle.protocol.proofs.Promises.{promises, no-conflict}
+use Rattle.protocol.proofs.Sender.{never-barred}
+use Rattle.engine.specs.declared.Outcome.{Outcome}
+use Rattle.guarantee.specs.Calls.{EngineRuns, engineCalls, Host, HostRuns, hostCalls}
+use Rattle.guarantee.specs.Rows.{Guarantee, InMemory}
+use Rattle.guarantee.proofs.Calls.{calls-keep, calls-no-conflict}
+use Rattle.guarantee.proofs.Hosts.{hosts-keep, hosts-no-conflict}
+use Rattle.guarantee.proofs.Printed.{guaranteed, left-in-memory}
+
+-- The rows that are printed for any schedule, as bytes, where a setup is taken and few members of each sealed top are marked faulty.
+pub of-rows : Guarantee
+of-rows = guaranteed
+
+-- The same of what `run` of crates/bench leaves in the memory that a caller lends.
+pub of-memory : InMemory
+of-memory = left-in-memory
+
+-- The numbers that a host gets, where its calls on each rule-follower are those of crates/pekdrav and the premises of a run hold.
+pub of-hosts : {run : Run} → IsRun run → (h : ℕ → ℕ → Host) → HostRuns run h → Promises (hostCalls run h) × NoConflict (hostCalls run h)
+of-hosts is h hosts = (hosts-keep is h hosts, hosts-no-conflict is h hosts)
+
+-- What the engine answers, where the calls on each rule-follower meet its contracts and the premises of a run hold.
+pub of-calls : {run : Run} → IsRun run → (W : ℕ → ℕ → List ℕ) (r : ℕ → ℕ → Outcome) → EngineRuns run W r → Promises (engineCalls run W r) × NoConflict (engineCalls run W r)
+of-calls is W r engines = (calls-keep is W r engines, calls-no-conflict is W r engines)
+
+-- Any list of calls and lies in which nothing is forged and few break the rules.
+pub of-runs : {run : Run} → IsRun run → Promises (observed run) × NoConflict (observed run)
+of-runs is = (promises is, no-conflict is)
+
+-- And where the sender follows the rules, nobody who does is ever barred.
+pub never : {run : Run} → IsRun run → NeverBarred run
+never is = never-barred is

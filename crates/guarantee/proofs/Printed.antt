@@ -1,0 +1,139 @@
+-- What is promised holds of the rows that are printed for a schedule.
+-- Assumes nothing.
+use mathlib.Core.Path.{_≡_, refl, sym, ap, ap₂, subst, _∙_}
+use mathlib.Core.Bool.{_&&_, _||_}
+use mathlib.Core.List.{List, [], _∷_, _++_}
+use mathlib.Core.Option.{Option, some, none}
+use Prim.Native.Nat.{ℕ, zero, suc, _^_, _≤_, _<_}
+use native.Mathlib.Omega.{arith}
+use borrow.Author.Tests.{le-ltb, ne-eqb}
+use lib.Dec.{T}
+use lib.ListN.{length, take, drop, getElem?}
+use lib.Seq.{take-append-seam}
+use Rattle.protocol.specs.Lists.{if_then_else_}
+use Rattle.protocol.specs.Sets.{bit}
+use Rattle.protocol.specs.View.{controllers, View, isView, member}
+use Rattle.protocol.specs.History.{top}
+use Rattle.protocol.specs.Statement.{Stmt}
+use Rattle.protocol.specs.Controller.{Answer, taken, signed, entered, delivered, left, quiet, refused}
+use Rattle.protocol.specs.Call.{ringOf}
+use Rattle.protocol.specs.Promises.{Observed}
+use Rattle.protocol.proofs.Found.{none≢some, some-injective}
+use Rattle.protocol.proofs.Bits.{bit-zero}
+use Rattle.protocol.proofs.Rules.{and-second}
+use Rattle.protocol.proofs.Order.{says-view}
+use Rattle.protocol.proofs.Carried.{carried, carried-no-conflict}
+use Rattle.schedule.specs.Line.{Line, lines, ReadAll}
+use Rattle.bench.specs.Bench.{newBench, Reply, step}
+use Rattle.bench.specs.Rows.{rowText, headerText, refusedRow, rowsFrom, Printed}
+use Rattle.bench.proofs.One.{read-all-one}
+use Rattle.guarantee.specs.Events.{follower, after}
+use Rattle.guarantee.specs.Rows.{InText, RepliedTo, finalPool, FewFaulty, Names, Says, SetUpBy, rows, Kept, Guarantee, InMemory}
+use Rattle.guarantee.proofs.Laws.{count-none}
+use Rattle.guarantee.proofs.Lines.{Legible, legible}
+use Rattle.guarantee.proofs.Schedules.{AllLegible, Schedule}
+use Rattle.guarantee.proofs.Rows.{signed-number, entered-view, rows-kept}
+use Rattle.guarantee.proofs.Texts.{view-told, Told, answer-told, rowAt, out-at}
+
+legible-at : (S : List (List ℕ)) (L : List (Option Line)) → ReadAll S L → AllLegible L
+legible-at [] [] r n l e = absurd (none≢some e)
+legible-at (s ∷ S) (x ∷ L) r zero l e = subst Legible (some-injective e) (legible s x (r .0))
+legible-at (s ∷ S) (x ∷ L) r (suc n) l e = legible-at S L (r .1) n l e
+
+-- a schedule that has a line is not empty
+some-bytes : (schedule : List ℕ) (L : List (Option Line)) → ReadAll (lines schedule) L → (n : ℕ) {l : Option Line} → getElem? L n ≡ some l → length schedule ≡ 0 → ⊥
+unfolding lines
+some-bytes [] [] r n e f = none≢some e
+some-bytes (c ∷ S) L r n e f = omega arith
+
+module _ (schedule out : List ℕ) (printed : Printed schedule out) (short : length schedule ≤ 65536) (L : List (Option Line)) (reads : ReadAll (lines schedule) L) (first members sender faulty : ℕ) (start : SetUpBy L (InText out) first members sender faulty) where
+  out-is : out ≡ headerText ++ rowsFrom 1 newBench L
+  out-is =
+      printed .prints ∙ ap (λ t. headerText ++ t)
+      (ap₂ (λ x y. if x || y then refusedRow else rowsFrom 1 newBench (printed .reading)) (ne-eqb (length schedule) 0 (some-bytes schedule L reads first (start .line))) (le-ltb 65536 (length schedule) short)
+      ∙ ap (rowsFrom 1 newBench) (read-all-one (lines schedule) (printed .reading) L (printed .reads short) reads))
+
+  row-at : (n : ℕ) → getElem? (lines out) (suc n) ≡ rowAt (suc n) (after L n) (getElem? L n)
+  row-at n = ap (λ t. getElem? (lines t) (suc n)) out-is ∙ out-at L n
+
+  -- a reply is printed
+  shown : (n : ℕ) (r : Reply) → RepliedTo L n r → InText out n r
+  shown n r p = row-at n ∙ ap (rowAt (suc n) (after L n)) (p .there) ∙ ap (λ r. some (rowText (suc n) r)) (p .reply)
+
+  -- and what is printed is a reply's
+  record ReplyOf (n : ℕ) (r : Reply) : Type 0 where
+    answer : Answer
+    number : ℕ
+    row : RepliedTo L n (record { who = r .who; answer = answer; number = number })
+    told : Told number answer (r .number) (r .answer)
+
+  reply-of : (n : ℕ) (r : Reply) → InText out n r → ReplyOf n r
+  reply-of n r t = go (getElem? L n) refl
+    where
+      go : (x : Option (Option Line)) → getElem? L n ≡ x → ReplyOf n r
+      go none e = absurd (none≢some (sym (ap (rowAt (suc n) (after L n)) e) ∙ sym (row-at n) ∙ t))
+      go (some l) e =
+          let s = step (after L n) l .reply in
+          let (w, a) = answer-told (suc n) s r (some-injective (sym (ap (rowAt (suc n) (after L n)) e) ∙ sym (row-at n) ∙ t)) in
+          record { answer = s .answer; number = s .number; row = record { line = l; there = e; reply = ap (λ w. record { who = w; answer = s .answer; number = s .number }) w }; told = a }
+
+  replies : (n : ℕ) {r : Reply} (b : ReplyOf n r) (a : Answer) → b .answer ≡ a → RepliedTo L n (record { who = r .who; answer = a; number = b .number })
+  replies n {r} b a e = subst (λ a. RepliedTo L n (record { who = r .who; answer = a; number = b .number })) e (b .row)
+
+  same : (n k : ℕ) (a : Answer) {number : ℕ} (b : ReplyOf n (record { who = k; answer = a; number = number })) → b .answer ≡ a → Names L a (b .number) → Says L (RepliedTo L) n k a
+  same n k a b e names = record { number = b .number; row = replies n b a e; names = names }
+
+  set-up : SetUpBy L (RepliedTo L) first members sender faulty
+  set-up = let b = reply-of first _ (start .taken .row) in record { line = start .line; taken = same first sender taken b (b .told) tt }
+
+  abbrev S : Schedule
+  S = record { L = L; reads = legible-at (lines schedule) L reads; first = first; members = members; sender = sender; faulty = faulty; start = set-up }
+
+  module _ (few : FewFaulty L members faulty) where
+    fits : (v : View) → T (isView controllers v) → (v .joined < 2 ^ 16) × (v .left < 2 ^ 16)
+    fits v t = says-view controllers v .sound t .0
+
+    -- what a row says in the text, it says
+    said : (n k : ℕ) (a : Answer) → T (follower faulty k) → Says L (InText out) n k a → Says L (RepliedTo L) n k a
+    said n k taken t s = let b = reply-of n _ (s .row) in same n k taken b (b .told) tt
+    said n k (signed x) t s =
+        let b = reply-of n _ (s .row) in
+        let (y, e, f) = b .told in
+        let here : getElem? (finalPool L) (b .number) ≡ some x = ap (getElem? (finalPool L)) f ∙ s .names in
+        let q : y ≡ x = some-injective (sym (signed-number S n k y (b .number) (replies n b (signed y) e)) ∙ here) in
+        same n k (signed x) b (e ∙ ap signed q) here
+    said n k (entered v) t s =
+        let b = reply-of n _ (s .row) in
+        let (u, e, f) = b .told in
+        let here = entered-view S few n k (b .number) u t (replies n b (entered u) e) in
+        same n k (entered v) b (e ∙ ap entered (view-told u v (fits u here) (fits v (s .names)) f)) (s .names)
+    said n k (delivered m) t s = let b = reply-of n _ (s .row) in same n k (delivered m) b (b .told) tt
+    said n k left t s = let b = reply-of n _ (s .row) in same n k left b (b .told) tt
+    said n k quiet t s = let b = reply-of n _ (s .row) in same n k quiet b (b .told) tt
+    said n k (refused r) t s = let b = reply-of n _ (s .row) in same n k (refused r) b (b .told) tt
+
+    back : (n k : ℕ) (s : Stmt) → T (follower faulty k) → Says L (RepliedTo L) n k (signed s) → Says L (InText out) n k (signed s)
+    back n k s t p = record { number = p .number; row = shown n _ (p .row); names = p .names }
+
+    kept : Kept L (RepliedTo L) members sender faulty
+    kept = rows-kept S few
+
+    printed-kept : Kept L (InText out) members sender faulty
+    printed-kept =
+        let o : Observed = rows L (RepliedTo L) members sender faulty in
+        record { promises = carried o (Says L (InText out)) (o .recordOf) said back (λ k n t. refl) (kept .promises); noConflict = carried-no-conflict o (Says L (InText out)) (o .recordOf) said back (λ k n t. refl) (kept .noConflict) }
+
+-- WHAT IS PROMISED HOLDS OF THE ROWS THAT ARE PRINTED
+pub guaranteed : Guarantee
+guaranteed = printed-kept
+
+-- and of what a run of the bench leaves in memory that has room for it
+pub left-in-memory : InMemory
+left-in-memory schedule rows r memory a room =
+    let (e, f) = a .fits room in
+    let is : take r memory ≡ a .text = ap₂ take e f ∙ take-append-seam (a .text) (drop (length (a .text)) rows) in
+    guaranteed schedule (take r memory) (subst (Printed schedule) (sym is) (a .printed))
+
+-- where nobody is marked, nothing is asked
+pub none-faulty : (L : List (Option Line)) (members : ℕ) → FewFaulty L members 0
+none-faulty L members = record { few = λ H h. let t : View = top (ringOf members) H in let e = count-none controllers (λ k. member t k && bit 0 k) (λ k l m. subst T (bit-zero k) (and-second (member t k) (bit 0 k) m)) in omega (arith, e) }

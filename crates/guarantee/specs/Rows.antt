@@ -1,0 +1,98 @@
+-- What is promised of the rows that are printed for a schedule (document 01, "A run" and "Bench schedule").
+-- Lines are counted from 0 here; the row of line n has the number n + 1.
+-- Assumes nothing.
+use mathlib.Core.Path.{_≡_}
+use mathlib.Core.Bool.{_&&_}
+use mathlib.Core.List.{List}
+use mathlib.Core.Option.{Option, some}
+use Prim.Native.Nat.{ℕ, suc, _-_, _/_, _≤_}
+use lib.Dec.{T}
+use lib.ListN.{length, take, getElem?}
+use Rattle.protocol.specs.Sets.{bit, count}
+use Rattle.protocol.specs.View.{controllers, View, isView, member, memberCount}
+use Rattle.protocol.specs.History.{top}
+use Rattle.protocol.specs.Statement.{Stmt}
+use Rattle.protocol.specs.Evidence.{Sealed}
+use Rattle.protocol.specs.Controller.{Answer, taken, signed, entered, delivered, left, quiet, refused}
+use Rattle.protocol.specs.Call.{ringOf}
+use Rattle.protocol.specs.Promises.{Observed, Promises, NoConflict}
+use Rattle.schedule.specs.Line.{Line, setup, lines, ReadAll}
+use Rattle.bench.specs.Bench.{Reply, step, seat}
+use Rattle.bench.specs.Rows.{rowText, Printed, Answered}
+use Rattle.guarantee.specs.Events.{follower, after}
+
+-- The text has the row of the reply r for line n: before it stand the header and the rows of the lines before.
+abbrev pub InText : List ℕ → ℕ → Reply → Type 0
+InText out n r = getElem? (lines out) (suc n) ≡ some (rowText (suc n) r)
+
+module _ (L : List (Option Line)) where
+  -- The reply to line n is r.
+  pub record RepliedTo (n : ℕ) (r : Reply) : Type 0 where
+    pub line : Option Line
+    pub there : getElem? L n ≡ some line
+    pub reply : step (after L n) line .reply ≡ r
+
+  -- The pool after the last line: "The run's statements are those that its turns signed and those of the signings."
+  abbrev pub finalPool : List Stmt
+  finalPool = after L (length L) .pool
+
+  -- Of the members of each sealed top by the final pool at most floor((n - 1) / 3) are marked faulty.
+  pub record FewFaulty (members faulty : ℕ) : Type 0 where
+    pub few : (H : List View) → Sealed (ringOf members) finalPool H
+        → count controllers (λ k. member (top (ringOf members) H) k && bit faulty k) ≤ (memberCount controllers (top (ringOf members) H) - 1) / 3
+
+  -- What the value of a row stands for: "the statement number for signed", that of s in the final pool; "the view for entered".
+  abbrev pub Names : Answer → ℕ → Type 0
+  Names taken number = Unit {0}
+  Names (signed s) number = getElem? finalPool number ≡ some s
+  Names (entered v) number = T (isView controllers v)
+  Names (delivered m) number = Unit {0}
+  Names left number = Unit {0}
+  Names quiet number = Unit {0}
+  Names (refused r) number = Unit {0}
+
+  -- A row is taken by its reply (`RepliedTo`), or as it stands in the text that is printed (`InText`).
+  module _ (Row : ℕ → Reply → Type 0) where
+    -- The row of line n names controller k and answers a, and its value stands for what a carries.
+    pub record Says (n k : ℕ) (a : Answer) : Type 0 where
+      pub number : ℕ
+      pub row : Row n (record { who = k; answer = a; number = number })
+      pub names : Names a number
+
+    -- Line n is this setup, and its row answers taken.
+    pub record SetUpBy (n members sender faulty : ℕ) : Type 0 where
+      pub line : getElem? L n ≡ some (some (setup members sender faulty))
+      pub taken : Says n sender taken
+
+    module _ (members sender faulty : ℕ) where
+      -- What is seen of the ring in its rows. Those who are not marked faulty follow the rules; what comes n-th is line n, and its row has the answer:
+      -- a row `signed`, `entered`, `delivered` or `refused,7` is that of a turn.
+      abbrev pub rows : Observed
+      rows = record {
+        follows = follower faulty;
+        ring = ringOf members;
+        sender = sender;
+        statements = finalPool;
+        Answers = Says;
+        recordOf = λ k n. seat (after L n) k .statements;
+      }
+
+      -- Demand 3 holds of the rows, and no row of a controller that is not marked is `refused,7`.
+      pub record Kept : Type 0 where
+        pub promises : Promises rows
+        pub noConflict : NoConflict rows
+
+-- What is promised of a text `out`, as that of a schedule which is not too long: for its reading, where a setup is taken and few are marked faulty.
+-- A schedule has one reading (`read-all-one` in crates/bench).
+abbrev pub Promised : List ℕ → List ℕ → Type 0
+Promised schedule out =
+    length schedule ≤ 65536 → (L : List (Option Line)) → ReadAll (lines schedule) L
+    → (first members sender faulty : ℕ) → SetUpBy L (InText out) first members sender faulty → FewFaulty L members faulty → Kept L (InText out) members sender faulty
+
+-- The promise, of the text that is printed for a schedule; it is one (`printed-one` in crates/bench).
+abbrev pub Guarantee : Type 0
+Guarantee = (schedule out : List ℕ) → Printed schedule out → Promised schedule out
+
+-- The same of what `run` of crates/bench leaves in memory that has room for it: r is the number that it answers.
+abbrev pub InMemory : Type 0
+InMemory = (schedule rows : List ℕ) (r : ℕ) (memory : List ℕ) (a : Answered schedule rows r memory) → length (a .text) ≤ length rows → Promised schedule (take r memory)
