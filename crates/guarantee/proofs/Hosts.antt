@@ -21,12 +21,11 @@ use Rattle.views.specs.Held.{viewIs}
 use Rattle.engine.specs.declared.Outcome.{Outcome}
 use Rattle.engine.specs.declared.Answer.{Answer}
 use Rattle.engine.specs.declared.Answer.the-variants.{Taken, Signed, Entered, Delivered, Left, Quiet, Refused}
-use Rattle.engine.specs.declared.Refusal.{Refusal}
-use Rattle.engine.specs.declared.Refusal.the-variants as why
 use Rattle.engine.specs.Meaning.{recordIs, answerIs, refusalIs}
 use Rattle.host.specs.Memory.{controllerAt}
 use Rattle.host.specs.Host.{answerNumber, valueNumber}
-use Rattle.guarantee.specs.Calls.{Grows, Calls, EngineRun, Host, HostRun, HostRuns, refusalOf, said, HostAnswers, hostCalls}
+use Rattle.guarantee.specs.Calls.{Grows, Calls, EngineRun, Host, HostRun, HostRuns, said, HostAnswers, hostCalls}
+use Rattle.guarantee.proofs.Laws.{refusal-at}
 use Rattle.guarantee.proofs.Calls.{agrees, answers}
 
 -- ---- what the numbers say is what the engine answered
@@ -44,16 +43,6 @@ view-of-word v t = go (fits t .joined) (fits t .left)
         let y : (v .joined + v .left * 65536) / 65536 % 65536 ≡ v .left = ap (λ n. n % 65536) z ∙ w in
         ap₂ (λ j l. record { joined = j; left = l }) x y
 
-refusal-said : (q : Refusal) → refusalOf (controller.refusalNumber (refusalIs q)) ≡ refusalIs q
-refusal-said why.BadSetup = refl
-refusal-said why.BadStatement = refl
-refusal-said why.Repeated = refl
-refusal-said why.Full = refl
-refusal-said why.BadRequest = refl
-refusal-said why.ManyCandidates = refl
-refusal-said why.Conflict = refl
-refusal-said why.OutOfPlace = refl
-
 -- (a view that is entered is one of the ring)
 answer-said : (W : List ℕ) (a : Answer) → ((v : View) → answerIs W a ≡ controller.entered v → T (isView controllers v)) → said W (answerNumber a) (valueNumber a) ≡ answerIs W a
 unfolding said answerNumber valueNumber answerIs
@@ -63,7 +52,7 @@ answer-said W (Entered v) f = ap controller.entered (view-of-word (viewIs v) (f 
 answer-said W (Delivered m) f = refl
 answer-said W Left f = refl
 answer-said W Quiet f = refl
-answer-said W (Refused q) f = ap controller.refused (refusal-said q)
+answer-said W (Refused q) f = ap controller.refused (refusal-at (refusalIs q))
 
 -- ---- one controller
 

@@ -1,4 +1,4 @@
--- Tests, and lists by place.
+-- Tests, lists by place, and refusals by their numbers.
 -- Assumes nothing.
 use mathlib.Core.Path.{_≡_, refl, sym, ap, _∙_}
 use mathlib.Core.Logic.{_⊎_, inl, inr}
@@ -12,10 +12,12 @@ use lib.Dec.{T}
 use lib.ListN.{length, getD, getElem?, length-append}
 use Rattle.protocol.specs.Sets.{count}
 use Rattle.protocol.specs.Lists.{if_then_else_, _∈_, filter}
+use Rattle.protocol.specs.Controller.{Refusal, badSetup, badStatement, repeated, full, badRequest, manyCandidates, conflict, outOfPlace, refusalNumber}
 use Rattle.protocol.proofs.Found.{none≢some, some-injective, filter-out}
 use Rattle.protocol.proofs.Counting.{count-mono}
 use Rattle.protocol.proofs.Different.{Different}
 use Rattle.protocol.proofs.Steps.{no-members}
+use Rattle.guarantee.specs.Calls.{refusalOf}
 
 -- ---- tests
 
@@ -97,3 +99,15 @@ module _ {A B : Type 0} (f : A → B) where
   pub map-twice : {C : Type 0} (g : B → C) (l : List A) → map g (map f l) ≡ map (λ a. g (f a)) l
   map-twice g [] = refl
   map-twice g (a ∷ l) = ap (λ t. g (f a) ∷ t) (map-twice g l)
+
+-- ---- refusals by their numbers
+
+pub refusal-at : (r : Refusal) → refusalOf (refusalNumber r) ≡ r
+refusal-at badSetup = refl
+refusal-at badStatement = refl
+refusal-at repeated = refl
+refusal-at full = refl
+refusal-at badRequest = refl
+refusal-at manyCandidates = refl
+refusal-at conflict = refl
+refusal-at outOfPlace = refl

@@ -15,7 +15,7 @@ use lib.ListN.{length, getD, drop, getElem?}
 use Rattle.protocol.specs.Lists.{if_then_else_, all}
 use Rattle.protocol.specs.View.{View}
 use Rattle.protocol.specs.Statement.{Stmt}
-use Rattle.protocol.specs.Controller.{Refusal, badSetup, badStatement, repeated, full, badRequest, manyCandidates, conflict, outOfPlace, refusalNumber, Answer, taken, signed, entered, delivered, left, quiet, refused, answerWord, answerValue}
+use Rattle.protocol.specs.Controller.{Refusal, conflict, refusalNumber, Answer, taken, signed, entered, delivered, left, quiet, refused, answerWord, answerValue}
 use Rattle.protocol.proofs.Rules.{and-first, and-second}
 use Rattle.text.specs.Text.{glyph, digits, decText, hexText}
 use Rattle.text.proofs.Bytes.{glyph-small}
@@ -25,7 +25,9 @@ use Rattle.statements.specs.Text.{parted, viewText}
 use Rattle.schedule.specs.Line.{Line, before, lines}
 use Rattle.bench.specs.Bench.{Bench, newBench, Reply, step}
 use Rattle.bench.specs.Rows.{wordText, valueText, rowText, headerText, rowsFrom}
+use Rattle.guarantee.specs.Calls.{refusalOf}
 use Rattle.guarantee.specs.Events.{afterLine, after}
+use Rattle.guarantee.proofs.Laws.{refusal-at}
 
 -- ---- texts of signs from b on
 
@@ -191,22 +193,8 @@ word-told : (a b : Answer) → wordText a ≡ wordText b → Tells (answerWord b
 word-told a b e = subst (λ w. Tells w a) (sym (word-place-is a) ∙ ap (λ t. wordPlace (getD t 0 0)) e ∙ word-place-is b) (tells a)
 
 -- a refusal by its number
-refusals : List Refusal
-refusals = outOfPlace ∷ badSetup ∷ badStatement ∷ repeated ∷ full ∷ badRequest ∷ manyCandidates ∷ conflict ∷ outOfPlace ∷ []
-
-refusal-at : (r : Refusal) → getD refusals (refusalNumber r) outOfPlace ≡ r
-unfolding refusals
-refusal-at badSetup = refl
-refusal-at badStatement = refl
-refusal-at repeated = refl
-refusal-at full = refl
-refusal-at badRequest = refl
-refusal-at manyCandidates = refl
-refusal-at conflict = refl
-refusal-at outOfPlace = refl
-
 refusal-told : (r s : Refusal) → refusalNumber r ≡ refusalNumber s → r ≡ s
-refusal-told r s e = sym (refusal-at r) ∙ ap (λ n. getD refusals n outOfPlace) e ∙ refusal-at s
+refusal-told r s e = sym (refusal-at r) ∙ ap refusalOf e ∙ refusal-at s
 
 -- a view that fits by its digits
 pub view-told : (u v : View) → (u .joined < 2 ^ 16) × (u .left < 2 ^ 16) → (v .joined < 2 ^ 16) × (v .left < 2 ^ 16) → viewText u ≡ viewText v → u ≡ v

@@ -5,6 +5,7 @@ use mathlib.Core.List.{List, [], _∷_}
 use mathlib.Core.Option.{some}
 use Prim.Native.Nat.{ℕ, suc, _≤_, _<_}
 use lib.Dec.{T, eqb}
+use lib.ListN.{getD}
 use Rattle.protocol.specs.Lists.{if_then_else_}
 use Rattle.protocol.specs.Controller.{Answer, taken, signed, entered, delivered, left, quiet, refused, Refusal, badSetup, badStatement, repeated, full, badRequest, manyCandidates, conflict, outOfPlace, notSetUp}
 use Rattle.protocol.specs.Pool.{hasRoom}
@@ -101,9 +102,7 @@ HostRuns run h = (k : ℕ) → T (run .follows k) → HostRun run k (h k)
 
 -- The refusal of a number, as `refusalNumber` gives them.
 abbrev pub refusalOf : ℕ → Refusal
-refusalOf n =
-    if eqb n 1 then badSetup else if eqb n 2 then badStatement else if eqb n 3 then repeated else if eqb n 4 then full
-    else if eqb n 5 then badRequest else if eqb n 6 then manyCandidates else if eqb n 7 then conflict else outOfPlace
+refusalOf n = getD (outOfPlace ∷ badSetup ∷ badStatement ∷ repeated ∷ full ∷ badRequest ∷ manyCandidates ∷ conflict ∷ []) n outOfPlace
 
 -- What an answer and a value say: a statement by its number in the pool W, a view by its word, a payload as it is, a refusal by its number.
 unfoldable pub said : List ℕ → ℕ → ℕ → Answer
