@@ -12,7 +12,7 @@ use lib.Dec.{T, eqb, ltb, ltb→lt, lt→ltb, T-not}
 use lib.ListN.{length}
 use Rattle.protocol.specs.Sets.{bit}
 use Rattle.protocol.specs.Lists.{_∈_, _⊆_, any, isSome}
-use Rattle.protocol.specs.View.{controllers, View, member, memberCount, isView}
+use Rattle.protocol.specs.View.{controllers, View, member, hasMembers, isView}
 use Rattle.protocol.specs.History.{top}
 use Rattle.protocol.specs.Statement.{Stmt, Binding, bound, sameStmt, fieldRules}
 use Rattle.protocol.specs.Evidence.{candidates, isConflict}
@@ -21,7 +21,7 @@ use Rattle.protocol.specs.Call.{ringOf, isFull, setupAllowed, started, setup, r
 use Rattle.protocol.specs.Turn.{enteredAfter, countedReports, Action, sign, bindAndSign, enter, deliver, T as Top, firstRule, signing, perform, turn}
 use Rattle.protocol.specs.Run.{Call, setupCall, joinCall, leaveCall, sendCall, addCall, turnCall, outcome, Run, signedIn, FewBreakers, IsRun}
 use Rattle.protocol.proofs.Found.{none≢some, some-injective}
-use Rattle.protocol.proofs.Rules.{and-second, Signs, reports, agreesView, agreesHistory, acks, stores, joins, leaves, sends, EntersBy, acting, merged-bound, counted-in}
+use Rattle.protocol.proofs.Rules.{and-second, Signs, reports, agreesView, agreesHistory, acks, stores, joins, leaves, sends, EntersBy, acting, merged-bound, counted-out}
 use Rattle.protocol.proofs.FieldRules.{says-fields, Sound, ack-small, signs-fields}
 use Rattle.protocol.proofs.Steps.{manned, init-view, signs-origin}
 use Rattle.bench.specs.Bench.{Seat}
@@ -57,7 +57,7 @@ module _ (c : Controller) (X : List Stmt) (ok : Sound c X) where
   enters-small : {v : View} {b : Binding} → EntersBy c X v b → (m : ℕ) → b ≡ bound m → m < 2 ^ 64
   enters-small w m q = elim (merged-bound (c .binding) (countedReports c X) (sym (w .merged) ∙ q)) [
     | inl e ↦ ok .binding m e
-    | inr (x, i, e) ↦ subst (λ m. m < 2 ^ 64) e (says-fields (c .ring) x .sound (ok .allKeep x (counted-in c X i)) .payload)
+    | inr (x, i, e) ↦ subst (λ m. m < 2 ^ 64) e (says-fields (c .ring) x .sound (ok .allKeep x (counted-out c X i .0)) .payload)
   ]
 
 -- a setup that is taken
@@ -125,7 +125,7 @@ module _ (u : Setup) where
     sound =
         let s = ok .inRing in
         record {
-          manned = subst (λ Q. 0 < memberCount (Q .width) (Q .init)) (sym (s .ring)) (manned nothing-is);
+          manned = subst (λ Q. T (hasMembers (Q .width) (Q .init))) (sym (s .ring)) (manned nothing-is);
           initView = subst (λ Q. T (isView (Q .width) (Q .init))) (sym (s .ring)) (init-view nothing-is);
           number = subst (λ Q. c .number < Q .width) (sym (s .ring)) (subst (λ j. j < controllers) (sym (s .number)) near);
           allKeep = λ x i. subst (λ Q. T (fieldRules (Q .width) x)) (sym (s .ring)) (clean x (ok .known x i));
