@@ -42,7 +42,9 @@ enum pekdrav_answer {
 
 /* A controller's fields: 0 whether it is set up, 1 its number, 2 the initial view, 3 the sender, 4 the binding (0 unbound, 1 bound, 2 barred)
  * and 5 its payload, 6 delivered, 7 join requested, 8 leave requested, 9 send requested and 10 its payload, 11 the record's length, 12 how many
- * views it entered, 16 to 31 those views. Controllers that share a pool may not be called at the same time. */
+ * views it entered, 16 to 31 those views. A refused call leaves fields and numbers as they were. After any other they stand for the controller that the
+ * call leaves; nothing is promised of fields 13 to 15, of views after those entered and of numbers after the record's length, which stand for nothing.
+ * Controllers that share a pool may not be called at the same time. */
 
 /* An empty pool. */
 void pekdrav_clear(uint64_t words[PEKDRAV_POOL_WORDS]);
