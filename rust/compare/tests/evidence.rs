@@ -71,3 +71,14 @@ fn a_pool_takes_512_statements_and_no_line_that_is_none() {
     assert_eq!(append(&mut words, b"6,3,00000000,00000000,0,0,0,0,0"), Ok(0));
     assert!(words == full, "the pool is as it was");
 }
+
+/// Only the words of a new statement and the number of statements are written, whatever the others hold.
+#[test]
+fn an_addition_writes_no_other_word() {
+    let mut words = Box::new([u64::MAX; POOL_WORDS]);
+    words[POOL_WORDS - 1] = 3;
+    assert_eq!(append(&mut words, b"4,2,00070000,00000000,0,0,0,0,2,00070000,000f0000"), Ok(3));
+    let written: Vec<(usize, u64)> = words.iter().copied().enumerate().filter(|&(_, word)| word != u64::MAX).collect();
+    let head: u64 = 4 | 2 << 8 | 7 << 16 | 2 << 48;
+    assert_eq!(written, [(3, head), (515, 0), (1027, 0), (1539, 0), (2096, 7), (2097, 15), (10240, 4)]);
+}
