@@ -74,7 +74,7 @@ pub fn is_history(words: &[u64; POOL_WORDS], n: u16, init: u32) -> bool
     if read::nth(words, n, 0) != init {
         return false;
     }
-    if views::members(init) == 0 {
+    if !views::has_members(init) {
         return false;
     }
     let mut p = 1usize;
@@ -83,7 +83,7 @@ pub fn is_history(words: &[u64; POOL_WORDS], n: u16, init: u32) -> bool
         if !views::below_view(read::nth(words, n, p - 1), v) {
             return false;
         }
-        if views::members(v) == 0 {
+        if !views::has_members(v) {
             return false;
         }
         p += 1;

@@ -28,11 +28,12 @@ pub use read::view;
 pub use seek::append;
 pub use seek::find;
 pub use seek::same_at;
+use views::View;
 pub use write::get;
 pub use write::put;
 
-// 512 statements of 4 words and 16 views each, and how many there are.
-pub const POOL_WORDS: usize = 10241;
+// 512 statements of 4 words and a history's most views each, and how many there are.
+pub const POOL_WORDS: usize = 512 * (4 + View::LIMIT) + 1;
 
 // Where a statement is.
 pub enum Found {

@@ -8,6 +8,7 @@ ghost use Rattle.views.specs.View.{viewOf};
 ghost use Rattle.pool.specs.Pool.{headAt, word, viewAt, stmtAt, countOf, poolLen};
 ghost use Rattle.pool.specs.Changes.{headOf};
 use crate::POOL_WORDS;
+use views::View;
 
 // How many words the memory has. A proof that a word was written asks for it.
 pub fn size(words: &[u64; POOL_WORDS]) -> usize
@@ -132,7 +133,7 @@ pub fn count(words: &[u64; POOL_WORDS], n: u16) -> usize
     ensures { λ r. ⌜ (r ≡ countOf (now (words .entry)) n) × (r ≤ 16) ⌝ }
 {
     let w = head_word(words, n) / 281474976710656 % 256;
-    capped(w, 16) as usize
+    capped(w, View::LIMIT as u64) as usize
 }
 
 // View p of statement n.
@@ -140,7 +141,7 @@ pub fn nth(words: &[u64; POOL_WORDS], n: u16, p: usize) -> u32
     requires { ⌜ p < 16 ⌝ }
     ensures { λ r. ⌜ viewOf r ≡ viewAt (now (words .entry)) n p ⌝ }
 {
-    low_view(words[2048 + slot(n) * 16 + p])
+    low_view(words[2048 + slot(n) * View::LIMIT + p])
 }
 
 // How many statements a record of length len has.

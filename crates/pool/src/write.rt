@@ -52,7 +52,7 @@ pub fn put(words: &mut [u64; POOL_WORDS], n: u16, st: Statement)
     words[s + 512] = v.word() as u64;
     words[s + 1024] = statements::payload_of(st);
     words[s + 1536] = st.kept;
-    put_views(words, 2048 + s * 16, h);
+    put_views(words, 2048 + s * View::LIMIT, h);
 }
 
 // The binding that a number and a payload stand for.
@@ -73,7 +73,7 @@ fn get_views(words: &[u64; POOL_WORDS], n: u16) -> History
     ensures { λ r. ⌜ (firstViews (r .len) (r .views) ≡ stmtAt (now (words .entry)) n .views) × (r .len ≤ 16) ⌝ }
 {
     let c = read::count(words, n);
-    let mut views = [View { joined: 0, left: 0 }; 16];
+    let mut views = [View { joined: 0, left: 0 }; View::LIMIT];
     let mut p = 0usize;
     while p < c {
         let v = View::of_word(read::nth(words, n, p));

@@ -8,7 +8,7 @@ use native.Mathlib.Omega.{arith}
 use lib.Dec.{eqb, leb}
 use lib.Bits.{bitAnd, and-le-l, and-mod, and-shr}
 use lib.Count.{ones}
-use borrow.Author.Tests.{eq-eqb, ne-eqb, lt-ltb, le-ltb}
+use borrow.Author.Tests.{eq-eqb, ne-eqb}
 use Rattle.protocol.specs.Sets.{bit, count, setOf}
 use Rattle.protocol.specs.View.{View, sameView, member, quorum, memberCount, hasMembers, within, below, size}
 use Rattle.protocol.specs.Statement.{Stmt}
@@ -92,14 +92,6 @@ module _ (v : View) (r : ℕ) (e : r ≡ setOf 16 (member v)) where
 pub at-most : (v : View) → memberCount 16 v ≤ 16
 unfolding memberCount
 at-most v = count-le 16 (member v)
-
--- m members are some, or none
-
-pub manned : (m : ℕ) (v : View) → m ≡ memberCount 16 v → (m ≡ 0 → ⊥) → hasMembers 16 v ≡ true
-manned m v e n = lt-ltb 0 (memberCount 16 v) (omega arith)
-
-pub unmanned : (m : ℕ) (v : View) → m ≡ memberCount 16 v → m ≡ 0 → hasMembers 16 v ≡ false
-unmanned m v e n = le-ltb 0 (memberCount 16 v) (omega arith)
 
 pub quorum-empty : (t v : View) (seen : ℕ) (b : Bool) → v ≡ t → b ≡ hasMembers 16 v → b ≡ false → false ≡ quorumHas t (bit seen)
 unfolding quorumHas

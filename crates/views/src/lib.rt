@@ -16,7 +16,6 @@ mod words;
 
 pub use words::below_view;
 pub use words::has_members;
-pub use words::members;
 pub use words::note;
 pub use words::quorum_in;
 pub use words::size_view;

@@ -2,7 +2,7 @@
 ghost use mathlib.Core.Path.{_≡_};
 ghost use Prim.Native.Nat.{_≤_};
 ghost use Rattle.protocol.specs.Sets.{bit};
-ghost use Rattle.protocol.specs.View.{memberCount, hasMembers, within, below, size};
+ghost use Rattle.protocol.specs.View.{hasMembers, within, below, size};
 ghost use Rattle.views.specs.Sets.{Noted, Joined};
 ghost use Rattle.views.specs.View.{viewOf, quorumHas};
 use crate::View;
@@ -26,13 +26,6 @@ pub fn union(a: u32, b: u32) -> u32
     ensures { λ r. ⌜ Joined a b r ⌝ }
 {
     a | b
-}
-
-// How many members v has.
-pub fn members(v: u32) -> u32
-    ensures { λ r. ⌜ (r ≡ memberCount 16 (viewOf v)) × (r ≤ 16) ⌝ }
-{
-    View::of_word(v).count()
 }
 
 // Whether v has members.
