@@ -23,7 +23,7 @@ use Rattle.engine.specs.declared.Answer.the-variants.{Taken, Signed, Entered, D
 use Rattle.views.specs.Held.{viewIs}
 use Rattle.pool.specs.Changes.{Pushed}
 use Rattle.engine.specs.Meaning.{controllerIs, withStatements, recordIs, poolIs, Whole, refusalIs, answerIs}
-use Rattle.engine.specs.Promise.{Change, unchanged, emptied, grown, PoolAfter, NumbersAfter, IsRefused, Meets, changeOf, Called}
+use Rattle.engine.specs.Promise.{Change, unchanged, emptied, grown, PoolAfter, NumbersAfter, IsRefused, Meets, changeOf}
 use Rattle.guarantee.specs.Calls.{Grows, Calls, EngineRun}
 use Rattle.guarantee.proofs.Memory.{at, memory, fits, numbers, within, short, stmt-at, pool-is, memory-more, grows, pushed, few, record-is, all-in}
 

@@ -1,24 +1,22 @@
 -- The memory of a pool whose statements went into it one after another, and a record of given numbers.
 -- Assumes nothing.
-use mathlib.Core.Path.{_≡_, refl, sym, ap, ap₂, subst, _∙_}
-use mathlib.Core.Bool.{Bool, true, false, not, _&&_, _||_}
-use mathlib.Core.List.{List, [], _∷_, _++_, map, foldl, foldl-append, append-nil, append-assoc, map-append}
-use mathlib.Core.Option.{Option, none}
-use Prim.Native.Nat.{ℕ, zero, suc, _+_, _-_, _*_, _≤_, _<_, min}
+use mathlib.Core.Path.{_≡_, refl, sym, ap, subst, _∙_}
+use mathlib.Core.Bool.{Bool, true, false, not, _&&_}
+use mathlib.Core.List.{List, [], _∷_, _++_, map, foldl, foldl-append, append-nil, append-assoc}
+use Prim.Native.Nat.{ℕ, zero, suc, _+_, _-_, _≤_, _<_, min}
 use native.Mathlib.Omega.{arith}
-use lib.Dec.{T, eqb, leb, ltb}
-use lib.ListN.{length, getD, replicate, length-append, length-map, length-replicate, getD-replicate, List·getD-append, List·getD-map}
-use lib.Seq.{sets, getD-at, ext-getD}
-use borrow.Author.Tests.{lt-ltb}
+use lib.Dec.{T, eqb, ltb}
+use lib.ListN.{length, getD, set, replicate, length-append, length-map, length-replicate, getD-replicate, List·getD-append, List·getD-map}
+use lib.Seq.{set-append-seam, ext-getD}
 use Rattle.protocol.specs.Lists.{if_then_else_, any, all, isSome}
 use Rattle.protocol.specs.View.{View}
 use Rattle.protocol.specs.Statement.{Stmt, noStmt, sameStmt, fieldRules}
 use Rattle.protocol.specs.Pool.{pooled}
-use Rattle.protocol.proofs.Says.{says-self, says-and, says-not, says-leb}
+use Rattle.protocol.proofs.Says.{says-self, says-and, says-leb}
 use Rattle.views.specs.declared.View as held
 use Rattle.views.specs.Table.{table}
 use Rattle.views.specs.View.{viewOf}
-use Rattle.views.specs.Held.{viewIs, heldAt, viewsIs}
+use Rattle.views.specs.Held.{viewIs, heldAt}
 use Rattle.views.proofs.Held.{word-is}
 use Rattle.views.proofs.Tables.{table-length, table-at}
 use Rattle.statements.specs.declared.Binding.{Binding}
@@ -32,10 +30,10 @@ use Rattle.pool.specs.Pool.{wordOf, stmtAt, poolLen, recordOf}
 use Rattle.pool.specs.Changes.{headOf, headWord, Put, foundOf, pooledIn, Pushed}
 use Rattle.pool.specs.Changes as memories
 use Rattle.pool.proofs.Parts.{head-back}
-use Rattle.pool.proofs.Writes.{stmts, flag-is, rowIn, put-is}
-use Rattle.pool.proofs.Searches.{append-new, pooled-beside}
+use Rattle.pool.proofs.Writes.{stmts, flag-is, put-is}
+use Rattle.pool.proofs.Searches.{append-new, pooled-beside, push-room}
 use Rattle.engine.specs.Meaning.{poolIs, AllIn}
-use Rattle.engine.proofs.Pools.{Located, there, absent, in-pool, grown-pool}
+use Rattle.engine.proofs.Pools.{there, absent, in-pool, grown-pool}
 use Rattle.guarantee.specs.Calls.{Grows}
 use Rattle.guarantee.proofs.Calls.{pool-length}
 
@@ -98,34 +96,29 @@ each-fits (suc n) (v ∷ l) f zero h = f .0
 each-fits (suc n) (v ∷ l) f (suc p) h = each-fits n l (f .1) p (omega arith)
 
 module _ (W : List ℕ) (st : Statement) (long : length W ≡ 10241) (room : poolLen W < 512) (f : Fits (stmtOf st)) where
-  -- W with st as the last statement
-  abbrev written : List ℕ
-  written =
-      sets (rowIn W (poolLen W) (headWord (stmtOf st)) (wordOf (viewIs (st .view))) (stmtOf st .payload) (st .kept)) (2048 + poolLen W * 16) (map wordOf (viewsIs (st .history)))
+  count : length (stmtOf st .views) ≡ st .history .len
+  unfolding stmtOf
+  count = views-length (st .history .len) (st .history .views)
 
-  put : Put W written (poolLen W) st
+  put : (U : List ℕ) × Put W U (poolLen W) st
   unfolding stmtOf headWord headOf
-  put =
-      let count = views-length (st .history .len) (st .history .views) in
-      let lj : st .at .joined < 65536 = f .at .joined in
-      let ll : st .at .left < 65536 = f .at .left in
-      let vj : st .view .joined < 65536 = f .view .joined in
-      let vl : st .view .left < 65536 = f .view .left in
-      put-is W written (poolLen W) (poolLen W) st _ _ _ _ long (omega arith)
-      (record { is = refl; back = λ p l. view-back (heldAt (st .history .views) p) (each-fits (st .history .len) (st .history .views) (f .views) p (omega arith)) })
-      (refl, head-back (stmtOf st) _ _ _ _ _ refl (omega (arith, f .kind, f .origin)) (ap (λ n. min n 16) count) (omega arith) refl (f .binding) refl (f .stored) (f .kind) (f .origin) lj ll)
-      (omega arith) (view-back (viewIs (st .view)) (f .view)) refl refl
+  put = (
+    _,
+    put-is W _ (poolLen W) (poolLen W) st (headWord (stmtOf st)) (wordOf (viewIs (st .view))) (stmtOf st .payload) (st .kept) long (omega arith)
+        (record { is = refl; back = λ p l. view-back (heldAt (st .history .views) p) (each-fits (st .history .len) (st .history .views) (f .views) p (omega arith)) })
+        (refl, head-back (stmtOf st) _ _ _ _ _ refl (omega (arith, f .kind, f .origin, f .at .joined, f .at .left)) (ap (λ n. min n 16) count) (omega arith) refl (f .binding) refl (f .stored) (f .kind) (f .origin) (f .at .joined) (f .at .left))
+        (omega (arith, f .view .joined, f .view .left)) (view-back (viewIs (st .view)) (f .view)) refl refl,
+  )
 
   -- one statement more, where the pool does not have it
   pool-more : T (not (any (sameStmt (stmtOf st)) (poolIs W))) → poolIs (pooledIn W (stmtOf st)) ≡ poolIs W ++ (stmtOf st ∷ [])
-  unfolding poolIs stmtOf
-  pool-more t = go (in-pool W (stmtOf st))
-    where
-      go : Located (stmtOf st) (stmtAt W) (poolLen W) (memories.numberOf W (stmtOf st)) → poolIs (pooledIn W (stmtOf st)) ≡ poolIs W ++ (stmtOf st ∷ [])
-      go (there i q b h m y) = absurd (says-not (says-self (any (sameStmt (stmtOf st)) (poolIs W))) .sound t (subst T (sym y) tt))
-      go (absent q y) =
-          let a = append-new W st (poolLen W) written long (ap foundOf (sym q)) refl room put in
-          ap poolIs (sym (a .is)) ∙ grown-pool W _ st (omega (arith, f .count, views-length (st .history .len) (st .history .views))) (a .new q room) room
+  unfolding poolIs
+  pool-more t = elim (in-pool W (stmtOf st)) [
+    | there i q b h m y ↦ absurd (subst (λ b. T (not b)) y t)
+    | absent q y ↦
+        (let a = append-new W st (poolLen W) (put .0) long (ap foundOf (sym q)) refl room (put .1) in
+        ap poolIs (sym (a .is)) ∙ grown-pool W _ st (omega (arith, f .count, count)) (a .new q room) room)
+  ]
 
 -- ---- the memory of a pool
 
@@ -219,25 +212,12 @@ within P l = ltb (length l) 512 && all (λ i. ltb i (length P)) l
 number-at : (l : List ℕ) (i : ℕ) → i < length l → getD (numbers l .ids) i 0 ≡ getD l i 0
 number-at l i h = List·getD-append l (replicate (512 - length l) 0) 0 i h
 
--- over a memory whose statements at these numbers are those of f
-numbers-mean : (W l : List ℕ) (f : ℕ → Stmt) → length l ≤ 512 → ((i : ℕ) → i < length l → stmtAt W (getD l i 0) ≡ f (getD l i 0)) → recordOf W (numbers l .ids) (numbers l .len) ≡ map f l
-unfolding recordOf
-numbers-mean W l f h g =
-    table-is (min (length l) 512) (λ i. stmtAt W (getD (numbers l .ids) i 0)) (map f l) (f 0) (omega (arith, length-map l f)) (λ i m.
-    let k : i < length l = omega arith in
-    ap (stmtAt W) (number-at l i k) ∙ g i k ∙ sym (List·getD-map f l i 0))
-
 pub pushed : (l : List ℕ) (id : ℕ) → length l < 512 → Pushed (numbers l) id (numbers (l ++ (id ∷ [])))
 pushed l id h =
     let more = length-append l (id ∷ []) in
-    record {
-      len = omega arith;
-      first = λ i m. number-at (l ++ (id ∷ [])) i (omega arith) ∙ List·getD-append l (id ∷ []) 0 i (omega arith) ∙ sym (number-at l i (omega arith));
-      last = λ m. number-at (l ++ (id ∷ [])) (min (length l) 512) (omega arith) ∙ getD-at l id [] 0 (min (length l) 512) (omega arith);
-      means = λ W.
-          numbers-mean W (l ++ (id ∷ [])) (stmtAt W) (omega arith) (λ i m. refl) ∙ map-append (stmtAt W) l (id ∷ [])
-          ∙ rw (lt-ltb (min (length l) 512) 512 (omega arith)) (ap (λ k. k ++ (stmtAt W id ∷ [])) (sym (numbers-mean W l (stmtAt W) (omega arith) (λ i m. refl))));
-    }
+    let rest : 512 - length l ≡ suc (512 - length (l ++ (id ∷ []))) = omega arith in
+    push-room (numbers l) (numbers (l ++ (id ∷ []))) id (length l) (omega arith) h (omega (arith, length-append l (replicate (512 - length l) 0), length-replicate {A = ℕ} (512 - length l) 0))
+    (append-assoc l (id ∷ []) _ ∙ sym (ap (λ n. set (l ++ replicate n 0) (length l) id) rest ∙ set-append-seam l 0 _ id)) more
 
 module _ (P : List Stmt) (l : List ℕ) (t : T (fits P)) (u : T (within P l)) where
   pub few : length l < 512
@@ -249,7 +229,11 @@ module _ (P : List Stmt) (l : List ℕ) (t : T (fits P)) (u : T (within P l)) wh
   below i h = says-leb {m = suc (getD l i 0)} {n = length P} .sound (all-at (λ i. ltb i (length P)) l 0 (says-and (says-self (ltb (length l) 512)) (says-self (all (λ i. ltb i (length P)) l)) .sound u .1) i h)
 
   pub record-is : recordOf (memory P) (numbers l .ids) (numbers l .len) ≡ map (at P) l
-  record-is = numbers-mean (memory P) l (at P) (omega (arith, few)) (λ i h. stmt-at P t (getD l i 0) (below i h))
+  unfolding recordOf
+  record-is =
+      table-is (min (length l) 512) (λ i. stmtAt (memory P) (getD (numbers l .ids) i 0)) (map (at P) l) (at P 0) (omega (arith, length-map l (at P), few)) (λ i h.
+      let k : i < length l = omega arith in
+      ap (stmtAt (memory P)) (number-at l i k) ∙ stmt-at P t (getD l i 0) (below i k) ∙ sym (List·getD-map (at P) l i 0))
 
   pub all-in : AllIn (memory P) (numbers l)
   all-in i h = let k : i < length l = omega arith in omega (arith, number-at l i k, len-is P t, below i k)
