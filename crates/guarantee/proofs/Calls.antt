@@ -56,7 +56,7 @@ number-within s (x ∷ P) = go (sameStmt s x) (any (sameStmt s) P) refl (number-
     go false true e l = let q : length (pooled s P) ≡ length P = ap (λ b. length (if b then P else P ++ (s ∷ []))) e in omega arith
     go false false e l = let q : length (pooled s P) ≡ length (P ++ (s ∷ [])) = ap (λ b. length (if b then P else P ++ (s ∷ []))) e in omega arith
 
-pool-length : (W : List ℕ) → length (poolIs W) ≡ poolLen W
+pub pool-length : (W : List ℕ) → length (poolIs W) ≡ poolLen W
 unfolding poolIs
 pool-length W = table-length (poolLen W) (stmtAt W)
 

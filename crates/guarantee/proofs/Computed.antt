@@ -23,9 +23,9 @@ use Rattle.engine.specs.declared.Answer.the-variants.{Taken, Signed, Entered, D
 use Rattle.views.specs.Held.{viewIs}
 use Rattle.pool.specs.Changes.{Pushed}
 use Rattle.engine.specs.Meaning.{controllerIs, withStatements, recordIs, poolIs, Whole, refusalIs, answerIs}
-use Rattle.engine.specs.Promise.{Change, unchanged, emptied, grown, PoolAfter, NumbersAfter, IsRefused, Meets, changeOf, Called}
+use Rattle.engine.specs.Promise.{Change, unchanged, emptied, grown, PoolAfter, NumbersAfter, IsRefused, Meets, changeOf}
 use Rattle.guarantee.specs.Calls.{Grows, Calls, EngineRun}
-use Rattle.guarantee.proofs.Memory.{at, memory, fits, numbers, within, short, stmt-at, pool-is, grows, pushed, few, record-is, all-in}
+use Rattle.guarantee.proofs.Memory.{at, memory, fits, numbers, within, short, stmt-at, pool-is, memory-more, grows, pushed, few, record-is, all-in}
 
 -- What there is of one controller after an event: the pool that the event left, what its host then put into it, what the last call on the controller answered, and the controller
 -- that this returned, with a record of these numbers in place of its own.
@@ -115,10 +115,6 @@ Waits s t = _≡_ {A = Outcome × List Stmt} (returnedIn t, t .left) (returnedIn
 
 -- ---- a call
 
-pooled-old : (s : Stmt) (P : List Stmt) → any (sameStmt s) P ≡ true → pooled s P ≡ P
-unfolding pooled
-pooled-old s P e = rw e
-
 module _ (P P′ : List Stmt) (f : T (fits P)) (f′ : T (fits P′)) where
   answer-in : (a : Answer) → T (numbered P P′ a) → answerIs (memory P′) a ≡ answerIn P′ a
   unfolding answerIs
@@ -147,7 +143,7 @@ module _ (P P′ : List Stmt) (f : T (fits P)) (f′ : T (fits P′)) where
   pool-after emptied e = ap memory e
   pool-after (grown s) e = record {
     is = pool-is P′ f′ ∙ e ∙ ap (pooled s) (sym (pool-is P f));
-    old = λ t. ap memory (e ∙ pooled-old s P (subst (λ Q. any (sameStmt s) Q ≡ true) (pool-is P f) t));
+    words = ap memory e ∙ memory-more P f s;
   }
 
   numbers-after : (l l′ : List ℕ) → length l < 512 → (p : Change) → l′ ≡ numbersAfter P l p → NumbersAfter (memory P) (numbers l) p (numbers l′)
