@@ -3,17 +3,14 @@ use native.Mathlib.Omega.{arith}
 use mathlib.Core.Path.{refl}
 use Prim.Native.Nat.{_-_, _≤_}
 use Rattle.rules.proofs.Scans.{Slots, slots-none, slots-next, slots-whole}
-use Rattle.rules.proofs.steps.history_of.Statement.{statement}
-use Rattle.rules.proofs.steps.history_of.Tie as tie
-use Rattle.rules.proofs.steps.history_of.Reads as reads
-use Rattle.rules.proofs.steps.history_of.Lts as lts
-use Rattle.views.proofs.View.of_word.Reads as of-word-reads
+use Rattle.rules.proofs.made.history_of.Statement.{statement}
+use Rattle.rules.proofs.made.history_of.Tie as tie
 
 abbrev Inv-loop : tie.InvT-loop
-Inv-loop n words views₀ i₀ views i = (i ≤ n) × Slots views words i
+Inv-loop list n views₀ i₀ views i = (i ≤ n) × Slots views list i
 
 abbrev μ-loop : tie.MeasureT-loop
-μ-loop n words views₀ i₀ views i = n - i
+μ-loop list n views₀ i₀ views i = n - i
 
 pub history-of-spec : {M : Type 1} → statement M
 history-of-spec =
@@ -29,5 +26,5 @@ history-of-spec =
     (λ c. search needs)
     (λ c. search needs)
     (λ c. search needs)
-    (λ c. (omega arith, slots-next _ (omega arith) (c .of-word .ensures) (c .before .before .loop .inv .1)))
+    (λ c. (omega arith, slots-next _ (omega arith) (c .of-word .ensures) (c .before .before .before .loop .inv .1)))
     (λ c. (slots-whole _ _ (omega arith) (c .before .before .pre) (c .before .loop .inv .1), c .before .before .pre)))
