@@ -3,9 +3,9 @@ use native.Mathlib.Omega.{arith}
 use borrow.Author.Tests.{not-true, not-false}
 use Prim.Native.Nat.{_-_, _≤_}
 use Rattle.bench.specs.Seats.{Marked}
-use Rattle.bench.proofs.Seats.{marked-more}
-use Rattle.bench.proofs.seat.unmarked.Statement.{statement}
-use Rattle.bench.proofs.seat.unmarked.Tie as tie
+use Rattle.bench.proofs.Records.{marked-more}
+use Rattle.bench.proofs.seat.first_free.Statement.{statement}
+use Rattle.bench.proofs.seat.first_free.Tie as tie
 
 abbrev Inv-loop : tie.InvT-loop
 Inv-loop marks from n i₀ i = (from ≤ i) × (i ≤ n) × Marked marks from i
@@ -13,8 +13,8 @@ Inv-loop marks from n i₀ i = (from ≤ i) × (i ≤ n) × Marked marks from i
 abbrev μ-loop : tie.MeasureT-loop
 μ-loop marks from n i₀ i = n - i
 
-pub unmarked-spec : {M : Type 1} → statement M
-unmarked-spec =
+pub first-free-spec : {M : Type 1} → statement M
+first-free-spec =
     tie.close
     (tie.spec
     Inv-loop
