@@ -27,7 +27,7 @@ static void pass_on(int from, uint64_t number) {
 }
 
 /* A view as it is written: the joined set first. */
-static uint32_t written(uint64_t view) { return (uint32_t)(view << 16 | view >> 16); }
+static uint32_t written(uint64_t view) { return (uint32_t)(view << 16 | view >> 32); }
 
 /* One turn. Answers 0 where there was nothing to do. */
 static int turn(int k) {
@@ -57,7 +57,7 @@ int main(void) {
         pekdrav_new(ring[k].fields, ring[k].ids);
         pekdrav_setup(ring[k].fields, ring[k].ids, (uint8_t)k, 0x0003, 0, value);
     }
-    pekdrav_send(ring[0].fields, ring[0].ids, 7, value);
+    pekdrav_send(ring[0].fields, 7, value);
     while (turn(0) | turn(1)) {
     }
     return 0;

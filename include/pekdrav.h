@@ -4,7 +4,8 @@
  * None keeps a pointer, allocates or blocks. The contracts stand in crates/pekdrav. Signatures are the host's: check one before the line goes to
  * pekdrav_add, and sign a line before it is sent.
  *
- * A view is written in a 32-bit word: the joined set in the low 16 bits, the left set above them, bit k for controller k. */
+ * A view is a 64-bit word: the joined set in the low 32 bits, the left set in the high 32, bit k for controller k. Controllers are numbered 0 to 15, and
+ * what a caller writes into the other bits means nothing. */
 #ifndef PEKDRAV_H
 #define PEKDRAV_H
 
@@ -15,11 +16,12 @@
 extern "C" {
 #endif
 
-/* The words of a pool: 512 statements of 20 words, and their number. */
-#define PEKDRAV_POOL_WORDS 10241
-/* A controller: its fields, and the pool numbers of its record. */
+/* The words of a pool: 512 statements of 21 words, and their number. */
+#define PEKDRAV_POOL_WORDS 10753
+/* A controller: its fields, and its record. */
 #define PEKDRAV_FIELDS 32
-#define PEKDRAV_RECORD 512
+/* A record: room for 512 pool numbers, and in the last place how many of them count. More than 512 count as 512. */
+#define PEKDRAV_RECORD 513
 /* No statement's text is longer. */
 #define PEKDRAV_TEXT 256
 /* The words that evidence is told in. */
@@ -41,9 +43,10 @@ enum pekdrav_answer {
 };
 
 /* A controller's fields: 0 whether it is set up, 1 its number, 2 the initial view, 3 the sender, 4 the binding (0 unbound, 1 bound, 2 barred)
- * and 5 its payload, 6 delivered, 7 join requested, 8 leave requested, 9 send requested and 10 its payload, 11 the record's length, 12 how many
- * views it entered, 16 to 31 those views. A refused call leaves fields and numbers as they were. After any other they stand for the controller that the
- * call leaves; nothing is promised of fields 13 to 15, of views after those entered and of numbers after the record's length, which stand for nothing.
+ * and 5 its payload, 6 delivered, 7 join requested, 8 leave requested, 9 send requested and 10 its payload, 12 how many views it entered, 16 to 31
+ * those views. A refused call leaves fields and record as they were. After any other the fields stand for the controller that the call leaves, and the
+ * record is as it was, or has one number more, or is empty after a setup; nothing is promised of fields 11 and 13 to 15 and of views after those entered,
+ * which stand for nothing.
  * Controllers that share a pool may not be called at the same time. */
 
 /* An empty pool. */
@@ -54,9 +57,10 @@ void pekdrav_new(uint64_t fields[PEKDRAV_FIELDS], uint16_t ids[PEKDRAV_RECORD]);
 /* Starts controller `number` in the ring of these initial members. */
 uint8_t pekdrav_setup(uint64_t fields[PEKDRAV_FIELDS], uint16_t ids[PEKDRAV_RECORD], uint8_t number, uint16_t members, uint8_t sender,
                       uint64_t value[1]);
-uint8_t pekdrav_join(uint64_t fields[PEKDRAV_FIELDS], uint16_t ids[PEKDRAV_RECORD], uint64_t value[1]);
-uint8_t pekdrav_leave(uint64_t fields[PEKDRAV_FIELDS], uint16_t ids[PEKDRAV_RECORD], uint64_t value[1]);
-uint8_t pekdrav_send(uint64_t fields[PEKDRAV_FIELDS], uint16_t ids[PEKDRAV_RECORD], uint64_t payload, uint64_t value[1]);
+/* Note a request; the record has no part in it. */
+uint8_t pekdrav_join(uint64_t fields[PEKDRAV_FIELDS], uint64_t value[1]);
+uint8_t pekdrav_leave(uint64_t fields[PEKDRAV_FIELDS], uint64_t value[1]);
+uint8_t pekdrav_send(uint64_t fields[PEKDRAV_FIELDS], uint64_t payload, uint64_t value[1]);
 /* Adds the statement that the line is. */
 uint8_t pekdrav_add(uint64_t fields[PEKDRAV_FIELDS], uint16_t ids[PEKDRAV_RECORD], uint64_t words[PEKDRAV_POOL_WORDS], const uint8_t *line,
                     size_t line_len, uint64_t value[1]);
@@ -74,18 +78,18 @@ size_t pekdrav_statement(const uint8_t *line, size_t line_len, uint8_t *out, siz
 /* The pool number of the statement that `line` is, which goes to the end of the pool if it is not in it; 512 if the pool is full, 513 if `line` is no
  * statement. Only the words of a new statement and the number of statements are written. */
 uint16_t pekdrav_append(uint64_t words[PEKDRAV_POOL_WORDS], const uint8_t *line, size_t line_len);
-/* Who signed a statement of this kind at this view in the record of the first `len` numbers, bit k for controller k. */
-uint32_t pekdrav_signers(const uint64_t words[PEKDRAV_POOL_WORDS], const uint16_t ids[PEKDRAV_RECORD], size_t len, uint8_t kind, uint32_t at);
-/* What that record shows in a ring: words 0 to 7 of `out` are whether there is a conflict, whether there are more than sixteen candidates, the wished
+/* Who signed a statement of this kind at this view in a record, bit k for controller k. */
+uint32_t pekdrav_signers(const uint64_t words[PEKDRAV_POOL_WORDS], const uint16_t ids[PEKDRAV_RECORD], uint8_t kind, uint64_t at);
+/* What a record shows in a ring: words 0 to 7 of `out` are whether there is a conflict, whether there are more than sixteen candidates, the wished
  * view, how many candidates and how many views of the greatest history follow, whether a payload has a certificate, that payload, and whether it is
  * stored; the candidates stand from word 8 on, the greatest history from 24 on. All of `out` is written, and what is not told is 0: after a conflict every
  * word but 0 and 2, with more than sixteen candidates word 3 and the candidates, without a certificate words 6 and 7, and the words after the last view. */
-void pekdrav_evidence(const uint64_t words[PEKDRAV_POOL_WORDS], const uint16_t ids[PEKDRAV_RECORD], size_t len, uint32_t init, uint8_t sender,
+void pekdrav_evidence(const uint64_t words[PEKDRAV_POOL_WORDS], const uint16_t ids[PEKDRAV_RECORD], uint64_t init, uint8_t sender,
                       uint64_t out[PEKDRAV_TOLD]);
-/* Writes what that record shows in lines, for a service screen, and answers the text's length; 0, with `out` as it was, if `out` has fewer than
+/* Writes what a record shows in lines, for a service screen, and answers the text's length; 0, with `out` as it was, if `out` has fewer than
  * PEKDRAV_SHOWN bytes. The lines: `wished,VIEW`; then `conflict` and nothing more, or `candidates,COUNT,VIEW,..` (`candidates,many` for more than sixteen),
  * `greatest,COUNT,VIEW,..` and `certificate,PAYLOAD,stored` (`kept` if it is not stored, `certificate,none` if no payload has one). */
-size_t pekdrav_shown(const uint64_t words[PEKDRAV_POOL_WORDS], const uint16_t ids[PEKDRAV_RECORD], size_t len, uint32_t init, uint8_t sender,
+size_t pekdrav_shown(const uint64_t words[PEKDRAV_POOL_WORDS], const uint16_t ids[PEKDRAV_RECORD], uint64_t init, uint8_t sender,
                      uint8_t *out, size_t out_len);
 
 #ifdef __cplusplus

@@ -1,5 +1,6 @@
 pub mod Rows
 pub mod Unchanged
+pub mod Records
 pub mod Seats
 pub mod States
 pub mod Starts

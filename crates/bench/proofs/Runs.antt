@@ -2,15 +2,15 @@
 -- Assumes nothing.
 use mathlib.Core.Path.{_≡_, refl, sym, ap, ap₂, subst, _∙_}
 use mathlib.Core.Logic.{_⊎_, inl, inr}
-use mathlib.Core.Bool.{Bool, true, false, not, _||_}
+use mathlib.Core.Bool.{Bool, true, false, _||_}
 use mathlib.Core.List.{List, [], _∷_, _++_, append-assoc, append-nil}
 use mathlib.Core.Option.{Option, some, none}
-use Prim.Native.Nat.{ℕ, zero, suc, _+_, _-_, _*_, _≤_, _<_, min}
+use Prim.Native.Nat.{ℕ, zero, suc, _+_, _-_, _*_, _≤_, _<_}
 use native.Mathlib.Decide.{decLt, ℕ-discrete}
 use native.Mathlib.Numerals.{add-one}
 use native.Mathlib.Omega.{arith}
 use lib.Dec.{eqb, ltb}
-use lib.ListN.{length, getD, set, take, drop, replicate, length-replicate, getD-replicate, length-set, length-drop, length-append, drop-of-length-le}
+use lib.ListN.{length, getD, set, take, drop, replicate, length-replicate, getD-replicate, length-set, length-take, length-drop, length-append, drop-of-length-le}
 use lib.Seq.{sets, length-sets, getD-set-same, getD-set-other, set-getD, ext-getD, drop-drop, take-all}
 use borrow.Author.Tests.{lt-ltb, le-ltb, eq-eqb, ne-eqb}
 use Rattle.protocol.specs.Lists.{if_then_else_}
@@ -20,11 +20,12 @@ use Rattle.protocol.specs.Call.{setupAllowed, started}
 use Rattle.text.proofs.Stores.{sets-append}
 use Rattle.views.specs.Table.{table}
 use Rattle.views.proofs.Tables.{table-length, table-at, table-cong}
-use Rattle.pool.specs.Pool.{stmtAt, poolLen, recordOf}
+use Rattle.pool.specs.Pool.{stmtAt, poolLen, recordOf, recordLen, recordIn}
 use Rattle.engine.specs.declared.Controller.{Controller}
+use Rattle.engine.specs.declared.Outcome.{Outcome}
 use Rattle.engine.specs.declared.Answer.{Answer}
 use Rattle.engine.specs.declared.Answer.the-variants.{Taken, Signed, Entered, Delivered, Left, Quiet, Refused}
-use Rattle.engine.specs.Meaning.{controllerIs, recordIs, poolIs, Whole, AllIn, answerIs}
+use Rattle.engine.specs.Meaning.{controllerIs, poolIs, AllIn, answerIs}
 use Rattle.schedule.specs.declared.line.Line.{Line as Held}
 use Rattle.schedule.specs.declared.line.Parsed.the-variants.{Readable, Unreadable}
 use Rattle.schedule.specs.declared.line.ReadLine.{ReadLine}
@@ -32,6 +33,10 @@ use Rattle.bench.specs.declared.row.Word.the-variants as word
 use Rattle.bench.specs.declared.row.Value.the-variants as value
 use Rattle.bench.specs.declared.state.Setting.{Setting}
 use Rattle.bench.specs.declared.state.Stepped.{Stepped}
+use Rattle.bench.specs.declared.row.Word.{Word}
+use Rattle.bench.specs.declared.row.Value.{Value}
+use Rattle.bench.specs.declared.lines.Place.{Place}
+use Rattle.bench.specs.declared.lines.Moved.{Moved}
 use Rattle.schedule.specs.Line.{Line, ended, lines, Reads, ReadAll}
 use Rattle.schedule.specs.Reading.{meant, Tells, ReadAs, LineOf}
 use Rattle.schedule.proofs.Whole.{line-ended, line-tells}
@@ -39,11 +44,11 @@ use Rattle.bench.specs.Bench as bench
 use Rattle.bench.specs.Bench.{Seat, emptySeat, Bench, Reply, newBench, step}
 use Rattle.bench.specs.Rows.{rowText, headerText, rowsFrom, refusedRow, Printed}
 use Rattle.bench.specs.Writing.{wordFor, valueIs, rowOf, Shows}
-use Rattle.bench.specs.Seats.{blank, seatIs, benchOf, Distinct, Sound, Grows, Full, Fit, seatOf, seatsAfter, replyIs, Knows, Needless, Advanced, wordOf, valueOf}
-use Rattle.bench.specs.Running.{rowIs, seatsIs, benchIs, Kept, Fulls, Started, Reading, Going, Ran, Wrote}
+use Rattle.bench.specs.Seats.{blank, seatIs, benchOf, Distinct, Sound, Grows, Full, Keeps, Fit, seatOf, seatsAfter, replyIs, numberIs, changesIs, CalledAt, Called, Needless, Advanced, SteppedBy, wordOf, valueOf}
+use Rattle.bench.specs.Running.{rowIs, seatsIs, benchIs, Kept, Fulls, Started, Reading, Going, Begins, Room, Passed, Put, fullAfter, LineRun, Ran, Wrote}
 use Rattle.bench.proofs.Rows.{shown}
-use Rattle.bench.proofs.Seats.{full-none}
-use Rattle.bench.proofs.States.{fit-seat, seat-kept, whole-kept, no-pool}
+use Rattle.bench.proofs.Records.{full-none, full-kept}
+use Rattle.bench.proofs.States.{fit-seat, record-kept, whole-kept, no-pool}
 
 -- ---- a row is that of the reply
 
@@ -57,157 +62,9 @@ shows W Left n = (refl, refl)
 shows W Quiet n = (refl, refl)
 shows W (Refused r) n = (refl, refl)
 
-row-is : (W : List ℕ) (n : ℕ) (s : Stepped) → rowIs n (s .who) (s .answer) (s .number) ≡ rowText n (replyIs W s)
+row-is : (W : List ℕ) (n who : ℕ) (a : Answer) (number : ℕ) → rowIs n who a number ≡ rowText n (replyIs W who a number)
 unfolding rowIs
-row-is W n s = shown n (record { named = refl; word = shows W (s .answer) (s .number) .0; value = shows W (s .answer) (s .number) .1 })
-
--- ---- the seats after a line
-
-module _ (W W′ : List ℕ) (cs : List Controller) (k : ℕ) (d : Controller) (h : k < 16) (m : Kept W cs) (g : Grows W W′) where
-  seats-set : set (seatsIs W cs) k (seatIs W′ d) ≡ seatsIs W′ (set cs k d)
-  unfolding seatsIs
-  seats-set = ext-getD emptySeat (set (table 16 (λ j. seatIs W (getD cs j blank))) k (seatIs W′ d)) (table 16 (λ j. seatIs W′ (getD (set cs k d) j blank)))
-      (length-set (table 16 (λ j. seatIs W (getD cs j blank))) k (seatIs W′ d) ∙ table-length 16 (λ j. seatIs W (getD cs j blank)) ∙ sym (table-length 16 (λ j. seatIs W′ (getD (set cs k d) j blank))))
-      (λ i l. let b : i < 16 = omega (arith, length-set (table 16 (λ j. seatIs W (getD cs j blank))) k (seatIs W′ d), table-length 16 (λ j. seatIs W (getD cs j blank))) in
-      elim (ℕ-discrete i k) [
-        | yes e ↦ ap (λ j. getD (set (table 16 (λ j. seatIs W (getD cs j blank))) k (seatIs W′ d)) j emptySeat) e
-            ∙ getD-set-same (table 16 (λ j. seatIs W (getD cs j blank))) k (seatIs W′ d) emptySeat (omega (arith, table-length 16 (λ j. seatIs W (getD cs j blank))))
-            ∙ sym (table-at 16 (λ j. seatIs W′ (getD (set cs k d) j blank)) emptySeat i b ∙ ap (seatIs W′) (ap (λ j. getD (set cs k d) j blank) e ∙ getD-set-same cs k d blank (omega (arith, m .long))))
-        | no e ↦ getD-set-other (table 16 (λ j. seatIs W (getD cs j blank))) k i (seatIs W′ d) emptySeat e
-            ∙ table-at 16 (λ j. seatIs W (getD cs j blank)) emptySeat i b ∙ sym (seat-kept g (getD cs i blank) (m .whole i b))
-            ∙ sym (table-at 16 (λ j. seatIs W′ (getD (set cs k d) j blank)) emptySeat i b ∙ ap (seatIs W′) (getD-set-other cs k i d blank e))
-      ])
-
-  pub kept-set : Sound W′ d → Kept W′ (set cs k d)
-  kept-set s = record {
-    distinct = s .distinct;
-    long = length-set cs k d ∙ m .long;
-    whole = λ i l. elim (ℕ-discrete i k) [
-      | yes e ↦ subst (Whole W′) (sym (ap (λ j. getD (set cs k d) j blank) e ∙ getD-set-same cs k d blank (omega (arith, m .long)))) (s .whole)
-      | no e ↦ subst (Whole W′) (sym (getD-set-other cs k i d blank e)) (whole-kept g (getD cs i blank) (m .whole i l))
-    ];
-  }
-
-seat-there : (W : List ℕ) (cs : List Controller) (k : ℕ) → k < 16 → getD (seatsIs W cs) k emptySeat ≡ seatIs W (getD cs k blank)
-unfolding seatsIs
-seat-there W cs k l = table-at 16 (λ j. seatIs W (getD cs j blank)) emptySeat k l
-
-pub kept-start : (W : List ℕ) (cs : List Controller) (members sender : ℕ) → poolLen W ≡ 0 → Started members sender cs → Kept W cs
-kept-start W cs members sender e s = record { distinct = record { tells = λ i j a b. absurd (omega arith) }; long = s .long; whole = λ k l. s .each k l W .1 }
-
-seats-started : (W : List ℕ) (cs : List Controller) (members sender : ℕ) → Started members sender cs → table controllers (λ j. record { controller = started j members sender; statements = [] }) ≡ seatsIs W cs
-unfolding seatsIs
-seats-started W cs members sender s = table-cong 16 (λ j. record { controller = started j members sender; statements = [] }) (λ j. seatIs W (getD cs j blank)) (λ i l. sym (s .each i l W .0))
-
-pick-false : {A : Type 0} (b : Bool) (x y : A) → b ≡ false → (if b then x else y) ≡ y
-pick-false b x y e = rw e
-
-pick-true : {A : Type 0} (b : Bool) (x y : A) → b ≡ true → (if b then x else y) ≡ x
-pick-true b x y e = rw e
-
--- the controllers after a line that starts none: the one that it names is stored where it changed
-abbrev pub Stored : List Controller → ℕ → Stepped → List Controller → Type 0
-Stored cs k s cs′ = ((s .changed ≡ true) × (cs′ ≡ set cs k (s .controller))) ⊎ ((s .changed ≡ false) × (cs′ ≡ cs))
-
--- what a line leaves is the bench in memory
-module _ (W W′ : List ℕ) (g : Setting) (cs : List Controller) (k : ℕ) (l : Option Line) (s : Stepped) (h : k < 16) (m : Kept W cs) (a : Advanced W g (getD cs k blank) k l s W′) where
-  abbrev Left′ : List Controller → Type 0
-  Left′ cs′ = step (benchIs g W cs) l ≡ record { reply = replyIs W′ s; bench = benchIs (s .setting) W′ cs′ }
-
-  went : step (benchIs g W cs) l ≡ record { reply = replyIs W′ s; bench = benchOf (s .setting .ready) (s .setting .faulty) (seatsAfter s W′ k (seatsIs W cs)) W′ }
-  went = a .steps (seatsIs W cs) (seat-there W cs k h)
-
-  abbrev was : Controller
-  was = getD cs k blank
-
-  -- a seat that is not stored
-  seats-same : s .fresh ≡ false → s .changed ≡ false → set (seatsIs W cs) k (seatIs W′ (s .controller)) ≡ seatsIs W′ cs
-  seats-same e q =
-      ap (λ t. set (seatsIs W cs) k t) (a .same e q ∙ sym (seat-kept (a .grows e) was (m .whole k h)))
-      ∙ seats-set W W′ cs k was h m (a .grows e) ∙ ap (seatsIs W′) (set-getD cs k blank)
-
-  seats-after : s .fresh ≡ false → (cs′ : List Controller) → Stored cs k s cs′ → set (seatsIs W cs) k (seatIs W′ (s .controller)) ≡ seatsIs W′ cs′
-  seats-after e cs′ (inl (q, z)) = seats-set W W′ cs k (s .controller) h m (a .grows e) ∙ ap (seatsIs W′) (sym z)
-  seats-after e cs′ (inr (q, z)) = seats-same e q ∙ ap (seatsIs W′) (sym z)
-
-  pub left-one : s .fresh ≡ false → (cs′ : List Controller) → Stored cs k s cs′ → Left′ cs′
-  left-one e cs′ t = went ∙ ap (λ X. record { reply = replyIs W′ s; bench = benchOf (s .setting .ready) (s .setting .faulty) X W′ })
-      (pick-false (s .fresh) (table controllers (λ j. record { controller = started j (s .setting .members) (s .setting .sender); statements = [] })) (set (seatsIs W cs) k (seatIs W′ (s .controller))) e
-      ∙ seats-after e cs′ t)
-
-  pub left-all : s .fresh ≡ true → (cs′ : List Controller) → Started (s .setting .members) (s .setting .sender) cs′ → Left′ cs′
-  left-all e cs′ t = went ∙ ap (λ X. record { reply = replyIs W′ s; bench = benchOf (s .setting .ready) (s .setting .faulty) X W′ })
-      (pick-true (s .fresh) (table controllers (λ j. record { controller = started j (s .setting .members) (s .setting .sender); statements = [] })) (set (seatsIs W cs) k (seatIs W′ (s .controller))) e
-      ∙ seats-started W′ cs′ (s .setting .members) (s .setting .sender) t)
-
-  pub kept-one : s .fresh ≡ false → (cs′ : List Controller) → Stored cs k s cs′ → Kept W′ cs′
-  kept-one e cs′ (inl (q, z)) = subst (Kept W′) (sym z) (kept-set W W′ cs k (s .controller) h m (a .grows e) (a .sound e))
-  kept-one e cs′ (inr (q, z)) = subst (Kept W′) (set-getD cs k blank ∙ sym z)
-      (kept-set W W′ cs k was h m (a .grows e) (record { distinct = a .sound e .distinct; whole = whole-kept (a .grows e) was (m .whole k h) }))
-
-  pub kept-all : s .fresh ≡ true → (cs′ : List Controller) → Started (s .setting .members) (s .setting .sender) cs′ → Kept W′ cs′
-  kept-all e cs′ t = kept-start W′ cs′ (s .setting .members) (s .setting .sender) (a .begun e .0) t
-
--- what the controllers are known to have
-
-pub fulls-none : (cs : List Controller) (m : ℕ) → m ≡ 16 → Fulls cs (replicate m 0)
-fulls-none cs m e = record {
-  long = length-replicate m 0 ∙ e;
-  each = λ k l. subst (Full (getD cs k blank .statements)) (sym (getD-replicate m k 0 0 (omega arith))) (full-none (getD cs k blank .statements));
-}
-
-module _ (cs : List Controller) (fs : List ℕ) (k : ℕ) (h : k < 16) (m : length cs ≡ 16) (w : Fulls cs fs) where
-  fulls-set : (d : Controller) (f : ℕ) → Full (d .statements) f → Fulls (set cs k d) (set fs k f)
-  fulls-set d f x = record {
-    long = length-set fs k f ∙ w .long;
-    each = λ i l. elim (ℕ-discrete i k) [
-      | yes e ↦ subst (λ j. Full (getD (set cs k d) j blank .statements) (getD (set fs k f) j 0)) (sym e)
-          (subst (λ (t : Controller). Full (t .statements) (getD (set fs k f) k 0)) (sym (getD-set-same cs k d blank (omega arith))) (subst (Full (d .statements)) (sym (getD-set-same fs k f 0 (omega (arith, w .long)))) x))
-      | no e ↦ subst (λ (t : Controller). Full (t .statements) (getD (set fs k f) i 0)) (sym (getD-set-other cs k i d blank e)) (subst (Full (getD cs i blank .statements)) (sym (getD-set-other fs k i f 0 e)) (w .each i l))
-    ];
-  }
-
-  pub fulls-one : (s : Stepped) → Knows (getD cs k blank) (getD fs k 0) s → (cs′ : List Controller) → Stored cs k s cs′ → Fulls cs′ (set fs k (s .full))
-  fulls-one s a cs′ (inl (q, z)) = subst (λ t. Fulls t (set fs k (s .full))) (sym z) (fulls-set (s .controller) (s .full) (a .stored (w .each k h) q))
-  fulls-one s a cs′ (inr (q, z)) = subst (λ t. Fulls t (set fs k (s .full))) (set-getD cs k blank ∙ sym z) (fulls-set (getD cs k blank) (s .full) (a .stays (w .each k h) q))
-
--- ---- one line more
-
-module _ (S : List ℕ) (at n : ℕ) (b b′ : Bench) (R R′ : List ℕ) (out : ℕ) (going : Going S at n b R R′ out) (r : ReadLine) (of : LineOf (drop at S) r) (more : at < length S)
-    (this : Option Line) (is-this : Reads (take (r .next) (drop at S)) this) (reply : Reply) (left : step b this ≡ record { reply = reply; bench = b′ })
-    (row : List ℕ) (row-text : row ≡ rowText n reply) (R″ : List ℕ) (out′ : ℕ) (put : (out′ ≡ out + length row) × (R″ ≡ sets R′ out row) × (length row ≤ 40)) where
-  some-left : 0 < length (drop at S)
-  some-left = omega (arith, length-drop at S)
-
-  rest-of : (L : List (Option Line)) → ReadAll (lines (drop (at + r .next) S)) L → Reading S (going .printed ++ row) (rowsFrom (n + 1) b′ L)
-  unfolding rowsFrom
-  rest-of L q =
-      let q′ : ReadAll (lines (drop (r .next) (drop at S))) L = subst (λ t. ReadAll (lines t) L) (sym (drop-drop (r .next) at S)) q in
-      let all : ReadAll (lines (drop at S)) (this ∷ L) = subst (λ t. ReadAll t (this ∷ L)) (sym (of .first some-left)) (is-this, q′) in
-      let whole : Reading S (going .printed) (rowsFrom n b (this ∷ L)) = going .rest (this ∷ L) all in
-      record {
-        reading = whole .reading;
-        reads = whole .reads;
-        rows = whole .rows
-            ∙ ap (λ (t : bench.Stepped). going .printed ++ (rowText n (t .reply) ++ rowsFrom (suc n) (t .bench) L)) left
-            ∙ ap (λ t. going .printed ++ (t ++ rowsFrom (suc n) b′ L)) (sym row-text)
-            ∙ sym (append-assoc (going .printed) row (rowsFrom (suc n) b′ L))
-            ∙ ap (λ t. (going .printed ++ row) ++ rowsFrom t b′ L) (sym (add-one n));
-      }
-
-  goes-on : Going S (at + r .next) (n + 1) b′ R R″ out′
-  goes-on = record {
-    printed = going .printed ++ row;
-    rows = put .1 ∙ ap₂ (λ t o. sets t o row) (going .rows) (going .end) ∙ sym (sets-append (going .printed) row R 22);
-    end = omega (arith, put .0, going .end, length-append (going .printed) row);
-    small = omega (arith, put .2, going .small, length-append (going .printed) row, of .moves some-left);
-    number = omega (arith, going .number, of .moves some-left);
-    within = omega (arith, of .within, length-drop at S, going .within);
-    rest = rest-of;
-  }
-
-part-read : (S : List ℕ) (at : ℕ) (r : ReadLine) → LineOf (take (length S - at) (drop at S)) r → LineOf (drop at S) r
-part-read S at r of = rw (take-all (length S - at) (drop at S) (omega (arith, length-drop at S))) at of
+row-is W n who a number = shown n (record { named = refl; word = shows W a number .0; value = shows W a number .1 })
 
 refused-row : (n : ℕ) → rowOf n 16 word.Refused (value.Number 8) ≡ rowText n (record { who = 16; answer = controller.refused controller.outOfPlace; number = 0 })
 refused-row n = shown n (record { named = refl; word = refl; value = refl })
@@ -215,78 +72,362 @@ refused-row n = shown n (record { named = refl; word = refl; value = refl })
 taken-row : (n who : ℕ) → rowOf n who word.Taken (value.Number 0) ≡ rowText n (record { who = who; answer = controller.taken; number = 0 })
 taken-row n who = shown n (record { named = refl; word = refl; value = refl })
 
-module _ (S : List ℕ) (at : ℕ) (r : ReadLine) (of : LineOf (take (length S - at) (drop at S)) r) where
-  pub next-within : at ≤ length S → at + r .next ≤ length S
-  next-within l = omega (arith, part-read S at r of .within, length-drop at S)
+passed-as : {R : List ℕ} {place : Place} {next : ℕ} {row row′ : List ℕ} {on : Place} {R′ : List ℕ} → row ≡ row′ → Passed R place next row on R′ → Passed R place next row′ on R′
+passed-as {R} {place} {next} {row} {row′} {on} {R′} e p = subst (λ t. Passed R place next t on R′) e p
 
-  pub next-moves : at < length S → 0 < r .next
-  next-moves l = part-read S at r of .moves (omega (arith, length-drop at S))
+-- the row of an answer
+pub put-answer : (R : List ℕ) (place : Place) (next who : ℕ) (a : Answer) (number : ℕ) (on : Place) (R′ : List ℕ) {w : Word} {v : Value} → w ≡ wordOf a → v ≡ valueOf a number
+    → Put R place next (rowOf (place .n) who w v) on R′ → Put R place next (rowIs (place .n) who a number) on R′
+unfolding rowIs
+put-answer R place next who a number on R′ e f p = subst (λ t. Put R place next t on R′) (ap₂ (rowOf (place .n) who) e f) p
+
+-- ---- the seats after a line
+
+seat-there : (W : List ℕ) (cs : List Controller) (Rs : List (List ℕ)) (k : ℕ) → k < 16 → getD (seatsIs W cs Rs) k emptySeat ≡ seatIs W (getD cs k blank) (getD Rs k [])
+unfolding seatsIs
+seat-there W cs Rs k l = table-at 16 (λ j. seatIs W (getD cs j blank) (getD Rs j [])) emptySeat k l
+
+seats-long : (W : List ℕ) (cs : List Controller) (Rs : List (List ℕ)) → length (seatsIs W cs Rs) ≡ 16
+unfolding seatsIs
+seats-long W cs Rs = table-length 16 (λ j. seatIs W (getD cs j blank) (getD Rs j []))
+
+-- the controllers after a line that starts none: only the one that it names may have changed
+pub record Others (cs : List Controller) (k : ℕ) (cs′ : List Controller) : Type 0 where
+  pub long : length cs′ ≡ length cs
+  pub same : (i : ℕ) → (i ≡ k → ⊥) → getD cs′ i blank ≡ getD cs i blank
+
+others-none : (cs : List Controller) (k : ℕ) → Others cs k cs
+others-none cs k = record { long = refl; same = λ i e. refl }
+
+others-set : (cs : List Controller) (k : ℕ) (d : Controller) → Others cs k (set cs k d)
+others-set cs k d = record { long = length-set cs k d; same = λ i e. getD-set-other cs k i d blank e }
+
+module _ (W W′ : List ℕ) (cs cs′ : List Controller) (Rs : List (List ℕ)) (R′ : List ℕ) (k : ℕ) (h : k < 16) (m : Kept W cs Rs) (g : Grows W W′) (o : Others cs k cs′) where
+  abbrev one : List Seat
+  one = set (seatsIs W cs Rs) k (seatIs W′ (getD cs′ k blank) R′)
+
+  seats-set : one ≡ seatsIs W′ cs′ (set Rs k R′)
+  seats-set = ext-getD emptySeat one (seatsIs W′ cs′ (set Rs k R′))
+      (length-set (seatsIs W cs Rs) k (seatIs W′ (getD cs′ k blank) R′) ∙ seats-long W cs Rs ∙ sym (seats-long W′ cs′ (set Rs k R′)))
+      (λ i l. let b : i < 16 = omega (arith, length-set (seatsIs W cs Rs) k (seatIs W′ (getD cs′ k blank) R′), seats-long W cs Rs) in
+      elim (ℕ-discrete i k) [
+        | yes e ↦ ap (λ j. getD one j emptySeat) e
+            ∙ getD-set-same (seatsIs W cs Rs) k (seatIs W′ (getD cs′ k blank) R′) emptySeat (omega (arith, seats-long W cs Rs))
+            ∙ ap (seatIs W′ (getD cs′ k blank)) (sym (getD-set-same Rs k R′ [] (omega (arith, m .records))))
+            ∙ sym (seat-there W′ cs′ (set Rs k R′) i b ∙ ap (λ j. seatIs W′ (getD cs′ j blank) (getD (set Rs k R′) j [])) e)
+        | no e ↦ getD-set-other (seatsIs W cs Rs) k i (seatIs W′ (getD cs′ k blank) R′) emptySeat e
+            ∙ seat-there W cs Rs i b
+            ∙ ap₂ (λ x y. record { controller = controllerIs x; statements = y }) (sym (o .same i e)) (sym (record-kept g (getD Rs i []) (m .whole i b)) ∙ ap (recordIn W′) (sym (getD-set-other Rs k i R′ [] e)))
+            ∙ sym (seat-there W′ cs′ (set Rs k R′) i b)
+      ])
+
+  kept-set : Sound W′ R′ → Kept W′ cs′ (set Rs k R′)
+  kept-set s = record {
+    distinct = s .distinct;
+    long = o .long ∙ m .long;
+    records = length-set Rs k R′ ∙ m .records;
+    whole = λ i l. elim (ℕ-discrete i k) [
+      | yes e ↦ subst (AllIn W′) (sym (ap (λ j. getD (set Rs k R′) j []) e ∙ getD-set-same Rs k R′ [] (omega (arith, m .records)))) (s .whole)
+      | no e ↦ subst (AllIn W′) (sym (getD-set-other Rs k i R′ [] e)) (whole-kept g (getD Rs i []) (m .whole i l))
+    ];
+  }
+
+module _ (Rs : List (List ℕ)) (fs : List ℕ) (k : ℕ) (h : k < 16) (m : length Rs ≡ 16) (w : Fulls Rs fs) (R′ : List ℕ) where
+  fulls-set : (f : ℕ) → Full R′ f → Fulls (set Rs k R′) (set fs k f)
+  fulls-set f x = record {
+    long = length-set fs k f ∙ w .long;
+    each = λ i l. elim (ℕ-discrete i k) [
+      | yes e ↦ subst (λ j. Full (getD (set Rs k R′) j []) (getD (set fs k f) j 0)) (sym e)
+          (subst (λ t. Full t (getD (set fs k f) k 0)) (sym (getD-set-same Rs k R′ [] (omega arith))) (subst (Full R′) (sym (getD-set-same fs k f 0 (omega (arith, w .long)))) x))
+      | no e ↦ subst (λ t. Full t (getD (set fs k f) i 0)) (sym (getD-set-other Rs k i R′ [] e)) (subst (Full (getD Rs i [])) (sym (getD-set-other fs k i f 0 e)) (w .each i l))
+    ];
+  }
+
+  fulls-kept : Keeps (getD Rs k []) R′ → Fulls (set Rs k R′) fs
+  fulls-kept p = subst (Fulls (set Rs k R′)) (set-getD fs k 0) (fulls-set (getD fs k 0) (full-kept (getD Rs k []) R′ p (getD fs k 0) (w .each k h)))
+
+pub fulls-none : (Rs : List (List ℕ)) (m : ℕ) → m ≡ 16 → Fulls Rs (replicate m 0)
+fulls-none Rs m e = record {
+  long = length-replicate m 0 ∙ e;
+  each = λ k l. subst (Full (getD Rs k [])) (sym (getD-replicate m k 0 0 (omega arith))) (full-none (getD Rs k []));
+}
+
+pick-false : {A : Type 0} (b : Bool) (x y : A) → b ≡ false → (if b then x else y) ≡ y
+pick-false b x y e = rw e
+
+pick-true : {A : Type 0} (b : Bool) (x y : A) → b ≡ true → (if b then x else y) ≡ x
+pick-true b x y e = rw e
+
+-- ---- a line that calls a controller
+
+-- the controller is stored where it changed
+abbrev pub Stored : List Controller → ℕ → Outcome → List Controller → Type 0
+Stored cs k o cs′ = ((changesIs (o .answer) ≡ true) × (cs′ ≡ set cs k (o .controller))) ⊎ ((changesIs (o .answer) ≡ false) × (cs′ ≡ cs))
+
+module _ (g : Setting) (W W′ : List ℕ) (cs cs′ : List Controller) (Rs : List (List ℕ)) (R′ : List ℕ) (k : ℕ) (l : Line) (o : Outcome) (h : k < 16) (m : Kept W cs Rs)
+    (a : CalledAt W (getD Rs k []) (getD cs k blank) k l o W′ R′) (t : Stored cs k o cs′) where
+  call-others : Others cs k cs′
+  call-others = go t
+    where
+      go : Stored cs k o cs′ → Others cs k cs′
+      go (inl (q, z)) = subst (Others cs k) (sym z) (others-set cs k (o .controller))
+      go (inr (q, z)) = subst (Others cs k) (sym z) (others-none cs k)
+
+  controller-after : controllerIs (o .controller) ≡ controllerIs (getD cs′ k blank)
+  controller-after = go t
+    where
+      go : Stored cs k o cs′ → controllerIs (o .controller) ≡ controllerIs (getD cs′ k blank)
+      go (inl (q, z)) = ap controllerIs (sym (ap (λ u. getD u k blank) z ∙ getD-set-same cs k (o .controller) blank (omega (arith, m .long))))
+      go (inr (q, z)) = a .same q ∙ ap (λ u. controllerIs (getD u k blank)) (sym z)
+
+  call-left : step (benchIs g W cs Rs) (some l) ≡ record { reply = replyIs W′ k (o .answer) (numberIs (o .answer)); bench = benchIs g W′ cs′ (set Rs k R′) }
+  call-left = a .steps (g .ready) (g .faulty) (seatsIs W cs Rs) (seat-there W cs Rs k h)
+      ∙ ap (λ X. record { reply = replyIs W′ k (o .answer) (numberIs (o .answer)); bench = benchOf (g .ready) (g .faulty) X W′ })
+      (ap (λ c. set (seatsIs W cs Rs) k (record { controller = c; statements = recordIn W′ R′ })) controller-after ∙ seats-set W W′ cs cs′ Rs R′ k h m (a .grows) call-others)
+
+  call-kept : Kept W′ cs′ (set Rs k R′)
+  call-kept = kept-set W W′ cs cs′ Rs R′ k h m (a .grows) call-others (a .sound)
+
+-- ---- a line that calls none
+
+module _ (g : Setting) (W W′ : List ℕ) (cs : List Controller) (Rs : List (List ℕ)) (R′ : List ℕ) (k : ℕ) (l : Line) (y : Reply) (n : Setting) (fresh : Bool) (h : k < 16) (m : Kept W cs Rs)
+    (a : Advanced W (getD Rs k []) g k l y n fresh W′ R′) where
+  abbrev X₀ : List Seat
+  X₀ = seatsIs W cs Rs
+
+  abbrev begins : List Seat
+  begins = table controllers (λ j. record { controller = started j (n .members) (n .sender); statements = [] })
+
+  went : step (benchIs g W cs Rs) (some l) ≡ record { reply = y; bench = benchOf (n .ready) (n .faulty) (seatsAfter fresh n W′ R′ k X₀) W′ }
+  went = a .steps X₀ (ap (λ (s : Seat). s .statements) (seat-there W cs Rs k h))
+
+  line-left : fresh ≡ false → step (benchIs g W cs Rs) (some l) ≡ record { reply = y; bench = benchIs n W′ cs (set Rs k R′) }
+  line-left e = went ∙ ap (λ X. record { reply = y; bench = benchOf (n .ready) (n .faulty) X W′ })
+      (pick-false fresh begins (set X₀ k (record { controller = getD X₀ k emptySeat .controller; statements = recordIn W′ R′ })) e
+      ∙ ap (λ (s : Seat). set X₀ k (record { controller = s .controller; statements = recordIn W′ R′ })) (seat-there W cs Rs k h)
+      ∙ seats-set W W′ cs cs Rs R′ k h m (a .grows e) (others-none cs k))
+
+  line-kept : fresh ≡ false → Kept W′ cs (set Rs k R′)
+  line-kept e = kept-set W W′ cs cs Rs R′ k h m (a .grows e) (others-none cs k) (a .sound e)
+
+  module _ (cs″ : List Controller) (Rs″ : List (List ℕ)) (s : Started (n .members) (n .sender) cs″ Rs″) where
+    empty-record : (j : ℕ) → j < 16 → recordIn W′ (getD Rs″ j []) ≡ []
+    unfolding recordOf table
+    empty-record j b = ap (λ i. table i (λ i. stmtAt W′ (getD (getD Rs″ j []) i 0))) (s .each j b .1)
+
+    fresh-left : fresh ≡ true → step (benchIs g W cs Rs) (some l) ≡ record { reply = y; bench = benchIs n W′ cs″ Rs″ }
+    unfolding seatsIs
+    fresh-left e = went ∙ ap (λ X. record { reply = y; bench = benchOf (n .ready) (n .faulty) X W′ })
+        (pick-true fresh begins (set X₀ k (record { controller = getD X₀ k emptySeat .controller; statements = recordIn W′ R′ })) e
+        ∙ table-cong 16 (λ j. record { controller = started j (n .members) (n .sender); statements = [] }) (λ j. seatIs W′ (getD cs″ j blank) (getD Rs″ j []))
+        (λ j b. ap₂ (λ x z. record { controller = x; statements = z }) (sym (s .each j b .0)) (sym (empty-record j b))))
+
+    fresh-kept : fresh ≡ true → Kept W′ cs″ Rs″
+    unfolding AllIn
+    fresh-kept e = record {
+      distinct = record { tells = λ i j a′ b. absurd (omega (arith, a .begun e .0)) };
+      long = s .long;
+      records = s .records;
+      whole = λ j b i h. absurd (omega (arith, s .each j b .1));
+    }
+
+-- ---- one line more
+
+module _ (S : List ℕ) (place on : Place) (b b′ : Bench) (R R′ R″ : List ℕ) (going : Going S place b R R′) (r : ReadLine) (of : LineOf (drop (place .at) S) r) (more : place .at < length S)
+    (this : Option Line) (is-this : Reads (take (r .next) (drop (place .at) S)) this) (reply : Reply) (left : step b this ≡ record { reply = reply; bench = b′ })
+    (p : Passed R′ place (r .next) (rowText (place .n) reply) on R″) where
+  abbrev row : List ℕ
+  row = rowText (place .n) reply
+
+  some-left : 0 < length (drop (place .at) S)
+  some-left = omega (arith, length-drop (place .at) S)
+
+  rest-of : (L : List (Option Line)) → ReadAll (lines (drop (on .at) S)) L → Reading S (going .printed ++ row) (rowsFrom (on .n) b′ L)
+  unfolding rowsFrom
+  rest-of L q =
+      let q′ : ReadAll (lines (drop (r .next) (drop (place .at) S))) L = subst (λ t. ReadAll (lines t) L) (ap (λ i. drop i S) (p .at) ∙ sym (drop-drop (r .next) (place .at) S)) q in
+      let all : ReadAll (lines (drop (place .at) S)) (this ∷ L) = subst (λ t. ReadAll t (this ∷ L)) (sym (of .first some-left)) (is-this, q′) in
+      let whole : Reading S (going .printed) (rowsFrom (place .n) b (this ∷ L)) = going .rest (this ∷ L) all in
+      record {
+        reading = whole .reading;
+        reads = whole .reads;
+        rows = whole .rows
+            ∙ ap (λ (t : bench.Stepped). going .printed ++ (rowText (place .n) (t .reply) ++ rowsFrom (suc (place .n)) (t .bench) L)) left
+            ∙ sym (append-assoc (going .printed) row (rowsFrom (suc (place .n)) b′ L))
+            ∙ ap (λ t. (going .printed ++ row) ++ rowsFrom t b′ L) (sym (p .number ∙ add-one (place .n)));
+      }
+
+  goes-on : Going S on b′ R R″
+  goes-on = record {
+    printed = going .printed ++ row;
+    rows = p .rows ∙ ap₂ (λ t o. sets t o row) (going .rows) (going .end) ∙ sym (sets-append (going .printed) row R 22);
+    end = omega (arith, p .end, going .end, length-append (going .printed) row);
+    small = omega (arith, p .small, p .at, going .small, length-append (going .printed) row, of .moves some-left);
+    number = omega (arith, p .number, p .at, going .number, of .moves some-left);
+    within = omega (arith, p .at, of .within, length-drop (place .at) S, going .within);
+    rest = rest-of;
+  }
+
+part-read : (S : List ℕ) (at : ℕ) (r : ReadLine) → LineOf (take (length S - at) (drop at S)) r → LineOf (drop at S) r
+part-read S at r of = rw (take-all (length S - at) (drop at S) (omega (arith, length-drop at S))) at of
+
+module _ (S : List ℕ) (place : Place) (r : ReadLine) (of : LineOf (take (length S - place .at) (drop (place .at) S)) r) where
+  pub next-within : place .at ≤ length S → place .at + r .next ≤ length S
+  next-within l = omega (arith, part-read S (place .at) r of .within, length-drop (place .at) S)
+
+  pub next-moves : place .at < length S → 0 < r .next
+  next-moves l = part-read S (place .at) r of .moves (omega (arith, length-drop (place .at) S))
+
+  -- the measure falls
+  pub less : {R R′ row : List ℕ} {on : Place} → place .at < length S → Passed R place (r .next) row on R′ → length S - on .at < length S - place .at
+  less l p = omega (arith, p .at, next-moves l, next-within (omega arith))
+
+  pub room : {b : Bench} {R R′ : List ℕ} → Going S place b R R′ → length S ≤ 65536 → place .at < length S → Room place (r .next)
+  room g s m = record { out = omega (arith, g .end, g .small); number = omega (arith, g .number); at = omega (arith, next-within (omega arith)) }
 
   -- a line that reads
   module _ (l : Held) (e : r .parsed ≡ Readable l) where
-    -- its text, as the part of the schedule that the step is given
+    -- its text, as the part of the schedule that the line is given
     abbrev body : List ℕ
-    body = take (at + r .next - 1 - at) (drop at S)
+    body = take (place .at + r .next - 1 - place .at) (drop (place .at) S)
 
-    body-is : body ≡ take (r .next - 1) (drop at S)
-    body-is = let n : at + r .next - 1 - at ≡ r .next - 1 = omega arith in ap (λ i. take i (drop at S)) n
+    body-is : body ≡ take (r .next - 1) (drop (place .at) S)
+    body-is = let n : place .at + r .next - 1 - place .at ≡ r .next - 1 = omega arith in ap (λ i. take i (drop (place .at) S)) n
 
-    body-ended : take (r .next) (drop at S) ≡ ended body
-    body-ended = line-ended (drop at S) r (part-read S at r of) l e ∙ ap ended (sym body-is)
+    body-ended : take (r .next) (drop (place .at) S) ≡ ended body
+    body-ended = line-ended (drop (place .at) S) r (part-read S (place .at) r of) l e ∙ ap ended (sym body-is)
 
-    line-reads : (this : Line) → Reads (ended body) (some this) → Reads (take (r .next) (drop at S)) (some this)
+    pub body-long : place .at < length S → length body + 1 ≡ r .next
+    body-long m = omega (arith, ap length body-is, length-take (r .next - 1) (drop (place .at) S), part-read S (place .at) r of .within, next-moves m)
+
+    line-reads : (this : Line) → Reads (ended body) (some this) → Reads (take (r .next) (drop (place .at) S)) (some this)
     line-reads this t = subst (λ s. Reads s (some this)) (sym body-ended) t
 
     pub line-fits : Fit l body
-    line-fits = record { tells = subst (λ t. Tells (meant l) (ended t)) (sym body-is) (line-tells (drop at S) r (part-read S at r of) l e) }
+    line-fits = record { tells = subst (λ t. Tells (meant l) (ended t)) (sym body-is) (line-tells (drop (place .at) S) r (part-read S (place .at) r of) l e) }
 
     pub line-seat : {k : ℕ} → k ≡ seatOf (Readable l) → k < 16
     line-seat q = omega (arith, q, fit-seat l line-fits)
 
-    pub line-on : {n : ℕ} {b b′ : Bench} {R R′ : List ℕ} {out : ℕ} → Going S at n b R R′ out → at < length S → (W′ : List ℕ) (s : Stepped) (this : Line) → Reads (ended body) (some this) → step b (some this) ≡ record { reply = replyIs W′ s; bench = b′ }
-        → {R″ : List ℕ} {out′ : ℕ} → (out′ ≡ out + length (rowIs n (s .who) (s .answer) (s .number))) × (R″ ≡ sets R′ out (rowIs n (s .who) (s .answer) (s .number))) × (length (rowIs n (s .who) (s .answer) (s .number)) ≤ 40) → Going S (at + r .next) (n + 1) b′ R R″ out′
-    line-on {n} {b} {b′} {R} {R′} {out} going more W′ s this reads left {R″} {out′} put =
-        goes-on S at n b b′ R R′ out going r (part-read S at r of) more (some this) (line-reads this reads) (replyIs W′ s) left (rowIs n (s .who) (s .answer) (s .number)) (row-is W′ n s) R″ out′ put
+    pub room-body : {b : Bench} {R R′ : List ℕ} → Going S place b R R′ → length S ≤ 65536 → place .at < length S → Room place (length body + 1)
+    room-body g s m = subst (Room place) (sym (body-long m)) (room g s m)
 
-    -- one that leaves the bench as it is
-    module _ (W : List ℕ) (g : Setting) (cs : List Controller) (fs : List ℕ) (k : ℕ) (q : k ≡ seatOf (Readable l)) (m : Kept W cs) (w : Fulls cs fs) (idle : Needless W g (getD fs k 0) l) where
-      stays : step (benchIs g W cs) (some (idle .line)) ≡ record { reply = record { who = k; answer = controller.taken; number = 0 }; bench = benchIs g W cs }
-      stays =
-          idle .steps (getD cs k blank) (record { distinct = m .distinct; whole = m .whole k (line-seat q) }) (w .each k (line-seat q)) (seatsIs W cs)
-          (seat-there W cs (seatOf (Readable l)) (fit-seat l line-fits) ∙ ap (λ j. seatIs W (getD cs j blank)) (sym q))
-          ∙ ap (λ j. record { reply = record { who = j; answer = controller.taken; number = 0 }; bench = benchIs g W cs }) (sym q)
+    -- one that calls
+    module _ (W W′ : List ℕ) (cs cs′ : List Controller) (Rs : List (List ℕ)) (fs R′ : List ℕ) (k : ℕ) (q : k ≡ seatOf (Readable l)) (m : Kept W cs Rs) (w : Fulls Rs fs) (o : Outcome)
+        (a : Called W (getD Rs k []) (getD cs k blank) l o W′ R′) (t : Stored cs k o cs′) where
+      at-seat : CalledAt W (getD Rs k []) (getD cs k blank) k (a .line) o W′ R′
+      at-seat = subst (λ j. CalledAt W (getD Rs k []) (getD cs k blank) j (a .line) o W′ R′) (sym q) (a .called)
 
-      needless-reads : Reads (ended body) (some (idle .line))
-      needless-reads = subst (λ o. Tells o (ended body)) (idle .means) (line-fits .tells)
+      call-reads : Reads (ended body) (some (a .line))
+      call-reads = subst (λ u. Tells u (ended body)) (a .means) (line-fits .tells)
 
-      pub needless-on : {n : ℕ} {R R′ : List ℕ} {out : ℕ} → Going S at n (benchIs g W cs) R R′ out → at < length S
-          → {R″ : List ℕ} {out′ : ℕ} → (out′ ≡ out + length (rowOf n k word.Taken (value.Number 0))) × (R″ ≡ sets R′ out (rowOf n k word.Taken (value.Number 0))) × (length (rowOf n k word.Taken (value.Number 0)) ≤ 40)
-          → Going S (at + r .next) (n + 1) (benchIs g W cs) R R″ out′
-      needless-on {n} {R} {R′} {out} going more {R″} {out′} put =
-          goes-on S at n (benchIs g W cs) (benchIs g W cs) R R′ out going r (part-read S at r of) more (some (idle .line)) (line-reads (idle .line) needless-reads)
-          (record { who = k; answer = controller.taken; number = 0 }) stays (rowOf n k word.Taken (value.Number 0)) (taken-row n k) R″ out′ put
+      pub call-on : {R₀ rows rows′ : List ℕ} {on : Place} {number : ℕ} → Going S place (benchIs (place .setting) W cs Rs) R₀ rows → place .at < length S → number ≡ numberIs (o .answer)
+          → Put rows place (r .next) (rowIs (place .n) k (o .answer) number) on rows′
+          → Kept W′ cs′ (set Rs k R′) × Going S on (benchIs (on .setting) W′ cs′ (set Rs k R′)) R₀ rows′ × Fulls (set Rs k R′) fs
+      call-on {R₀} {rows} {rows′} {on} {number} going more z p = (
+        call-kept (place .setting) W W′ cs cs′ Rs R′ k (a .line) o (line-seat q) m at-seat t,
+        subst (λ g. Going S on (benchIs g W′ cs′ (set Rs k R′)) R₀ rows′) (sym (p .setting))
+            (goes-on S place on (benchIs (place .setting) W cs Rs) (benchIs (place .setting) W′ cs′ (set Rs k R′)) R₀ rows rows′ going r (part-read S (place .at) r of) more (some (a .line)) (line-reads (a .line) call-reads)
+            (replyIs W′ k (o .answer) (numberIs (o .answer))) (call-left (place .setting) W W′ cs cs′ Rs R′ k (a .line) o (line-seat q) m at-seat t)
+            (passed-as (ap (rowIs (place .n) k (o .answer)) z ∙ row-is W′ (place .n) k (o .answer) (numberIs (o .answer))) (p .passed))),
+        fulls-kept Rs fs k (line-seat q) (m .records) w R′ (at-seat .keeps),
+      )
+
+    -- one that finds nothing to do
+    module _ (W : List ℕ) (cs : List Controller) (Rs : List (List ℕ)) (fs : List ℕ) (k : ℕ) (q : k ≡ seatOf (Readable l)) (m : Kept W cs Rs) (w : Fulls Rs fs) (idle : Needless W (place .setting) (getD fs k 0) l) where
+      idle-reads : Reads (ended body) (some (idle .line))
+      idle-reads = subst (λ u. Tells u (ended body)) (idle .means) (line-fits .tells)
+
+      idle-left : step (benchIs (place .setting) W cs Rs) (some (idle .line)) ≡ record { reply = record { who = seatOf (Readable l); answer = controller.taken; number = 0 }; bench = benchIs (place .setting) W cs Rs }
+      idle-left = idle .steps (getD Rs k []) (record { distinct = m .distinct; whole = m .whole k (line-seat q) }) (w .each k (line-seat q)) (seatsIs W cs Rs)
+          (ap (λ j. getD (seatsIs W cs Rs) j emptySeat .statements) (sym q) ∙ ap (λ (s : Seat). s .statements) (seat-there W cs Rs k (line-seat q)))
+
+      pub idle-on : {R₀ rows rows′ : List ℕ} {on : Place} → Going S place (benchIs (place .setting) W cs Rs) R₀ rows → place .at < length S → Put rows place (r .next) (rowOf (place .n) k word.Taken (value.Number 0)) on rows′
+          → Kept W cs Rs × Going S on (benchIs (on .setting) W cs Rs) R₀ rows′ × Fulls Rs fs
+      idle-on {R₀} {rows} {rows′} {on} going more p = (
+        m,
+        subst (λ g. Going S on (benchIs g W cs Rs) R₀ rows′) (sym (p .setting))
+            (goes-on S place on (benchIs (place .setting) W cs Rs) (benchIs (place .setting) W cs Rs) R₀ rows rows′ going r (part-read S (place .at) r of) more (some (idle .line)) (line-reads (idle .line) idle-reads)
+            (record { who = seatOf (Readable l); answer = controller.taken; number = 0 }) idle-left
+            (passed-as (taken-row (place .n) k ∙ ap (λ j. rowText (place .n) (record { who = j; answer = controller.taken; number = 0 })) q) (p .passed))),
+        w,
+      )
+
+    -- one that calls no controller
+    module _ (W W′ : List ℕ) (cs : List Controller) (Rs : List (List ℕ)) (fs R′ : List ℕ) (k : ℕ) (q : k ≡ seatOf (Readable l)) (m : Kept W cs Rs) (w : Fulls Rs fs) (s : Moved) (rows rows′ : List ℕ) (more : place .at < length S)
+        (a : LineRun W (getD Rs k []) place (seatOf (Readable l)) body rows s W′ R′ rows′) where
+      run-at : Advanced W (getD Rs k []) (place .setting) k (a .line) (a .reply) (s .place .setting) (s .fresh) W′ R′
+      run-at = subst (λ j. Advanced W (getD Rs k []) (place .setting) j (a .line) (a .reply) (s .place .setting) (s .fresh) W′ R′) (sym q) (a .advanced)
+
+      run-passed : Passed rows place (r .next) (rowText (place .n) (a .reply)) (s .place) rows′
+      run-passed = subst (λ n. Passed rows place n (rowText (place .n) (a .reply)) (s .place) rows′) (body-long more) (a .passed)
+
+      pub run-less : length S - s .place .at < length S - place .at
+      run-less = less more run-passed
+
+      pub run-on : {R₀ : List ℕ} → s .fresh ≡ false → Going S place (benchIs (place .setting) W cs Rs) R₀ rows
+          → Kept W′ cs (set Rs k R′) × Going S (s .place) (benchIs (s .place .setting) W′ cs (set Rs k R′)) R₀ rows′ × Fulls (set Rs k R′) (set fs k (s .full))
+      run-on {R₀} e′ going = (
+        line-kept (place .setting) W W′ cs Rs R′ k (a .line) (a .reply) (s .place .setting) (s .fresh) (line-seat q) m run-at e′,
+        goes-on S place (s .place) (benchIs (place .setting) W cs Rs) (benchIs (s .place .setting) W′ cs (set Rs k R′)) R₀ rows rows′ going r (part-read S (place .at) r of) more (some (a .line)) (line-reads (a .line) (a .reads)) (a .reply)
+            (line-left (place .setting) W W′ cs Rs R′ k (a .line) (a .reply) (s .place .setting) (s .fresh) (line-seat q) m run-at e′) run-passed,
+        fulls-set Rs fs k (line-seat q) (m .records) w R′ (s .full) (a .full-is e′),
+      )
+
+      pub run-allowed : s .fresh ≡ true → setupAllowed 0 (s .place .setting .members) (s .place .setting .sender) ≡ true
+      run-allowed e′ = run-at .begun e′ .1
+
+      pub run-fresh : {R₀ : List ℕ} (cs″ : List Controller) (Rs″ : List (List ℕ)) (f : ℕ) → f ≡ 16 → s .fresh ≡ true → Started (s .place .setting .members) (s .place .setting .sender) cs″ Rs″ → Going S place (benchIs (place .setting) W cs Rs) R₀ rows
+          → Kept W′ cs″ Rs″ × Going S (s .place) (benchIs (s .place .setting) W′ cs″ Rs″) R₀ rows′ × Fulls Rs″ (replicate f 0)
+      run-fresh {R₀} cs″ Rs″ f z e′ d going = (
+        fresh-kept (place .setting) W W′ cs Rs R′ k (a .line) (a .reply) (s .place .setting) (s .fresh) (line-seat q) m run-at cs″ Rs″ d e′,
+        goes-on S place (s .place) (benchIs (place .setting) W cs Rs) (benchIs (s .place .setting) W′ cs″ Rs″) R₀ rows rows′ going r (part-read S (place .at) r of) more (some (a .line)) (line-reads (a .line) (a .reads)) (a .reply)
+            (fresh-left (place .setting) W W′ cs Rs R′ k (a .line) (a .reply) (s .place .setting) (s .fresh) (line-seat q) m run-at cs″ Rs″ d e′) run-passed,
+        fulls-none Rs″ f z,
+      )
 
   -- one that does not
-  pub unread-on : r .parsed ≡ Unreadable → {n : ℕ} {b : Bench} {R R′ : List ℕ} {out : ℕ} → Going S at n b R R′ out → at < length S
-      → {R″ : List ℕ} {out′ : ℕ} → (out′ ≡ out + length (rowOf n 16 word.Refused (value.Number 8))) × (R″ ≡ sets R′ out (rowOf n 16 word.Refused (value.Number 8))) × (length (rowOf n 16 word.Refused (value.Number 8)) ≤ 40)
-      → Going S (at + r .next) (n + 1) b R R″ out′
+  pub unread-on : r .parsed ≡ Unreadable → {W : List ℕ} {cs : List Controller} {Rs : List (List ℕ)} {R R′ R″ : List ℕ} {on : Place} → Kept W cs Rs → Going S place (benchIs (place .setting) W cs Rs) R R′ → place .at < length S
+      → Put R′ place (r .next) (rowOf (place .n) 16 word.Refused (value.Number 8)) on R″ → Going S on (benchIs (on .setting) W cs Rs) R R″
   unfolding step
-  unread-on e {n} {b} {R} {R′} {out} going more {R″} {out′} put =
-      goes-on S at n b b R R′ out going r (part-read S at r of) more none (subst (λ p. ReadAs p (take (r .next) (drop at S))) e (part-read S at r of .reads)) (record { who = 16; answer = controller.refused controller.outOfPlace; number = 0 }) refl
-      (rowOf n 16 word.Refused (value.Number 8)) (refused-row n) R″ out′ put
+  unread-on e {W} {cs} {Rs} {R} {R′} {R″} {on} m going more p =
+      subst (λ g. Going S on (benchIs g W cs Rs) R R″) (sym (p .setting))
+      (goes-on S place on (benchIs (place .setting) W cs Rs) (benchIs (place .setting) W cs Rs) R R′ R″ going r (part-read S (place .at) r of) more none (subst (λ t. ReadAs t (take (r .next) (drop (place .at) S))) e (part-read S (place .at) r of .reads))
+      (record { who = 16; answer = controller.refused controller.outOfPlace; number = 0 }) refl (passed-as (refused-row (place .n)) (p .passed)))
 
--- what the next line needs of the rows
-pub going-room : {S : List ℕ} {at n : ℕ} {b : Bench} {R R′ : List ℕ} {out : ℕ} → Going S at n b R R′ out → length S ≤ 65536 → at < length S → (out ≤ 2621504) × (n < 100000)
-going-room g s m = (omega (arith, g .end, g .small), omega (arith, g .number))
-
-pub going-long : {S : List ℕ} {at n : ℕ} {b : Bench} {R R′ : List ℕ} {out : ℕ} → Going S at n b R R′ out → length R′ ≡ length R
+pub going-long : {S : List ℕ} {place : Place} {b : Bench} {R R′ : List ℕ} → Going S place b R R′ → length R′ ≡ length R
 going-long {R = R} g = ap length (g .rows) ∙ length-sets R 22 (g .printed)
+
+pub full-whole : (b : Bool) (n full r : ℕ) → b ≡ true → r ≡ n → r ≡ fullAfter b n full
+full-whole b n full r e q = q ∙ sym (ap (λ x. fullAfter x n full) e)
+
+pub full-before : (b : Bool) (n full : ℕ) → b ≡ false → full ≡ fullAfter b n full
+full-before b n full e = sym (ap (λ x. fullAfter x n full) e)
+
+-- ---- a line that calls no controller, and its row
+
+module _ (W R : List ℕ) (place : Place) (l : Held) (T : List ℕ) (full : ℕ) (rows : List ℕ) (s : Sound W R) (f : Full R full) where
+  full-after : (R′ : List ℕ) (n : ℕ) (b : Bool) → Keeps R R′ → (b ≡ true → Full R′ n) → Full R′ (fullAfter b n full)
+  full-after R′ n true k h = h refl
+  full-after R′ n false k h = full-kept R R′ k full f
+
+  pub run-stepped : {W′ R′ : List ℕ} {st : Stepped} {on : Place} {rows′ : List ℕ} {known : ℕ} → SteppedBy W R (place .setting) (seatOf (Readable l)) T st W′ R′ → Put rows place (length T + 1) (rowIs (place .n) (st .who) (st .answer) (st .number)) on rows′
+      → known ≡ fullAfter (st .whole) (poolLen W′) full
+      → LineRun W R place (seatOf (Readable l)) T rows (record { place = record { setting = st .setting; at = on .at; n = on .n; out = on .out }; fresh = st .fresh; full = known }) W′ R′ rows′
+  run-stepped {W′} {R′} {st} {on} {rows′} {known} a p z = record {
+    line = a .line;
+    reads = a .reads;
+    reply = replyIs W′ (st .who) (st .answer) (st .number);
+    passed = (let u = passed-as (row-is W′ (place .n) (st .who) (st .answer) (st .number)) (p .passed) in record { at = u .at; number = u .number; end = u .end; rows = u .rows; small = u .small });
+    advanced = a .stepped .advanced;
+    full-is = λ e. subst (Full R′) (sym z) (full-after R′ (poolLen W′) (st .whole) (a .stepped .advanced .keeps e) (a .stepped .full));
+  }
 
 -- ---- the start and the end
 
-pub going-end : {S : List ℕ} {at n : ℕ} {b : Bench} {R R′ : List ℕ} {out : ℕ} → Going S at n b R R′ out → length S ≤ at → length S ≤ 65536 → Ran S R R′ out
+pub going-end : {S : List ℕ} {place : Place} {b : Bench} {R R′ : List ℕ} → Going S place b R R′ → length S ≤ place .at → length S ≤ 65536 → Ran S R R′ (place .out)
 unfolding rowsFrom lines
-going-end {S} {at} {n} {b} {R} {R′} {out} g e l = record {
+going-end {S} {place} {b} {R} {R′} g e l = record {
   printed = g .printed;
   rows = g .rows;
   end = g .end;
@@ -294,50 +435,67 @@ going-end {S} {at} {n} {b} {R} {R′} {out} g e l = record {
   ran = g .rest [] (subst (λ t. ReadAll (lines t) []) (sym (drop-of-length-le S e)) tt);
 }
 
-module _ (c : Controller) (fresh : (controllerIs c ≡ controller.notSetUp) × (c .statements .len ≡ 0)) (m w : ℕ) (e : m ≡ 16) (f : w ≡ 10241) where
-  empty-pool : poolLen (replicate w 0) ≡ 0
-  unfolding poolLen
-  empty-pool = let z : _≡_ {A = ℕ} (getD (replicate w 0) 10240 0) 0 = getD-replicate w 10240 0 0 (omega arith) in omega arith
+zero-at : (n i : ℕ) → _≡_ {A = ℕ} (getD (replicate n 0) i 0) 0
+zero-at n i = elim (decLt i n) [
+  | yes l ↦ getD-replicate n i 0 0 l
+  | no l ↦ getD-past (replicate n 0) i (omega (arith, length-replicate {A = ℕ} n 0))
+]
+  where
+    getD-past : (l : List ℕ) (i : ℕ) → length l ≤ i → getD l i 0 ≡ 0
+    getD-past [] i h = refl
+    getD-past (x ∷ l) zero h = absurd (omega arith)
+    getD-past (x ∷ l) (suc i) h = getD-past l i (omega arith)
 
-  each-is : (k : ℕ) → k < 16 → getD (replicate m c) k blank ≡ c
-  each-is k l = getD-replicate m k c blank (omega arith)
+module _ (c : Controller) (fresh : controllerIs c ≡ controller.notSetUp) (m n : ℕ) (e : m ≡ 16) (W₀ : List ℕ) (empty-pool : poolLen W₀ ≡ 0) where
+  abbrev R₀ : List ℕ
+  R₀ = replicate n 0
 
-  no-record : (W : List ℕ) → recordIs W c ≡ []
-  unfolding recordIs recordOf table
-  no-record W = ap (λ n. recordOf W (c .statements .ids) n) (fresh .1)
+  empty-length : recordLen R₀ ≡ 0
+  empty-length = let z : _≡_ {A = ℕ} (getD R₀ 512 0) 0 = zero-at n 512 in omega arith
 
-  no-whole : (W : List ℕ) → Whole W c
-  unfolding Whole
-  no-whole W i l = absurd (omega (arith, fresh .1))
+  record-is : (k : ℕ) → k < 16 → getD (replicate m R₀) k [] ≡ R₀
+  record-is k l = getD-replicate m k R₀ [] (omega arith)
 
-  pub kept-first : Kept (replicate w 0) (replicate m c)
+  controller-is : (k : ℕ) → k < 16 → getD (replicate m c) k blank ≡ c
+  controller-is k l = getD-replicate m k c blank (omega arith)
+
+  no-record : recordIn W₀ R₀ ≡ []
+  unfolding recordOf table
+  no-record = ap (λ i. table i (λ i. stmtAt W₀ (getD R₀ i 0))) empty-length
+
+  no-numbers : AllIn W₀ R₀
+  unfolding AllIn
+  no-numbers i l = absurd (omega (arith, empty-length))
+
+  pub kept-first : Kept W₀ (replicate m c) (replicate m R₀)
   kept-first = record {
     distinct = record { tells = λ i j a b. absurd (omega (arith, empty-pool)) };
     long = length-replicate m c ∙ e;
-    whole = λ k l. subst (Whole (replicate w 0)) (sym (each-is k l)) (no-whole (replicate w 0));
+    records = length-replicate m R₀ ∙ e;
+    whole = λ k l. subst (AllIn W₀) (sym (record-is k l)) no-numbers;
   }
 
-  bench-first : benchOf false 0 (seatsIs (replicate w 0) (replicate m c)) (replicate w 0) ≡ newBench
+  bench-first : benchOf false 0 (seatsIs W₀ (replicate m c) (replicate m R₀)) W₀ ≡ newBench
   unfolding seatsIs
   bench-first = ap₂ (λ X P. record { isSetUp = false; faulty = 0; seats = X; pool = P })
-      (table-cong 16 (λ k. seatIs (replicate w 0) (getD (replicate m c) k blank)) (λ k. emptySeat) (λ k l. ap (seatIs (replicate w 0)) (each-is k l) ∙ ap₂ (λ x y. record { controller = x; statements = y }) (fresh .0) (no-record (replicate w 0))))
-      (sym (no-pool (replicate w 0) empty-pool))
+      (table-cong 16 (λ k. seatIs W₀ (getD (replicate m c) k blank) (getD (replicate m R₀) k [])) (λ k. emptySeat)
+      (λ k l. ap₂ (λ x y. record { controller = controllerIs x; statements = recordIn W₀ y }) (controller-is k l) (record-is k l) ∙ ap₂ (λ x y. record { controller = x; statements = y }) fresh no-record))
+      (sym (no-pool W₀ empty-pool))
 
-  pub going-first : (S R : List ℕ) → Going S 0 1 (benchOf false 0 (seatsIs (replicate w 0) (replicate m c)) (replicate w 0)) R R 22
-  going-first S R = record {
+  pub going-first : (S R : List ℕ) (place : Place) → Begins place → Going S place (benchIs (place .setting) W₀ (replicate m c) (replicate m R₀)) R R
+  going-first S R place b = record {
     printed = [];
     rows = refl;
-    end = refl;
+    end = b .out;
     small = omega arith;
-    number = omega arith;
-    within = omega arith;
-    rest = λ L q. record { reading = L; reads = q; rows = ap (λ b. rowsFrom 1 b L) (sym bench-first) };
+    number = omega (arith, b .number, b .at);
+    within = omega (arith, b .at);
+    rest = λ L q. record {
+      reading = L;
+      reads = subst (λ i. ReadAll (lines (drop i S)) L) (b .at) q;
+      rows = ap₂ (λ n t. rowsFrom n t L) (sym (b .number)) (sym (ap₂ (λ x y. benchOf x y (seatsIs W₀ (replicate m c) (replicate m R₀)) W₀) (b .ready) (b .faulty) ∙ bench-first));
+    };
   }
-
--- ---- what the loop asks of the line that was read
-
-pub named-at : {W W′ : List ℕ} {g : Setting} {c : Controller} {k k′ : ℕ} {l : Option Line} {s : Stepped} → k ≡ k′ → Advanced W g c k′ l s W′ → Advanced W g c k l s W′
-named-at {W} {W′} {g} {c} {k} {k′} {l} {s} e a = subst (λ j. Advanced W g c j l s W′) (sym e) a
 
 -- ---- the header and what stands after it
 

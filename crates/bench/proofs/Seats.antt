@@ -1,18 +1,15 @@
--- What a line on one controller comes to.
+-- What a line comes to on one controller or on its record.
 -- Assumes nothing.
 use mathlib.Core.Path.{_≡_, refl, sym, ap, ap₂, subst, _∙_}
-use mathlib.Core.Logic.{inl, inr}
-use mathlib.Core.Bool.{Bool, true, false, not, _&&_, _||_, true≢false}
-use mathlib.Core.List.{List, [], _∷_, _++_, append-assoc, append-nil}
-use mathlib.Core.Option.{Option, some, none}
-use Prim.Native.Nat.{ℕ, zero, suc, _+_, _-_, _≤_, _<_, min}
-use native.Mathlib.Decide.{decLt, ℕ-discrete}
-use native.Mathlib.Numerals.{add-one}
-use native.Mathlib.Nat.{add-zero}
+use mathlib.Core.Bool.{Bool, true, false, not, _||_, true≢false}
+use mathlib.Core.List.{List, [], _∷_, _++_, append-nil, map, map-append}
+use mathlib.Core.Option.{some, none}
+use Prim.Native.Nat.{ℕ, zero, suc, _+_, _≤_, _<_}
+use native.Mathlib.Decide.{decLt}
 use native.Mathlib.Omega.{arith}
 use lib.Dec.{T, eqb, leb, ltb}
-use lib.ListN.{length, getD, set, replicate, length-replicate, getD-replicate, length-append, length-set, List·getD-append}
-use lib.Seq.{getD-set-same, getD-set-other, set-getD, getD-append-add}
+use lib.ListN.{length, getD, set, length-append, List·getD-append}
+use lib.Seq.{set-getD}
 use borrow.Author.Tests.{eq-eqb, ne-eqb, lt-ltb, le-ltb, le-leb, lt-leb}
 use Rattle.protocol.specs.Lists.{if_then_else_, any, filter}
 use Rattle.protocol.specs.Statement.{Stmt, sameStmt, noStmt}
@@ -22,140 +19,27 @@ use Rattle.protocol.specs.Pool.{numberOf, pooled, hasRoom}
 use Rattle.protocol.specs.Turn.{turn as turnOf}
 use Rattle.protocol.proofs.Asked.{says-same-stmt}
 use Rattle.views.specs.Table.{table}
-use Rattle.views.proofs.Tables.{table-length, table-at, any-append, any-zero, any-suc, any-at, any-more}
+use Rattle.views.proofs.Tables.{table-length, table-at, any-zero, any-suc, any-at}
 use Rattle.views.proofs.Views.{passes}
-use Rattle.pool.specs.declared.Record.{Record}
-use Rattle.pool.specs.Pool.{stmtAt, poolLen, recordOf}
-use Rattle.pool.specs.Changes.{Pushed}
+use Rattle.pool.specs.Pool.{stmtAt, poolLen, recordOf, recordLen, recordIn}
+use Rattle.pool.specs.Changes.{PushedTo}
 use Rattle.engine.specs.declared.Controller.{Controller}
 use Rattle.engine.specs.declared.Outcome.{Outcome}
 use Rattle.engine.specs.declared.Refusal.{Refusal}
 use Rattle.engine.specs.declared.Refusal.the-variants as refusal
 use Rattle.engine.specs.declared.Answer.{Answer}
 use Rattle.engine.specs.declared.Answer.the-variants.{Taken, Signed, Entered, Delivered, Left, Quiet, Refused}
-use Rattle.engine.specs.Meaning.{controllerIs, withStatements, recordIs, poolIs, AllIn, Whole, answerIs, refusalIs}
-use Rattle.engine.specs.Promise.{Change, unchanged, Meets, Calls, Turns, PoolAfter, signedOf}
-use Rattle.bench.specs.declared.seat.Replied.{Replied}
-use Rattle.bench.specs.declared.seat.Missing.{Missing}
+use Rattle.engine.specs.Meaning.{controllerIs, poolIs, AllIn, answerIs, refusalIs}
+use Rattle.engine.specs.Promise.{Change, unchanged, Meets, Calls, Turns, PoolAfter, NumbersAfter, signedOf}
 use Rattle.schedule.specs.Line.{Line, join, leave, send, give, all, turn}
+use Rattle.schedule.specs.declared.line.Line.{Line as Held}
+use Rattle.schedule.specs.declared.line.Line.the-variants as is
+use Rattle.bench.specs.declared.seat.Given.{Given}
 use Rattle.bench.specs.Bench as bench
 use Rattle.bench.specs.Bench.{Seat, emptySeat, Bench, Stepped, step}
-use Rattle.bench.specs.Seats.{seatIs, benchOf, Distinct, Sound, Grows, listed, Full, Numbered, Marks, Marked, FirstFree, lacking, Filled, Seated, Gives, numberIs, changesIs}
-use Rattle.bench.proofs.Unchanged.{Idle, idle-answer, Stays, join-stays, leave-stays, send-stays, turn-stays}
-
--- ---- a record's numbers
-
-abbrev pub ids : Record → ℕ → ℕ
-ids r i = getD (r .ids) i 0
-
-module _ (f : ℕ → ℕ) (n : ℕ) where
-  pub number-next : (i : ℕ) → any (eqb n) (table i f) ≡ false → (f i ≡ n → ⊥) → any (eqb n) (table (i + 1) f) ≡ false
-  number-next i e h = any-more (eqb n) f i e (ne-eqb n (f i) (λ q. h (sym q)))
-
-  pub number-at : (m i : ℕ) → i < m → f i ≡ n → any (eqb n) (table m f) ≡ true
-  number-at m i l e = any-at (eqb n) f m l (eq-eqb n (f i) (sym e))
-
-pub listed-yes : (r : Record) (n i : ℕ) → i < min (r .len) 512 → getD (r .ids) i 0 ≡ n → true ≡ listed r n
-unfolding listed
-listed-yes r n i l e = sym (number-at (ids r) n (min (r .len) 512) i l e)
-
-pub listed-no : (r : Record) (n i : ℕ) → i ≡ min (r .len) 512 → any (eqb n) (table i (ids r)) ≡ false → false ≡ listed r n
-unfolding listed
-listed-no r n i l e = sym (subst (λ m. any (eqb n) (table m (ids r)) ≡ false) l e)
-
--- marks of the first i numbers
-pub record MarksTo (f : ℕ → ℕ) (i : ℕ) (marks : List Bool) : Type 0 where
-  pub long : length marks ≡ 512
-  pub tells : (n : ℕ) → n < 512 → getD marks n false ≡ any (eqb n) (table i f)
-
-or-true : (b : Bool) → (b || true) ≡ true
-or-true true = refl
-or-true false = refl
-
-or-false : (b : Bool) → (b || false) ≡ b
-or-false true = refl
-or-false false = refl
-
-any-next : (f : ℕ → ℕ) (n i : ℕ) → any (eqb n) (table (i + 1) f) ≡ (any (eqb n) (table i f) || eqb n (f i))
-any-next f n i = ap (λ m. any (eqb n) (table m f)) (add-one i) ∙ any-suc (eqb n) f i
-
-module _ (f : ℕ → ℕ) where
-  pub marks-next : (i : ℕ) (marks : List Bool) → f i < 512 → MarksTo f i marks → MarksTo f (i + 1) (set marks (f i) true)
-  marks-next i marks l m = record {
-    long = length-set marks (f i) true ∙ m .long;
-    tells = λ n h. elim (ℕ-discrete n (f i)) [
-      | yes e ↦ ap (λ j. getD (set marks (f i) true) j false) e ∙ getD-set-same marks (f i) true false (omega (arith, m .long)) ∙ sym (any-next f n i ∙ ap (λ b. any (eqb n) (table i f) || b) (eq-eqb n (f i) e) ∙ or-true (any (eqb n) (table i f)))
-      | no e ↦ getD-set-other marks (f i) n true false e ∙ m .tells n h ∙ sym (any-next f n i ∙ ap (λ b. any (eqb n) (table i f) || b) (ne-eqb n (f i) e) ∙ or-false (any (eqb n) (table i f)))
-    ];
-  }
-
--- one mark more
-pub marked-none : (marks : List Bool) (i : ℕ) → Marked marks i i
-unfolding Marked
-marked-none marks i k l h = absurd (omega arith)
-
-pub marked-more : (marks : List Bool) (i j : ℕ) → Marked marks i j → getD marks j false ≡ true → Marked marks i (j + 1)
-unfolding Marked
-marked-more marks i j m e k l h = elim (ℕ-discrete k j) [
-  | yes q ↦ ap (λ x. getD marks x false) q ∙ e
-  | no q ↦ m k l (omega arith)
-]
-
-pub marked-both : (marks : List Bool) (i j n : ℕ) → Marked marks i j → Marked marks j n → Marked marks i n
-unfolding Marked
-marked-both marks i j n m q k l h = elim (decLt k j) [
-  | yes p ↦ m k l p
-  | no p ↦ q k (omega arith) h
-]
-
-both-true : (a b : Bool) → (a && b) ≡ true → (a ≡ true) × (b ≡ true)
-both-true true true e = (refl, refl)
-both-true true false e = absurd (subst T (sym e) tt)
-both-true false b e = absurd (subst T (sym e) tt)
-
-pub marked-eight : (marks : List Bool) (i : ℕ)
-    → (((((((getD marks i false && getD marks (i + 1) false) && getD marks (i + 2) false) && getD marks (i + 3) false) && getD marks (i + 4) false) && getD marks (i + 5) false) && getD marks (i + 6) false) && getD marks (i + 7) false) ≡ true
-    → Marked marks i (i + 8)
-unfolding Marked
-marked-eight marks i e k l m = ap (λ x. getD marks x false) (omega arith) ∙ go (k - i) (omega arith)
-  where
-    e6 : ((((((getD marks i false && getD marks (i + 1) false) && getD marks (i + 2) false) && getD marks (i + 3) false) && getD marks (i + 4) false) && getD marks (i + 5) false) && getD marks (i + 6) false) ≡ true
-    e6 = both-true ((((((getD marks i false && getD marks (i + 1) false) && getD marks (i + 2) false) && getD marks (i + 3) false) && getD marks (i + 4) false) && getD marks (i + 5) false) && getD marks (i + 6) false) (getD marks (i + 7) false) e .0
-
-    e5 : (((((getD marks i false && getD marks (i + 1) false) && getD marks (i + 2) false) && getD marks (i + 3) false) && getD marks (i + 4) false) && getD marks (i + 5) false) ≡ true
-    e5 = both-true (((((getD marks i false && getD marks (i + 1) false) && getD marks (i + 2) false) && getD marks (i + 3) false) && getD marks (i + 4) false) && getD marks (i + 5) false) (getD marks (i + 6) false) e6 .0
-
-    e4 : ((((getD marks i false && getD marks (i + 1) false) && getD marks (i + 2) false) && getD marks (i + 3) false) && getD marks (i + 4) false) ≡ true
-    e4 = both-true ((((getD marks i false && getD marks (i + 1) false) && getD marks (i + 2) false) && getD marks (i + 3) false) && getD marks (i + 4) false) (getD marks (i + 5) false) e5 .0
-
-    e3 : (((getD marks i false && getD marks (i + 1) false) && getD marks (i + 2) false) && getD marks (i + 3) false) ≡ true
-    e3 = both-true (((getD marks i false && getD marks (i + 1) false) && getD marks (i + 2) false) && getD marks (i + 3) false) (getD marks (i + 4) false) e4 .0
-
-    e2 : ((getD marks i false && getD marks (i + 1) false) && getD marks (i + 2) false) ≡ true
-    e2 = both-true ((getD marks i false && getD marks (i + 1) false) && getD marks (i + 2) false) (getD marks (i + 3) false) e3 .0
-
-    e1 : (getD marks i false && getD marks (i + 1) false) ≡ true
-    e1 = both-true (getD marks i false && getD marks (i + 1) false) (getD marks (i + 2) false) e2 .0
-
-    go : (j : ℕ) → j < 8 → getD marks (i + j) false ≡ true
-    go zero h = ap (λ x. getD marks x false) (add-zero i) ∙ both-true (getD marks i false) (getD marks (i + 1) false) e1 .0
-    go (suc zero) h = both-true (getD marks i false) (getD marks (i + 1) false) e1 .1
-    go (suc (suc zero)) h = both-true (getD marks i false && getD marks (i + 1) false) (getD marks (i + 2) false) e2 .1
-    go (suc (suc (suc zero))) h = both-true ((getD marks i false && getD marks (i + 1) false) && getD marks (i + 2) false) (getD marks (i + 3) false) e3 .1
-    go (suc (suc (suc (suc zero)))) h = both-true (((getD marks i false && getD marks (i + 1) false) && getD marks (i + 2) false) && getD marks (i + 3) false) (getD marks (i + 4) false) e4 .1
-    go (suc (suc (suc (suc (suc zero))))) h = both-true ((((getD marks i false && getD marks (i + 1) false) && getD marks (i + 2) false) && getD marks (i + 3) false) && getD marks (i + 4) false) (getD marks (i + 5) false) e5 .1
-    go (suc (suc (suc (suc (suc (suc zero)))))) h = both-true (((((getD marks i false && getD marks (i + 1) false) && getD marks (i + 2) false) && getD marks (i + 3) false) && getD marks (i + 4) false) && getD marks (i + 5) false) (getD marks (i + 6) false) e6 .1
-    go (suc (suc (suc (suc (suc (suc (suc zero))))))) h = both-true ((((((getD marks i false && getD marks (i + 1) false) && getD marks (i + 2) false) && getD marks (i + 3) false) && getD marks (i + 4) false) && getD marks (i + 5) false) && getD marks (i + 6) false) (getD marks (i + 7) false) e .1
-    go (suc (suc (suc (suc (suc (suc (suc (suc j)))))))) h = absurd (omega arith)
-
--- a record within a pool
-pub in-pool-numbered : (W : List ℕ) (r : Record) → AllIn W r → Numbered r
-unfolding poolLen
-in-pool-numbered W r w = record { below = λ i h. (let a = w i h in omega arith) }
-
-pub marks-are : (r : Record) (i : ℕ) (marks : List Bool) → i ≡ min (r .len) 512 → MarksTo (ids r) i marks → Marks r marks
-unfolding listed
-marks-are r i marks e m = record { tells = λ n h. m .tells n h ∙ ap (λ j. any (eqb n) (table j (ids r))) e }
+use Rattle.bench.specs.Seats.{seatIs, benchOf, Distinct, Sound, Grows, numbersIn, listed, Full, Keeps, Marks, unmarked, Filled, refusedFor, takenAs, Seated, Gives, GivesAll, numberIs, changesIs, CalledAt, isCall, Called}
+use Rattle.bench.proofs.Unchanged.{Idle, idle-answer, Stays, Unsigned, join-stays, leave-stays, send-stays, turn-stays, join-unsigned, leave-unsigned, send-unsigned}
+use Rattle.bench.proofs.Records.{ids, keeps-same, keeps-pushed, below-pushed, within-pool, pool-within, pool-most, keeps-filled, full-filled, unmarked-none, filter-append, filter-one, numbers-pushed}
 
 -- ---- a statement is in a record just where its number is
 
@@ -163,249 +47,46 @@ any-alike : {A B : Type 0} (p : A → Bool) (q : B → Bool) (f : ℕ → A) (g 
 any-alike p q f g zero h = any-zero p f ∙ sym (any-zero q g)
 any-alike p q f g (suc m) h = any-suc p f m ∙ ap₂ _||_ (any-alike p q f g m (λ i l. h i (omega arith))) (h m (omega arith)) ∙ sym (any-suc q g m)
 
-module _ (W : List ℕ) (d : Distinct W) (r : Record) (w : AllIn W r) where
-  pub by-number : (n : ℕ) → n < poolLen W → any (sameStmt (stmtAt W n)) (recordOf W (r .ids) (r .len)) ≡ listed r n
-  unfolding recordOf listed
-  by-number n l = any-alike (sameStmt (stmtAt W n)) (eqb n) (λ i. stmtAt W (getD (r .ids) i 0)) (λ i. getD (r .ids) i 0) (min (r .len) 512) (λ i h. d .tells n (getD (r .ids) i 0) l (w i h))
+module _ (W : List ℕ) (d : Distinct W) (R : List ℕ) (w : AllIn W R) where
+  by-number : (n : ℕ) → n < poolLen W → any (sameStmt (stmtAt W n)) (recordIn W R) ≡ listed R n
+  unfolding recordOf listed numbersIn AllIn
+  by-number n l = any-alike (sameStmt (stmtAt W n)) (eqb n) (λ i. stmtAt W (getD R i 0)) (ids R) (recordLen R) (λ i h. d .tells n (getD R i 0) l (w i h))
 
--- ---- what a record lacks
+-- a record's statements are those of its numbers
+map-table : {A B : Type 0} (g : A → B) (n : ℕ) (f : ℕ → A) → map g (table n f) ≡ table n (λ i. g (f i))
+unfolding table
+map-table g zero f = refl
+map-table g (suc n) f = map-append g (table n f) (f n ∷ []) ∙ ap (λ l. l ++ (g (f n) ∷ [])) (map-table g n f)
 
-filter-append : {A : Type 0} (p : A → Bool) (k l : List A) → filter p (k ++ l) ≡ filter p k ++ filter p l
-unfolding filter
-filter-append p [] l = refl
-filter-append {A} p (a ∷ k) l = go (p a) (filter-append p k l)
-  where
-    go : (b : Bool) → filter p (k ++ l) ≡ filter p k ++ filter p l → (if b then a ∷ filter p (k ++ l) else filter p (k ++ l)) ≡ (if b then a ∷ filter p k else filter p k) ++ filter p l
-    go true e = ap (λ t. a ∷ t) e
-    go false e = e
+by-numbers : (W R : List ℕ) → recordIn W R ≡ map (stmtAt W) (numbersIn R)
+unfolding recordOf numbersIn
+by-numbers W R = sym (map-table (stmtAt W) (recordLen R) (ids R))
 
-filter-one : {A : Type 0} (p : A → Bool) (a : A) (b : Bool) → p a ≡ b → filter p (a ∷ []) ≡ (if b then a ∷ [] else [])
-unfolding filter
-filter-one p a b e = rw e
+record-more : (W R R′ L : List ℕ) → numbersIn R′ ≡ numbersIn R ++ L → recordIn W R′ ≡ recordIn W R ++ map (stmtAt W) L
+record-more W R R′ L e = by-numbers W R′ ∙ ap (map (stmtAt W)) e ∙ map-append (stmtAt W) (numbersIn R) L ∙ ap (λ t. t ++ map (stmtAt W) L) (sym (by-numbers W R))
 
-module _ (W : List ℕ) (X : List Stmt) where
-  pub lacking-none : lacking W X 0 ≡ []
-  unfolding lacking table filter
-  lacking-none = refl
-
-  lacking-next : (i : ℕ) (b : Bool) → any (sameStmt (stmtAt W i)) X ≡ b → lacking W X (i + 1) ≡ lacking W X i ++ (if not b then stmtAt W i ∷ [] else [])
-  unfolding lacking table
-  lacking-next i b e =
-      ap (λ m. filter (λ s. not (any (sameStmt s) X)) (table m (stmtAt W))) (add-one i)
-      ∙ filter-append (λ s. not (any (sameStmt s) X)) (table i (stmtAt W)) (stmtAt W i ∷ [])
-      ∙ ap (λ t. filter (λ s. not (any (sameStmt s) X)) (table i (stmtAt W)) ++ t) (filter-one (λ s. not (any (sameStmt s) X)) (stmtAt W i) (not b) (ap not e))
-
-  lacking-has : (i : ℕ) → any (sameStmt (stmtAt W i)) X ≡ true → lacking W X (i + 1) ≡ lacking W X i
-  lacking-has i e = lacking-next i true e ∙ append-nil (lacking W X i)
-
-  lacking-lacks : (i : ℕ) → any (sameStmt (stmtAt W i)) X ≡ false → lacking W X (i + 1) ≡ lacking W X i ++ (stmtAt W i ∷ [])
-  lacking-lacks i e = lacking-next i false e
-
-record-size : (W : List ℕ) (r : Record) → length (recordOf W (r .ids) (r .len)) ≡ min (r .len) 512
+record-size : (W R : List ℕ) → length (recordIn W R) ≡ recordLen R
 unfolding recordOf
-record-size W r = table-length (min (r .len) 512) (λ i. stmtAt W (getD (r .ids) i 0))
+record-size W R = table-length (recordLen R) (λ i. stmtAt W (getD R i 0))
 
-abbrev pub made : Record → ℕ → Missing
-made more count = record { statements = more; count = count }
-
-module _ (W : List ℕ) (from : Record) where
-  abbrev had : List Stmt
-  had = recordOf W (from .ids) (from .len)
-
-  pub fill-first : AllIn W from → Filled W from 0 (made from 0)
-  fill-first w = record {
-    count = sym (ap length (lacking-none W had));
-    means = λ l. sym (ap (λ t. had ++ t) (lacking-none W had) ∙ append-nil had);
-    within = w;
-  }
-
-  module _ (d : Distinct W) (w : AllIn W from) (marks : List Bool) (m : Marks from marks) (i count : ℕ) (more : Record) (l : i < poolLen W) (s : i < 512) (f : Filled W from i (made more count)) where
-    asked : (b : Bool) → getD marks i false ≡ b → any (sameStmt (stmtAt W i)) had ≡ b
-    asked b e = by-number W d from w i l ∙ sym (m .tells i s) ∙ e
-
-    pub fill-skip : getD marks i false ≡ true → Filled W from (i + 1) (made more count)
-    fill-skip e = record {
-      count = f .count ∙ sym (ap length (lacking-has W had i (asked true e)));
-      means = λ h. f .means h ∙ sym (ap (λ t. had ++ t) (lacking-has W had i (asked true e)));
-      within = f .within;
-    }
-
-    size-now : min (from .len) 512 + count ≤ 512 → min (more .len) 512 ≡ min (from .len) 512 + count
-    size-now h = sym (record-size W more) ∙ ap length (f .means h) ∙ length-append had (lacking W had i) ∙ ap₂ _+_ (record-size W from) (sym (f .count))
-
-    pub fill-more : getD marks i false ≡ false → (next : Record) → Pushed more i next → Filled W from (i + 1) (made next (count + 1))
-    fill-more e next p = record {
-      count = ap (λ t. t + 1) (f .count) ∙ sym (ap length (lacking-lacks W had i (asked false e)) ∙ length-append (lacking W had i) (stmtAt W i ∷ []));
-      means = λ h. p .means W ∙ rw (lt-ltb (min (more .len) 512) 512 (omega (arith, size-now (omega arith)))) (ap (λ t. t ++ (stmtAt W i ∷ [])) (f .means (omega arith)) ∙ append-assoc had (lacking W had i) (stmtAt W i ∷ []) ∙ sym (ap (λ t. had ++ t) (lacking-lacks W had i (asked false e))));
-      within = λ j h. elim (decLt j (min (more .len) 512)) [
-        | yes b ↦ (let q = p .first j b in let v = f .within j b in omega arith)
-        | no b ↦ (let q : min (more .len) 512 ≡ j = omega (arith, p .len) in let v = p .last (omega (arith, p .len)) in subst (λ x. getD (next .ids) x 0 < poolLen W) q (omega arith))
-      ];
-    }
-
--- ---- the ways in which a line on one controller ends
-
-replied : (k : ℕ) (ready : Bool) (faulty : ℕ) {a a′ : controller.Answer} {n n′ : ℕ} {X X′ : List Seat} {P P′ : List Stmt} → a ≡ a′ → n ≡ n′ → X ≡ X′ → P ≡ P′
-    → _≡_ {A = Stepped} (record { reply = record { who = k; answer = a; number = n }; bench = record { isSetUp = ready; faulty = faulty; seats = X; pool = P } })
-    (record { reply = record { who = k; answer = a′; number = n′ }; bench = record { isSetUp = ready; faulty = faulty; seats = X′; pool = P′ } })
-replied k ready faulty e f g h = cc
-
-pub grows-same : (W : List ℕ) → Grows W W
-grows-same W = record { len = omega arith; same = λ n l. refl }
-
-module _ (W : List ℕ) (ready : Bool) (c : Controller) (k : ℕ) (l : Line) (r : Replied) where
-  pub seat-refused : (q : Refusal) → (r .answer ≡ Refused q) × (r .number ≡ 0) × (r .controller ≡ c) → Sound W c
-      → ((faulty : ℕ) (X : List Seat) → getD X k emptySeat ≡ seatIs W c → step (benchOf ready faulty X W) (some l) ≡ bench.refuse (benchOf ready faulty X W) k (refusalIs q)) → Seated W ready c k l r W
-  unfolding answerIs
-  seat-refused q e s h = record {
-    steps = λ faulty X x. h faulty X x ∙ replied k ready faulty (sym (ap (answerIs W) (e .0))) (sym (e .1)) (sym (ap (λ t. set X k (seatIs W t)) (e .2) ∙ ap (λ t. set X k t) (sym x) ∙ set-getD X k emptySeat)) refl;
-    sound = subst (Sound W) (sym (e .2)) s;
-    grows = grows-same W;
-    same = λ q. ap (seatIs W) (e .2);
-  }
-
-  pub seat-taken : (n : ℕ) (d : Controller) (b : Bool) → (r .answer ≡ Taken) × (r .number ≡ n) × (r .controller ≡ d) × (r .changed ≡ b) → (b ≡ false → d ≡ c) → Sound W d
-      → ((faulty : ℕ) (X : List Seat) → getD X k emptySeat ≡ seatIs W c
-      → step (benchOf ready faulty X W) (some l) ≡ record { reply = record { who = k; answer = controller.taken; number = n }; bench = benchOf ready faulty (set X k (seatIs W d)) W })
-      → Seated W ready c k l r W
-  unfolding answerIs
-  seat-taken n d b e o s h = record {
-    steps = λ faulty X x. h faulty X x ∙ replied k ready faulty (sym (ap (answerIs W) (e .0))) (sym (e .1)) (sym (ap (λ t. set X k (seatIs W t)) (e .2))) refl;
-    sound = subst (Sound W) (sym (e .2)) s;
-    grows = grows-same W;
-    same = λ q. ap (seatIs W) (e .2 ∙ o (sym (e .3) ∙ q));
-  }
-
--- ---- requests
-
-seat-of : {W W′ : List ℕ} {c : Controller} {o : controller.Outcome} {p : Change} {ro : Outcome} → Meets W c o p ro W′ → Whole W c
-    → record { controller = o .controller; statements = o .statements } ≡ seatIs W′ (ro .controller)
-seat-of m w = ap₂ (λ x y. record { controller = x; statements = y }) (sym (m .controller)) (sym (m .statements w .0))
-
--- a call that changed nothing
-seat-stays : {W W′ : List ℕ} {c : Controller} {o : controller.Outcome} {p : Change} {ro : Outcome} → Meets W c o p ro W′ → Whole W c → Stays (controllerIs c) (recordIs W c) o → changesIs (ro .answer) ≡ false
-    → seatIs W′ (ro .controller) ≡ seatIs W c
-seat-stays {W} {W′} {c} {o} {p} {ro} m w s e =
-    let h = s .stays (subst Idle (m .answer) (idle-answer W′ (ro .answer) e)) in
-    sym (seat-of m w) ∙ ap₂ (λ x y. record { controller = x; statements = y }) (h .0) (h .1)
-
-module _ (W : List ℕ) (ready : Bool) (c : Controller) (k : ℕ) (l : Line) (ro : Outcome) (r : Replied) (e : (r .answer ≡ ro .answer) × (r .number ≡ 0) × (r .controller ≡ ro .controller) × (r .changed ≡ changesIs (ro .answer))) (s : Sound W c)
-    (f : controller.Controller → List Stmt → controller.Outcome) (st : (d : controller.Controller) (X : List Stmt) → Stays d X (f d X)) (m : Calls (f (controllerIs c)) c ro)
-    (h : (b : Bench) → step b (some l) ≡ bench.at b k (f (bench.seat b k .controller) (bench.seat b k .statements)) (b .pool) 0) where
-  pub seat-asked : Seated W ready c k l r W
-  unfolding Calls
-  seat-asked = record {
-    steps = λ faulty X x.
-        h (benchOf ready faulty X W)
-        ∙ ap (λ (t : Seat). bench.at (benchOf ready faulty X W) k (f (t .controller) (t .statements)) (poolIs W) 0) x
-        ∙ replied k ready faulty (sym (m W .answer) ∙ sym (ap (answerIs W) (e .0))) (sym (e .1)) (ap (λ t. set X k t) (seat-of (m W) (s .whole) ∙ sym (ap (seatIs W) (e .2)))) refl;
-    sound = record { distinct = s .distinct; whole = subst (Whole W) (sym (e .2)) (m W .statements (s .whole) .1) };
-    grows = grows-same W;
-    same = λ q. ap (seatIs W) (e .2) ∙ seat-stays (m W) (s .whole) (st (controllerIs c) (recordIs W c)) (sym (e .3) ∙ q);
-  }
-
-module _ (W : List ℕ) (ready : Bool) (c : Controller) (k : ℕ) (ro : Outcome) (r : Replied) (e : (r .answer ≡ ro .answer) × (r .number ≡ 0) × (r .controller ≡ ro .controller) × (r .changed ≡ changesIs (ro .answer))) (s : Sound W c) where
-  pub seat-joins : Calls (requestJoin (controllerIs c)) c ro → Seated W ready c k (join k) r W
-  unfolding step
-  seat-joins m = seat-asked W ready c k (join k) ro r e s requestJoin join-stays m (λ b. refl)
-
-  pub seat-leaves : Calls (requestLeave (controllerIs c)) c ro → Seated W ready c k (leave k) r W
-  unfolding step
-  seat-leaves m = seat-asked W ready c k (leave k) ro r e s requestLeave leave-stays m (λ b. refl)
-
-  pub seat-sends : (payload : ℕ) → Calls (λ X. requestSend (controllerIs c) X payload) c ro → Seated W ready c k (send k payload) r W
-  unfolding step
-  seat-sends payload m = seat-asked W ready c k (send k payload) ro r e s (λ d X. requestSend d X payload) (λ d X. send-stays d X payload) m (λ b. refl)
-
-pub marks-first : (f : ℕ → ℕ) (m : ℕ) → m ≡ 512 → MarksTo f 0 (replicate m false)
-marks-first f m e = record { long = length-replicate m false ∙ e; tells = λ n h. getD-replicate m n false false (omega arith) ∙ sym (any-zero (eqb n) f) }
-
-pub marks-stored : (f : ℕ → ℕ) (i id : ℕ) (marks : List Bool) → id ≡ f i → id < 512 → MarksTo f i marks → MarksTo f (i + 1) (set marks id true)
-marks-stored f i id marks e l m = subst (λ x. MarksTo f (i + 1) (set marks x true)) (sym e) (marks-next f i marks (omega arith) m)
-
-pub pool-most : (W : List ℕ) → poolLen W ≤ 512
-unfolding poolLen
-pool-most W = omega arith
-
--- marks that were passed over
-pub fill-over : (W : List ℕ) (from : Record) → Distinct W → AllIn W from → (marks : List Bool) → Marks from marks → (i j count : ℕ) (more : Record) → j ≤ poolLen W → i ≤ j → Marked marks i j → Filled W from i (made more count) → Filled W from j (made more count)
-unfolding Marked
-fill-over W from d w marks m i j count more l h p f = subst (λ k. Filled W from k (made more count)) (omega arith) (go (j - i) (omega arith))
+-- what passes a test, by number
+filter-numbers : {A : Type 0} (p : A → Bool) (q : ℕ → Bool) (f : ℕ → A) (n : ℕ) → ((i : ℕ) → i < n → p (f i) ≡ q i) → filter p (table n f) ≡ map f (filter q (table n (λ i. i)))
+unfolding table filter
+filter-numbers p q f zero h = refl
+filter-numbers {A} p q f (suc n) h =
+    filter-append p (table n f) (f n ∷ [])
+    ∙ ap₂ _++_ (filter-numbers p q f n (λ i l. h i (omega arith))) (filter-one p (f n) (q n) (h n (omega arith)) ∙ go (q n))
+    ∙ sym (ap (map f) (filter-append q (table n (λ i. i)) (n ∷ []) ∙ ap (λ t. filter q (table n (λ i. i)) ++ t) (filter-one q n (q n) refl)) ∙ map-append f (filter q (table n (λ i. i))) (if q n then n ∷ [] else []))
   where
-    go : (n : ℕ) → i + n ≤ j → Filled W from (i + n) (made more count)
-    go zero q = rw (add-zero i) f
-    go (suc n) q =
-        let k : i + n < j = omega arith in
-        subst (λ x. Filled W from x (made more count)) (omega arith) (fill-skip W from d w marks m (i + n) count more (omega arith) (omega (arith, pool-most W)) (go n (omega arith)) (p (i + n) (omega arith) k))
+    go : (b : Bool) → _≡_ {A = List A} (if b then f n ∷ [] else []) (map f (if b then n ∷ [] else []))
+    go true = refl
+    go false = refl
 
--- a record that has every number below n lacks nothing below it
-pub fill-whole : (W : List ℕ) (from : Record) → Distinct W → AllIn W from → (n : ℕ) → n ≤ poolLen W → Full from n → Filled W from n (made from 0)
-unfolding Full
-fill-whole W from d w n l f = record {
-  count = sym (ap length (none-lacks n l f));
-  means = λ h. sym (ap (λ t. had W from ++ t) (none-lacks n l f) ∙ append-nil (had W from));
-  within = w;
-}
-  where
-    none-lacks : (m : ℕ) → m ≤ poolLen W → ((i : ℕ) → i < m → listed from i ≡ true) → lacking W (had W from) m ≡ []
-    none-lacks zero q h = lacking-none W (had W from)
-    none-lacks (suc m) q h = subst (λ t. lacking W (had W from) t ≡ []) (add-one m)
-        (lacking-has W (had W from) m (by-number W d from w m (omega arith) ∙ h m (omega arith)) ∙ none-lacks m (omega arith) (λ i b. h i (omega arith)))
+length-map : {A B : Type 0} (f : A → B) (l : List A) → length (map f l) ≡ length l
+length-map f [] = refl
+length-map f (x ∷ l) = ap suc (length-map f l)
 
-pub full-none : (r : Record) → Full r 0
-unfolding Full
-full-none r i l = absurd (omega arith)
-
--- a record whose marks have no gap
-pub full-marks : (from : Record) (marks : List Bool) → Marks from marks → (n r : ℕ) → n ≤ 512 → FirstFree marks 0 n r → r ≡ n → Full from n
-unfolding Full Marked
-full-marks from marks m n r l g e i h = sym (m .tells i (omega arith)) ∙ g .passed i (omega arith) (omega arith)
-
--- every statement below n is in the list or among those that it lacks
-module _ (W : List ℕ) (X : List Stmt) where
-  any-lacking : (n i : ℕ) → i < n → any (sameStmt (stmtAt W i)) X ≡ false → any (sameStmt (stmtAt W i)) (lacking W X n) ≡ true
-  unfolding any
-  any-lacking zero i l e = absurd (omega arith)
-  any-lacking (suc n) i l e = subst (λ t. any (sameStmt (stmtAt W i)) (lacking W X t) ≡ true) (add-one n) (elim (decLt i n) [
-    | yes h ↦ ap (any (sameStmt (stmtAt W i))) (lacking-next W X n (any (sameStmt (stmtAt W n)) X) refl)
-        ∙ any-append (sameStmt (stmtAt W i)) (lacking W X n) (if not (any (sameStmt (stmtAt W n)) X) then stmtAt W n ∷ [] else [])
-        ∙ ap (λ b. b || any (sameStmt (stmtAt W i)) (if not (any (sameStmt (stmtAt W n)) X) then stmtAt W n ∷ [] else [])) (any-lacking n i h e)
-    | no h ↦ (let q : i ≡ n = omega arith in
-        ap (any (sameStmt (stmtAt W i))) (lacking-lacks W X n (subst (λ j. any (sameStmt (stmtAt W j)) X ≡ false) q e))
-        ∙ any-append (sameStmt (stmtAt W i)) (lacking W X n) (stmtAt W n ∷ [])
-        ∙ ap (λ b. any (sameStmt (stmtAt W i)) (lacking W X n) || (b || false)) (passes says-same-stmt (ap (stmtAt W) q))
-        ∙ or-true (any (sameStmt (stmtAt W i)) (lacking W X n)))
-  ])
-
-  in-both : (n i : ℕ) → i < n → any (sameStmt (stmtAt W i)) (X ++ lacking W X n) ≡ true
-  in-both n i l = any-append (sameStmt (stmtAt W i)) X (lacking W X n) ∙ go (any (sameStmt (stmtAt W i)) X) refl
-    where
-      go : (b : Bool) → any (sameStmt (stmtAt W i)) X ≡ b → (any (sameStmt (stmtAt W i)) X || any (sameStmt (stmtAt W i)) (lacking W X n)) ≡ true
-      go true e = ap (λ b. b || any (sameStmt (stmtAt W i)) (lacking W X n)) e
-      go false e = ap₂ _||_ e (any-lacking n i l e)
-
--- so that a record has all of the pool once what it lacked is in it
-pub full-filled : (W : List ℕ) (from : Record) (n : ℕ) (m : Missing) → Distinct W → n ≡ poolLen W → Filled W from n m → min (from .len) 512 + m .count ≤ 512 → Full (m .statements) n
-unfolding Full
-full-filled W from n m d z f l i h = sym (by-number W d (m .statements) (f .within) i (omega arith)) ∙ ap (any (sameStmt (stmtAt W i))) (f .means l) ∙ in-both W (had W from) n i h
-
-filter-most : {A : Type 0} (p : A → Bool) (l : List A) → length (filter p l) ≤ length l
-unfolding filter
-filter-most p [] = omega arith
-filter-most p (a ∷ l) = go (p a) (filter-most p l)
-  where
-    go : (b : Bool) → length (filter p l) ≤ length l → length (if b then a ∷ filter p l else filter p l) ≤ suc (length l)
-    go true h = omega arith
-    go false h = omega arith
-
-pub fill-most : {W : List ℕ} {from : Record} {n : ℕ} {m : Missing} → Filled W from n m → m .count ≤ n
-unfolding lacking
-fill-most {W} {from} {n} {m} f = omega (arith, f .count, filter-most (λ s. not (any (sameStmt s) (recordOf W (from .ids) (from .len)))) (table n (stmtAt W)), table-length n (stmtAt W))
-
-pub fill-end : (W : List ℕ) (from : Record) (i n count : ℕ) (more : Record) → i ≡ n → Filled W from i (made more count) → Filled W from n (made more count)
-fill-end W from i n count more e f = subst (λ m. Filled W from m (made more count)) e f
-
--- ---- give
+-- ---- the pool
 
 pub pool-size : (W : List ℕ) → length (poolIs W) ≡ poolLen W
 unfolding poolIs
@@ -415,133 +96,171 @@ pool-at : (W : List ℕ) (n : ℕ) → n < poolLen W → getD (poolIs W) n noStm
 unfolding poolIs
 pool-at W n l = table-at (poolLen W) (stmtAt W) noStmt n l
 
+-- ---- the ways in which a line on one record ends
+
+replied : (k : ℕ) (ready : Bool) (faulty : ℕ) {a a′ : controller.Answer} {n n′ : ℕ} {X X′ : List Seat} {P P′ : List Stmt} → a ≡ a′ → n ≡ n′ → X ≡ X′ → P ≡ P′
+    → _≡_ {A = Stepped} (record { reply = record { who = k; answer = a; number = n }; bench = record { isSetUp = ready; faulty = faulty; seats = X; pool = P } })
+    (record { reply = record { who = k; answer = a′; number = n′ }; bench = record { isSetUp = ready; faulty = faulty; seats = X′; pool = P′ } })
+replied k ready faulty e f g h = cc
+
+pub grows-same : (W : List ℕ) → Grows W W
+grows-same W = record { len = omega arith; same = λ n l. refl }
+
+-- a seat whose record is as it was
+pub seat-same : (X : List Seat) (k : ℕ) {L : List Stmt} → getD X k emptySeat .statements ≡ L → set X k (record { controller = getD X k emptySeat .controller; statements = L }) ≡ X
+seat-same X k e = ap (λ t. set X k (record { controller = getD X k emptySeat .controller; statements = t })) (sym e) ∙ set-getD X k emptySeat
+
+module _ (W R : List ℕ) (ready : Bool) (k : ℕ) (l : Line) (r : Given) where
+  seat-refused : (q : Refusal) → r ≡ refusedFor q → AllIn W R
+      → ((faulty : ℕ) (X : List Seat) → getD X k emptySeat .statements ≡ recordIn W R → step (benchOf ready faulty X W) (some l) ≡ bench.refuse (benchOf ready faulty X W) k (refusalIs q))
+      → Seated W R ready k l r R
+  unfolding answerIs
+  seat-refused q e w h = subst (λ t. Seated W R ready k l t R) (sym e) (record {
+    steps = λ faulty X x. h faulty X x ∙ replied k ready faulty refl refl (sym (seat-same X k x)) refl;
+    whole = w;
+    keeps = keeps-same R;
+    full = λ t. absurd (true≢false (sym t));
+  })
+
+  seat-taken : (n : ℕ) (b : Bool) (R′ : List ℕ) → r ≡ takenAs n b → AllIn W R′ → Keeps R R′ → (b ≡ true → Full R′ (poolLen W))
+      → ((faulty : ℕ) (X : List Seat) → getD X k emptySeat .statements ≡ recordIn W R
+      → step (benchOf ready faulty X W) (some l)
+      ≡ record { reply = record { who = k; answer = controller.taken; number = n }; bench = benchOf ready faulty (set X k (record { controller = getD X k emptySeat .controller; statements = recordIn W R′ })) W })
+      → Seated W R ready k l r R′
+  unfolding answerIs
+  seat-taken n b R′ e w p f h = subst (λ t. Seated W R ready k l t R′) (sym e) (record { steps = h; whole = w; keeps = p; full = f })
+
+-- ---- give
+
 -- the tests of a gift, over plain values
-abbrev gift : Bench → ℕ → Seat → Bool → Bool → Bool → Bool → Stmt → Stepped
-gift b k s ready unknown again full x =
+abbrev gift : Bench → ℕ → List Stmt → Bool → Bool → Bool → Bool → Stmt → Stepped
+gift b k Y ready unknown again full x =
     if ready then (if unknown then bench.refuse b k controller.outOfPlace
     else if again then bench.refuse b k controller.repeated
     else if full then bench.refuse b k controller.full
-    else bench.at b k (record { answer = controller.taken; controller = s .controller; statements = s .statements ++ (x ∷ []) }) (b .pool) 0)
+    else bench.at b k (record { answer = controller.taken; controller = bench.seat b k .controller; statements = Y ++ (x ∷ []) }) (b .pool) 0)
     else bench.refuse b k controller.outOfPlace
 
-give-is : (b : Bench) (k n : ℕ) (s : Seat) → bench.seat b k ≡ s
-    → step b (some (give k n)) ≡ gift b k s (b .isSetUp) (leb (length (b .pool)) n) (any (sameStmt (getD (b .pool) n noStmt)) (s .statements)) (leb 512 (length (s .statements))) (getD (b .pool) n noStmt)
+give-is : (b : Bench) (k n : ℕ) (Y : List Stmt) → bench.seat b k .statements ≡ Y
+    → step b (some (give k n)) ≡ gift b k Y (b .isSetUp) (leb (length (b .pool)) n) (any (sameStmt (getD (b .pool) n noStmt)) Y) (leb 512 (length Y)) (getD (b .pool) n noStmt)
 unfolding step bench.giveTo
-give-is b k n s e = ap (λ (t : Seat). gift b k t (b .isSetUp) (leb (length (b .pool)) n) (any (sameStmt (getD (b .pool) n noStmt)) (t .statements)) (leb 512 (length (t .statements))) (getD (b .pool) n noStmt)) e
+give-is b k n Y e = ap (λ (t : List Stmt). gift b k t (b .isSetUp) (leb (length (b .pool)) n) (any (sameStmt (getD (b .pool) n noStmt)) t) (leb 512 (length t)) (getD (b .pool) n noStmt)) e
 
-module _ (W : List ℕ) (ready : Bool) (c : Controller) (k n : ℕ) (r : Replied) where
-  pub give-unready : (r .answer ≡ Refused refusal.OutOfPlace) × (r .number ≡ 0) × (r .controller ≡ c) → Sound W c → ready ≡ false → Seated W ready c k (give k n) r W
-  give-unready e s q = seat-refused W ready c k (give k n) r refusal.OutOfPlace e s (λ faulty X x.
-      give-is (benchOf ready faulty X W) k n (seatIs W c) x ∙ ap (λ t. gift (benchOf ready faulty X W) k (seatIs W c) t (leb (length (poolIs W)) n) (any (sameStmt (getD (poolIs W) n noStmt)) (recordIs W c)) (leb 512 (length (recordIs W c))) (getD (poolIs W) n noStmt)) q)
+module _ (W R : List ℕ) (ready : Bool) (n : ℕ) (r : Given) (s : Sound W R) where
+  abbrev X₀ : List Stmt
+  X₀ = recordIn W R
 
-  module _ (s : Sound W c) (q : ready ≡ true) where
-    opened : (faulty : ℕ) (X : List Seat) → getD X k emptySeat ≡ seatIs W c → {u a f : Bool} → leb (length (poolIs W)) n ≡ u → any (sameStmt (getD (poolIs W) n noStmt)) (recordIs W c) ≡ a → leb 512 (length (recordIs W c)) ≡ f
-        → step (benchOf ready faulty X W) (some (give k n)) ≡ gift (benchOf ready faulty X W) k (seatIs W c) true u a f (getD (poolIs W) n noStmt)
-    opened faulty X x {u} {a} {f} eu ea ef = give-is (benchOf ready faulty X W) k n (seatIs W c) x
-        ∙ ap (λ t. gift (benchOf ready faulty X W) k (seatIs W c) t (leb (length (poolIs W)) n) (any (sameStmt (getD (poolIs W) n noStmt)) (recordIs W c)) (leb 512 (length (recordIs W c))) (getD (poolIs W) n noStmt)) q
-        ∙ ap (λ t. gift (benchOf ready faulty X W) k (seatIs W c) true t (any (sameStmt (getD (poolIs W) n noStmt)) (recordIs W c)) (leb 512 (length (recordIs W c))) (getD (poolIs W) n noStmt)) eu
-        ∙ ap (λ t. gift (benchOf ready faulty X W) k (seatIs W c) true u t (leb 512 (length (recordIs W c))) (getD (poolIs W) n noStmt)) ea
-        ∙ ap (λ t. gift (benchOf ready faulty X W) k (seatIs W c) true u a t (getD (poolIs W) n noStmt)) ef
+  abbrev x₀ : Stmt
+  x₀ = getD (poolIs W) n noStmt
+
+  pub give-unready : r ≡ refusedFor refusal.OutOfPlace → ready ≡ false → Gives W R ready n r R
+  give-unready e q = record {
+    to = λ k. seat-refused W R ready k (give k n) r refusal.OutOfPlace e (s .whole) (λ faulty X x.
+        give-is (benchOf ready faulty X W) k n X₀ x ∙ ap (λ t. gift (benchOf ready faulty X W) k X₀ t (leb (length (poolIs W)) n) (any (sameStmt x₀) X₀) (leb 512 (length X₀)) x₀) q);
+  }
+
+  module _ (q : ready ≡ true) where
+    opened : (k faulty : ℕ) (X : List Seat) → getD X k emptySeat .statements ≡ X₀ → {u a f : Bool} → leb (length (poolIs W)) n ≡ u → any (sameStmt x₀) X₀ ≡ a → leb 512 (length X₀) ≡ f
+        → step (benchOf ready faulty X W) (some (give k n)) ≡ gift (benchOf ready faulty X W) k X₀ true u a f x₀
+    opened k faulty X x {u} {a} {f} eu ea ef = give-is (benchOf ready faulty X W) k n X₀ x
+        ∙ ap (λ t. gift (benchOf ready faulty X W) k X₀ t (leb (length (poolIs W)) n) (any (sameStmt x₀) X₀) (leb 512 (length X₀)) x₀) q
+        ∙ ap (λ t. gift (benchOf ready faulty X W) k X₀ true t (any (sameStmt x₀) X₀) (leb 512 (length X₀)) x₀) eu
+        ∙ ap (λ t. gift (benchOf ready faulty X W) k X₀ true u t (leb 512 (length X₀)) x₀) ea
+        ∙ ap (λ t. gift (benchOf ready faulty X W) k X₀ true u a t x₀) ef
 
     known : n < poolLen W → leb (length (poolIs W)) n ≡ false
     known l = lt-leb (length (poolIs W)) n (omega (arith, pool-size W))
 
-    in-record : (b : Bool) → n < poolLen W → listed (c .statements) n ≡ b → any (sameStmt (getD (poolIs W) n noStmt)) (recordIs W c) ≡ b
-    unfolding recordIs Whole
-    in-record b l e = ap (λ x. any (sameStmt x) (recordIs W c)) (pool-at W n l) ∙ by-number W (s .distinct) (c .statements) (s .whole) n l ∙ e
+    in-record : (b : Bool) → n < poolLen W → listed R n ≡ b → any (sameStmt x₀) X₀ ≡ b
+    in-record b l e = ap (λ x. any (sameStmt x) X₀) (pool-at W n l) ∙ by-number W (s .distinct) R (s .whole) n l ∙ e
 
-    record-long : length (recordIs W c) ≡ min (c .statements .len) 512
-    unfolding recordIs
-    record-long = record-size W (c .statements)
+    pub give-unknown : r ≡ refusedFor refusal.OutOfPlace → poolLen W ≤ n → Gives W R ready n r R
+    give-unknown e l = record { to = λ k. seat-refused W R ready k (give k n) r refusal.OutOfPlace e (s .whole) (λ faulty X x. opened k faulty X x (le-leb (length (poolIs W)) n (omega (arith, pool-size W))) refl refl) }
 
-    pub give-unknown : (r .answer ≡ Refused refusal.OutOfPlace) × (r .number ≡ 0) × (r .controller ≡ c) → poolLen W ≤ n → Seated W ready c k (give k n) r W
-    give-unknown e l = seat-refused W ready c k (give k n) r refusal.OutOfPlace e s (λ faulty X x. opened faulty X x (le-leb (length (poolIs W)) n (omega (arith, pool-size W))) refl refl)
+    pub give-again : r ≡ refusedFor refusal.Repeated → n < poolLen W → listed R n ≡ true → Gives W R ready n r R
+    give-again e l h = record { to = λ k. seat-refused W R ready k (give k n) r refusal.Repeated e (s .whole) (λ faulty X x. opened k faulty X x (known l) (in-record true l h) refl) }
 
-    pub give-again : (r .answer ≡ Refused refusal.Repeated) × (r .number ≡ 0) × (r .controller ≡ c) → n < poolLen W → listed (c .statements) n ≡ true → Seated W ready c k (give k n) r W
-    give-again e l h = seat-refused W ready c k (give k n) r refusal.Repeated e s (λ faulty X x. opened faulty X x (known l) (in-record true l h) refl)
+    pub give-full : r ≡ refusedFor refusal.Full → n < poolLen W → listed R n ≡ false → 512 ≤ recordLen R → Gives W R ready n r R
+    give-full e l h f = record { to = λ k. seat-refused W R ready k (give k n) r refusal.Full e (s .whole) (λ faulty X x. opened k faulty X x (known l) (in-record false l h) (le-leb 512 (length X₀) (omega (arith, record-size W R)))) }
 
-    pub give-full : (r .answer ≡ Refused refusal.Full) × (r .number ≡ 0) × (r .controller ≡ c) → n < poolLen W → listed (c .statements) n ≡ false → 512 ≤ c .statements .len → Seated W ready c k (give k n) r W
-    give-full e l h f = seat-refused W ready c k (give k n) r refusal.Full e s (λ faulty X x. opened faulty X x (known l) (in-record false l h) (le-leb 512 (length (recordIs W c)) (omega (arith, record-long))))
-
-    module _ (more : Record) where
-      pub give-taken : (r .answer ≡ Taken) × (r .number ≡ 0) × (r .controller ≡ withStatements c more) × (r .changed ≡ true) → n < poolLen W → listed (c .statements) n ≡ false → c .statements .len < 512 → Pushed (c .statements) n more → Seated W ready c k (give k n) r W
-      unfolding recordIs Whole controllerIs
-      give-taken e l h f p = seat-taken W ready c k (give k n) r 0 (withStatements c more) true e (λ q. absurd (true≢false q))
-          (record {
-            distinct = s .distinct;
-            whole = λ j b. elim (decLt j (c .statements .len)) [
-              | yes a ↦ (let u = p .first j (omega arith) in let v = s .whole j (omega arith) in omega arith)
-              | no a ↦ (let u : min (c .statements .len) 512 ≡ j = omega (arith, p .len) in let v = p .last (omega arith) in subst (λ x. getD (more .ids) x 0 < poolLen W) u (omega arith))
-            ];
-          })
-          (λ faulty X x. opened faulty X x (known l) (in-record false l h) (lt-leb 512 (length (recordIs W c)) (omega (arith, record-long)))
-          ∙ replied k ready faulty refl refl (ap (λ t. set X k (record { controller = controllerIs c; statements = t })) (ap (λ t. recordIs W c ++ (t ∷ [])) (pool-at W n l) ∙ sym (p .means W ∙ rw (lt-ltb (min (c .statements .len) 512) 512 (omega arith))))) refl)
+    pub give-taken : (R′ : List ℕ) → r ≡ takenAs 0 false → n < poolLen W → listed R n ≡ false → recordLen R < 512 → PushedTo R n R′ → Gives W R ready n r R′
+    give-taken R′ e l h f p = record {
+      to = λ k. seat-taken W R ready k (give k n) r 0 false R′ e (pool-within W R′ (below-pushed R R′ n (poolLen W) p l (within-pool W R (s .whole)))) (keeps-pushed R R′ n p) (λ t. absurd (true≢false (sym t)))
+          (λ faulty X x. opened k faulty X x (known l) (in-record false l h) (lt-leb 512 (length X₀) (omega (arith, record-size W R)))
+          ∙ replied k ready faulty refl refl (ap (λ t. set X k (record { controller = getD X k emptySeat .controller; statements = t }))
+          (ap (λ t. X₀ ++ (t ∷ [])) (pool-at W n l) ∙ sym (record-more W R R′ (n ∷ []) (numbers-pushed R R′ n p f)))) refl);
+    }
 
 -- ---- all
 
-abbrev lack : Bench → Seat → List Stmt
-lack b s = filter (λ x. not (any (sameStmt x) (s .statements))) (b .pool)
+abbrev lack : List Stmt → List Stmt → List Stmt
+lack P Y = filter (λ x. not (any (sameStmt x) Y)) P
 
-abbrev spread : Bench → ℕ → Seat → Bool → Bool → List Stmt → Stepped
-spread b k s ready over M =
+abbrev spread : Bench → ℕ → List Stmt → Bool → Bool → List Stmt → Stepped
+spread b k Y ready over M =
     if ready then (if over then bench.refuse b k controller.full
-    else bench.at b k (record { answer = controller.taken; controller = s .controller; statements = s .statements ++ M }) (b .pool) (length M))
+    else bench.at b k (record { answer = controller.taken; controller = bench.seat b k .controller; statements = Y ++ M }) (b .pool) (length M))
     else bench.refuse b k controller.outOfPlace
 
-all-is : (b : Bench) (k : ℕ) (s : Seat) → bench.seat b k ≡ s → step b (some (all k)) ≡ spread b k s (b .isSetUp) (ltb 512 (length (s .statements) + length (lack b s))) (lack b s)
+all-is : (b : Bench) (k : ℕ) (Y : List Stmt) → bench.seat b k .statements ≡ Y → step b (some (all k)) ≡ spread b k Y (b .isSetUp) (ltb 512 (length Y + length (lack (b .pool) Y))) (lack (b .pool) Y)
 unfolding step bench.giveAll
-all-is b k s e = ap (λ (t : Seat). spread b k t (b .isSetUp) (ltb 512 (length (t .statements) + length (lack b t))) (lack b t)) e
+all-is b k Y e = ap (λ (t : List Stmt). spread b k t (b .isSetUp) (ltb 512 (length t + length (lack (b .pool) t))) (lack (b .pool) t)) e
 
-module _ (W : List ℕ) (ready : Bool) (c : Controller) (k : ℕ) (r : Replied) (s : Sound W c) where
-  pub all-unready : (r .answer ≡ Refused refusal.OutOfPlace) × (r .number ≡ 0) × (r .controller ≡ c) → ready ≡ false → Seated W ready c k (all k) r W
-  all-unready e q = seat-refused W ready c k (all k) r refusal.OutOfPlace e s (λ faulty X x.
-      all-is (benchOf ready faulty X W) k (seatIs W c) x ∙ ap (λ t. spread (benchOf ready faulty X W) k (seatIs W c) t (ltb 512 (length (recordIs W c) + length (lack (benchOf ready faulty X W) (seatIs W c)))) (lack (benchOf ready faulty X W) (seatIs W c))) q)
+module _ (W R : List ℕ) (ready : Bool) (r : Given) (s : Sound W R) where
+  abbrev Y₀ : List Stmt
+  Y₀ = recordIn W R
 
-  module _ (q : ready ≡ true) (n : ℕ) (m : Missing) (z : n ≡ poolLen W) (f : Filled W (c .statements) n m) where
-    lack-is : (faulty : ℕ) (X : List Seat) → lack (benchOf ready faulty X W) (seatIs W c) ≡ lacking W (recordIs W c) n
-    unfolding poolIs lacking
-    lack-is faulty X = ap (λ t. filter (λ x. not (any (sameStmt x) (recordIs W c))) (table t (stmtAt W))) (sym z)
+  pub all-unready : r ≡ refusedFor refusal.OutOfPlace → ready ≡ false → GivesAll W R ready r R
+  all-unready e q = record {
+    to = λ k. seat-refused W R ready k (all k) r refusal.OutOfPlace e (s .whole) (λ faulty X x.
+        all-is (benchOf ready faulty X W) k Y₀ x ∙ ap (λ t. spread (benchOf ready faulty X W) k Y₀ t (ltb 512 (length Y₀ + length (lack (poolIs W) Y₀))) (lack (poolIs W) Y₀)) q);
+  }
 
-    total : length (recordIs W c) + length (lacking W (recordIs W c) n) ≡ min (c .statements .len) 512 + m .count
-    unfolding recordIs
-    total = ap₂ _+_ (record-size W (c .statements)) (sym (f .count))
+  -- the numbers that have no mark are those of the statements that the record lacks
+  module _ (q : ready ≡ true) (n : ℕ) (z : n ≡ poolLen W) (marks : List Bool) (t : Marks R marks) where
+    lack-is : lack (poolIs W) Y₀ ≡ map (stmtAt W) (unmarked marks n)
+    unfolding poolIs unmarked
+    lack-is = filter-numbers (λ x. not (any (sameStmt x) Y₀)) (λ i. not (getD marks i false)) (stmtAt W) (poolLen W)
+        (λ i l. ap not (by-number W (s .distinct) R (s .whole) i l ∙ sym (t .tells i (omega (arith, pool-most W)))))
+        ∙ ap (λ m. map (stmtAt W) (filter (λ i. not (getD marks i false)) (table m (λ i. i)))) (sym z)
 
-    spreads : (faulty : ℕ) (X : List Seat) → getD X k emptySeat ≡ seatIs W c → {o : Bool} → ltb 512 (min (c .statements .len) 512 + m .count) ≡ o
-        → step (benchOf ready faulty X W) (some (all k)) ≡ spread (benchOf ready faulty X W) k (seatIs W c) true o (lacking W (recordIs W c) n)
-    spreads faulty X x {o} eo = all-is (benchOf ready faulty X W) k (seatIs W c) x
-        ∙ ap (λ t. spread (benchOf ready faulty X W) k (seatIs W c) ready (ltb 512 (length (recordIs W c) + length t)) t) (lack-is faulty X)
-        ∙ ap (λ t. spread (benchOf ready faulty X W) k (seatIs W c) t (ltb 512 (length (recordIs W c) + length (lacking W (recordIs W c) n))) (lacking W (recordIs W c) n)) q
-        ∙ ap (λ t. spread (benchOf ready faulty X W) k (seatIs W c) true t (lacking W (recordIs W c) n)) (ap (ltb 512) total ∙ eo)
+    lack-long : length (lack (poolIs W) Y₀) ≡ length (unmarked marks n)
+    lack-long = ap length lack-is ∙ length-map (stmtAt W) (unmarked marks n)
 
-    pub all-full : (r .answer ≡ Refused refusal.Full) × (r .number ≡ 0) × (r .controller ≡ c) → 512 < min (c .statements .len) 512 + m .count → Seated W ready c k (all k) r W
-    all-full e l = seat-refused W ready c k (all k) r refusal.Full e s (λ faulty X x. spreads faulty X x (lt-ltb 512 (min (c .statements .len) 512 + m .count) l))
+    spreads : (k faulty : ℕ) (X : List Seat) → getD X k emptySeat .statements ≡ Y₀ → {o : Bool} → ltb 512 (recordLen R + length (unmarked marks n)) ≡ o
+        → step (benchOf ready faulty X W) (some (all k)) ≡ spread (benchOf ready faulty X W) k Y₀ true o (lack (poolIs W) Y₀)
+    spreads k faulty X x {o} eo = all-is (benchOf ready faulty X W) k Y₀ x
+        ∙ ap (λ u. spread (benchOf ready faulty X W) k Y₀ u (ltb 512 (length Y₀ + length (lack (poolIs W) Y₀))) (lack (poolIs W) Y₀)) q
+        ∙ ap (λ u. spread (benchOf ready faulty X W) k Y₀ true u (lack (poolIs W) Y₀)) (ap₂ (λ i j. ltb 512 (i + j)) (record-size W R) lack-long ∙ eo)
 
-    pub all-taken : (r .answer ≡ Taken) × (r .number ≡ m .count) × (r .controller ≡ withStatements c (m .statements)) × (r .changed ≡ true) → min (c .statements .len) 512 + m .count ≤ 512 → Seated W ready c k (all k) r W
-    unfolding recordIs Whole controllerIs
-    all-taken e l = seat-taken W ready c k (all k) r (m .count) (withStatements c (m .statements)) true e (λ q. absurd (true≢false q)) (record { distinct = s .distinct; whole = f .within })
-        (λ faulty X x. spreads faulty X x (le-ltb 512 (min (c .statements .len) 512 + m .count) l)
-        ∙ replied k ready faulty refl (sym (f .count)) (ap (λ t. set X k (record { controller = controllerIs c; statements = t })) (sym (f .means l))) refl)
+    pub all-full : r ≡ refusedFor refusal.Full → 512 < recordLen R + length (unmarked marks n) → GivesAll W R ready r R
+    all-full e l = record { to = λ k. seat-refused W R ready k (all k) r refusal.Full e (s .whole) (λ faulty X x. spreads k faulty X x (lt-ltb 512 (recordLen R + length (unmarked marks n)) l)) }
 
-  pub all-none : ready ≡ true → (n : ℕ) → n ≡ poolLen W → Filled W (c .statements) n (made (c .statements) 0) → (r .answer ≡ Taken) × (r .number ≡ 0) × (r .controller ≡ c) × (r .changed ≡ false) → Seated W ready c k (all k) r W
-  unfolding recordIs Whole controllerIs
-  all-none q n z f e = seat-taken W ready c k (all k) r 0 c false e (λ t. refl) s
-      (λ faulty X x. spreads q n (made (c .statements) 0) z f faulty X x (le-ltb 512 (min (c .statements .len) 512 + 0) (omega arith))
-      ∙ replied k ready faulty refl (sym (f .count)) (ap (λ t. set X k (record { controller = controllerIs c; statements = t })) (sym (f .means (omega arith)))) refl)
+    pub all-taken : (R′ : List ℕ) (m : ℕ) → m ≡ length (unmarked marks n) → r ≡ takenAs m true → Filled R marks n R′ → recordLen R + length (unmarked marks n) ≤ 512 → GivesAll W R ready r R′
+    all-taken R′ m c e f l = record {
+      to = λ k. seat-taken W R ready k (all k) r m true R′ e (pool-within W R′ (f .below (poolLen W) (omega arith) (within-pool W R (s .whole)))) (keeps-filled marks R R′ n t f l)
+          (λ h. subst (Full R′) z (full-filled marks R R′ n t f l (omega (arith, pool-most W))))
+          (λ faulty X x. spreads k faulty X x (le-ltb 512 (recordLen R + length (unmarked marks n)) l)
+          ∙ replied k ready faulty refl (lack-long ∙ sym c) (ap (λ u. set X k (record { controller = getD X k emptySeat .controller; statements = u })) (ap (λ u. Y₀ ++ u) lack-is ∙ sym (record-more W R R′ (unmarked marks n) (f .numbers l)))) refl);
+    }
 
-module _ (W : List ℕ) (c : Controller) (r : Replied) where
-  pub gives-refused : (q : Refusal) → (r .answer ≡ Refused q) × (r .number ≡ 0) × (r .controller ≡ c) → Gives W c r
-  unfolding Gives
-  gives-refused q e = inl (e .2, λ t. absurd (true≢false (ap changesIs (sym t ∙ e .0))))
+-- a record that has every number lacks nothing
+module _ (W R : List ℕ) (ready : Bool) (s : Sound W R) (q : ready ≡ true) (f : Full R (poolLen W)) where
+  nothing : (n : ℕ) → n ≤ poolLen W → filter (λ x. not (any (sameStmt x) (recordIn W R))) (table n (stmtAt W)) ≡ []
+  unfolding table filter Full
+  nothing zero l = refl
+  nothing (suc n) l =
+      filter-append (λ x. not (any (sameStmt x) (recordIn W R))) (table n (stmtAt W)) (stmtAt W n ∷ [])
+      ∙ ap₂ _++_ (nothing n (omega arith)) (filter-one (λ x. not (any (sameStmt x) (recordIn W R))) (stmtAt W n) false (ap not (by-number W (s .distinct) R (s .whole) n (omega arith) ∙ f n (omega arith))))
 
-  module _ (n : ℕ) (z : n ≡ poolLen W) where
-    pub gives-none : Full (c .statements) n → (r .answer ≡ Taken) × (r .number ≡ 0) × (r .controller ≡ c) × (r .changed ≡ false) → Gives W c r
-    unfolding Gives
-    gives-none f e = inl (e .2, λ t. subst (Full (c .statements)) z f)
-
-    pub gives-taken : (m : Missing) → Distinct W → Filled W (c .statements) n m → min (c .statements .len) 512 + m .count ≤ 512
-        → (r .answer ≡ Taken) × (r .number ≡ m .count) × (r .controller ≡ withStatements c (m .statements)) × (r .changed ≡ true) → Gives W c r
-    unfolding Gives
-    gives-taken m d f l e = inr (e .3, e .0, subst (λ (t : Controller). Full (t .statements) (poolLen W)) (sym (e .2)) (subst (Full (m .statements)) z (full-filled W (c .statements) n m d z f l)))
+  pub all-needless : (k faulty : ℕ) (X : List Seat) → getD X k emptySeat .statements ≡ recordIn W R
+      → step (benchOf ready faulty X W) (some (all k)) ≡ record { reply = record { who = k; answer = controller.taken; number = 0 }; bench = benchOf ready faulty X W }
+  unfolding poolIs
+  all-needless k faulty X x = all-is (benchOf ready faulty X W) k (recordIn W R) x
+      ∙ ap (λ u. spread (benchOf ready faulty X W) k (recordIn W R) u (ltb 512 (length (recordIn W R) + length (lack (poolIs W) (recordIn W R)))) (lack (poolIs W) (recordIn W R))) q
+      ∙ ap (λ u. spread (benchOf ready faulty X W) k (recordIn W R) true (ltb 512 (length (recordIn W R) + length u)) u) (nothing (poolLen W) (omega arith))
+      ∙ ap (λ u. spread (benchOf ready faulty X W) k (recordIn W R) true u []) (le-ltb 512 (length (recordIn W R) + 0) (omega (arith, record-size W R)))
+      ∙ replied k ready faulty refl refl (seat-same X k (x ∙ sym (append-nil (recordIn W R)))) refl
 
 -- ---- a pool with one statement more
 
@@ -679,19 +398,75 @@ turn-keeps W W′ controller.left e d = (same-distinct e d, same-grows e)
 turn-keeps W W′ controller.quiet e d = (same-distinct e d, same-grows e)
 turn-keeps W W′ (controller.refused r) e d = (same-distinct e d, same-grows e)
 
-module _ (W W′ : List ℕ) (ready : Bool) (c : Controller) (k : ℕ) (ro : Outcome) (r : Replied) (e : (r .answer ≡ ro .answer) × (r .number ≡ numberIs (ro .answer)) × (r .controller ≡ ro .controller) × (r .changed ≡ changesIs (ro .answer))) (s : Sound W c) where
-  abbrev outcome : controller.Outcome
-  outcome = turnOf (controllerIs c) (recordIs W c) (hasRoom (poolIs W))
+-- ---- calls
 
-  pub seat-turns : Turns W c outcome ro W′ → Seated W ready c k (turn k) r W′
+seat-of : {W R W′ R′ : List ℕ} {c : Controller} {o : controller.Outcome} {p : Change} {ro : Outcome} → Meets W R c o p ro W′ R′ → AllIn W R
+    → record { controller = o .controller; statements = o .statements } ≡ seatIs W′ (ro .controller) R′
+seat-of m w = ap₂ (λ x y. record { controller = x; statements = y }) (sym (m .controller)) (sym (m .statements w .0))
+
+-- a call that changed nothing
+stays-so : {W R W′ R′ : List ℕ} {c : Controller} {X : List Stmt} {o : controller.Outcome} {p : Change} {ro : Outcome} → Meets W R c o p ro W′ R′ → Stays (controllerIs c) X o → changesIs (ro .answer) ≡ false
+    → controllerIs (ro .controller) ≡ controllerIs c
+stays-so {W} {R} {W′} {R′} {c} {X} {o} {p} {ro} m s e = m .controller ∙ s .stays (subst Idle (m .answer) (idle-answer W′ (ro .answer) e)) .0
+
+-- a request
+module _ (W R : List ℕ) (c : Controller) (k : ℕ) (l : Line) (o : Outcome) (s : Sound W R) (f : controller.Controller → List Stmt → controller.Outcome)
+    (st : (d : controller.Controller) (X : List Stmt) → Stays d X (f d X)) (un : (d : controller.Controller) (X : List Stmt) → Unsigned (f d X)) (m : Calls (f (controllerIs c)) c o)
+    (h : (b : Bench) → step b (some l) ≡ bench.at b k (f (bench.seat b k .controller) (bench.seat b k .statements)) (b .pool) 0) where
+  asked : CalledAt W R c k l o W R
+  unfolding Calls
+  asked = record {
+    steps = λ ready faulty X x.
+        h (benchOf ready faulty X W)
+        ∙ ap (λ (t : Seat). bench.at (benchOf ready faulty X W) k (f (t .controller) (t .statements)) (poolIs W) 0) x
+        ∙ replied k ready faulty (sym (m W R .answer)) (sym (not-signed W (o .answer) (f (controllerIs c) (recordIn W R) .answer) (m W R .answer) (un (controllerIs c) (recordIn W R) .unsigned))) (ap (λ t. set X k t) (seat-of (m W R) (s .whole))) refl;
+    sound = s;
+    grows = grows-same W;
+    keeps = keeps-same R;
+    same = stays-so (m W R) (st (controllerIs c) (recordIn W R));
+  }
+
+keeps-after : (W R R′ : List ℕ) (a : controller.Answer) → NumbersAfter W R (signedOf a) R′ → Keeps R R′
+keeps-after W R R′ controller.taken e = subst (Keeps R) (sym e) (keeps-same R)
+keeps-after W R R′ (controller.signed s) e = keeps-pushed R R′ (numberOf s (poolIs W)) e
+keeps-after W R R′ (controller.entered v) e = subst (Keeps R) (sym e) (keeps-same R)
+keeps-after W R R′ (controller.delivered m) e = subst (Keeps R) (sym e) (keeps-same R)
+keeps-after W R R′ controller.left e = subst (Keeps R) (sym e) (keeps-same R)
+keeps-after W R R′ controller.quiet e = subst (Keeps R) (sym e) (keeps-same R)
+keeps-after W R R′ (controller.refused r) e = subst (Keeps R) (sym e) (keeps-same R)
+
+module _ (W R W′ R′ : List ℕ) (c : Controller) (k : ℕ) (ro : Outcome) (s : Sound W R) where
+  abbrev outcome : controller.Outcome
+  outcome = turnOf (controllerIs c) (recordIn W R) (hasRoom (poolIs W))
+
+  turns : Turns W R c outcome ro W′ R′ → CalledAt W R c k (turn k) ro W′ R′
   unfolding step bench.turnAt
-  seat-turns m = record {
-    steps = λ faulty X x.
+  turns m = record {
+    steps = λ ready faulty X x.
         ap (λ (t : Seat). bench.afterTurn (benchOf ready faulty X W) k (turnOf (t .controller) (t .statements) (hasRoom (poolIs W))) (turnOf (t .controller) (t .statements) (hasRoom (poolIs W)) .answer)) x
         ∙ after-turn (benchOf ready faulty X W) k outcome (outcome .answer)
-        ∙ replied k ready faulty (sym (m .answer) ∙ sym (ap (answerIs W′) (e .0))) (number-then W W′ (ro .answer) (outcome .answer) (m .answer) (m .number) ∙ sym (e .1))
-        (ap (λ t. set X k t) (seat-of m (s .whole) ∙ sym (ap (seatIs W′) (e .2)))) (sym (pool-then W W′ (outcome .answer) (m .pool)));
-    sound = record { distinct = turn-keeps W W′ (outcome .answer) (pool-then W W′ (outcome .answer) (m .pool)) (s .distinct) .0; whole = subst (Whole W′) (sym (e .2)) (m .statements (s .whole) .1) };
+        ∙ replied k ready faulty (sym (m .answer)) (number-then W W′ (ro .answer) (outcome .answer) (m .answer) (m .number))
+        (ap (λ t. set X k t) (seat-of m (s .whole))) (sym (pool-then W W′ (outcome .answer) (m .pool)));
+    sound = record { distinct = turn-keeps W W′ (outcome .answer) (pool-then W W′ (outcome .answer) (m .pool)) (s .distinct) .0; whole = m .statements (s .whole) .1 };
     grows = turn-keeps W W′ (outcome .answer) (pool-then W W′ (outcome .answer) (m .pool)) (s .distinct) .1;
-    same = λ q. ap (seatIs W′) (e .2) ∙ seat-stays m (s .whole) (turn-stays (controllerIs c) (recordIs W c) (hasRoom (poolIs W))) (sym (e .3) ∙ q);
+    keeps = keeps-after W R R′ (outcome .answer) (m .numbers);
+    same = stays-so m (turn-stays (controllerIs c) (recordIn W R) (hasRoom (poolIs W)));
   }
+
+-- the line that calls
+module _ (W R : List ℕ) (c : Controller) (o : Outcome) (s : Sound W R) {l : Held} {k : ℕ} where
+  pub calls-join : l ≡ is.Join k → Calls (requestJoin (controllerIs c)) c o → Called W R c l o W R
+  unfolding step
+  calls-join e m = subst (λ x. Called W R c x o W R) (sym e) (record { line = join k; means = refl; called = asked W R c k (join k) o s requestJoin join-stays join-unsigned m (λ b. refl) })
+
+  pub calls-leave : l ≡ is.Leave k → Calls (requestLeave (controllerIs c)) c o → Called W R c l o W R
+  unfolding step
+  calls-leave e m = subst (λ x. Called W R c x o W R) (sym e) (record { line = leave k; means = refl; called = asked W R c k (leave k) o s requestLeave leave-stays leave-unsigned m (λ b. refl) })
+
+  pub calls-send : {payload : ℕ} → l ≡ is.Send k payload → Calls (λ X. requestSend (controllerIs c) X payload) c o → Called W R c l o W R
+  unfolding step
+  calls-send {payload} e m = subst (λ x. Called W R c x o W R) (sym e)
+      (record { line = send k payload; means = refl; called = asked W R c k (send k payload) o s (λ d X. requestSend d X payload) (λ d X. send-stays d X payload) (λ d X. send-unsigned d X payload) m (λ b. refl) })
+
+  pub calls-turn : {W′ R′ : List ℕ} → l ≡ is.Turn k → Turns W R c (turnOf (controllerIs c) (recordIn W R) (hasRoom (poolIs W))) o W′ R′ → Called W R c l o W′ R′
+  calls-turn {W′} {R′} e m = subst (λ x. Called W R c x o W′ R′) (sym e) (record { line = turn k; means = refl; called = turns W R W′ R′ c k o s m })

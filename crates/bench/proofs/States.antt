@@ -1,16 +1,16 @@
--- What a line comes to: on one controller, on the pool, or on all.
+-- What a line comes to that calls no controller: on one record, on the pool, or on all.
 -- Assumes nothing.
 use mathlib.Core.Path.{_≡_, refl, sym, ap, ap₂, subst, _∙_}
-use mathlib.Core.Logic.{inl, inr}
 use mathlib.Core.Bool.{Bool, true, false, not, _&&_, _||_, true≢false}
 use mathlib.Core.List.{List, [], _∷_, _++_}
 use mathlib.Core.Option.{Option, some, none}
-use Prim.Native.Nat.{ℕ, zero, suc, _+_, _^_, _≤_, _<_, min}
+use Prim.Native.Nat.{ℕ, _%_, _+_, _^_, _≤_, _<_}
 use native.Mathlib.Decide.{decLt}
 use native.Mathlib.Omega.{arith}
-use lib.Dec.{T, eqb, leb, ltb}
+use types.Run.{OneOf, miss}
+use denote.Enum.Declared.{tagOf}
+use lib.Dec.{T, leb, ltb}
 use lib.ListN.{length, getD, set}
-use lib.Seq.{getD-set-same, set-getD}
 use borrow.Author.Tests.{lt-ltb, le-ltb, le-leb, lt-leb}
 use Rattle.protocol.specs.Sets.{bit}
 use Rattle.protocol.specs.Lists.{if_then_else_, any}
@@ -28,30 +28,29 @@ use Rattle.statements.specs.Meaning.{stmtOf}
 use Rattle.pool.specs.declared.Found.the-variants as found
 use Rattle.pool.specs.declared.Placed.{Placed as Answered}
 use Rattle.pool.specs.declared.Placed.the-variants as placed
-use Rattle.pool.specs.declared.Record.{Record}
-use Rattle.pool.specs.Pool.{stmtAt, poolLen, recordOf}
+use Rattle.pool.specs.Pool.{stmtAt, poolLen, recordOf, recordLen, recordIn}
 use Rattle.pool.specs.Changes as memory
-use Rattle.pool.proofs.Searches.{found-at, found-none, pool-grown}
-use Rattle.engine.specs.declared.Controller.{Controller}
+use Rattle.pool.proofs.Searches.{found-at, found-none}
 use Rattle.engine.specs.declared.Refusal.{Refusal}
 use Rattle.engine.specs.declared.Refusal.the-variants as refusal
-use Rattle.engine.specs.declared.Answer.{Answer}
-use Rattle.engine.specs.declared.Answer.the-variants.{Taken, Signed, Entered, Delivered, Left, Quiet, Refused}
-use Rattle.engine.specs.Meaning.{controllerIs, recordIs, poolIs, Whole, AllIn, answerIs, refusalIs}
+use Rattle.engine.specs.declared.Answer.the-variants.{Taken, Refused}
+use Rattle.engine.specs.Meaning.{poolIs, AllIn, answerIs, refusalIs}
 use Rattle.engine.proofs.Pools.{Located, there, absent, in-pool, grown-pool}
-use Rattle.bench.specs.declared.seat.Replied.{Replied}
 use Rattle.schedule.specs.declared.line.Line.{Line as Held}
 use Rattle.schedule.specs.declared.line.Line.the-variants as is
 use Rattle.schedule.specs.declared.line.Parsed.the-variants.{Readable}
+use Rattle.schedule.proofs.line.Line as line
+use Rattle.bench.specs.declared.seat.Given.{Given}
 use Rattle.bench.specs.declared.state.Setting.{Setting}
 use Rattle.bench.specs.declared.state.Stepped.{Stepped}
-use Rattle.schedule.specs.Line.{Line, setup, all, lie, noStatement, ended}
+use Rattle.schedule.specs.Line.{Line, setup, give, all, lie, noStatement, ended}
 use Rattle.schedule.specs.Reading.{meant, Tells, Lying, LiedOf}
 use Rattle.schedule.proofs.Lies.{lie-untold}
 use Rattle.bench.specs.Bench as bench
 use Rattle.bench.specs.Bench.{Seat, emptySeat, Bench, step}
-use Rattle.bench.specs.Seats.{seatIs, benchOf, Distinct, Sound, Grows, Full, Seated, Gives, keptIs, filledIs, SeatedAs, RefusedAs, Keeps, Knows, Needless, Advanced, AdvancedBy, Fit, seatOf}
-use Rattle.bench.proofs.Seats.{grows-same, one-grows, one-distinct, pool-size, fill-whole, full-none, all-none}
+use Rattle.bench.specs.Seats.{benchOf, Distinct, Sound, Grows, Full, refusedFor, takenAs, Seated, Gives, GivesAll, Fit, seatOf, isCall, ToldAs, SteppedAs, SteppedBy, Pools, PoolsBy, NoStatement, Needless}
+use Rattle.bench.proofs.Records.{keeps-same}
+use Rattle.bench.proofs.Seats.{grows-same, seat-same, one-grows, one-distinct, pool-size, all-needless}
 
 -- the parts of what a line leaves
 stepped : {w w′ : ℕ} {a a′ : controller.Answer} {n n′ : ℕ} {g g′ : Bool} {f f′ : ℕ} {X X′ : List Seat} {P P′ : List Stmt} → w ≡ w′ → a ≡ a′ → n ≡ n′ → g ≡ g′ → f ≡ f′ → X ≡ X′ → P ≡ P′
@@ -65,45 +64,58 @@ if-false b x y e = rw e
 if-true : {A : Type 0} (b : Bool) (x y : A) → b ≡ true → x ≡ (if b then x else y)
 if-true b x y e = rw e
 
--- a line that was answered on its controller
-pub advance-seated : {W W′ : List ℕ} {g : Setting} {c : Controller} {k : ℕ} {l : Line} {r : Replied} {s : Stepped} → k < 16 → Seated W (g .ready) c k l r W′ → SeatedAs g k r s → Advanced W g c k (some l) s W′
-advance-seated {W} {W′} {g} {c} {k} {l} {r} {s} b m e = record {
-  steps = λ X x. m .steps (g .faulty) X x ∙ stepped (sym (e .who)) (sym (ap (answerIs W′) (e .answer))) (sym (e .number)) (sym (ap (λ (t : Setting). t .ready) (e .setting))) (sym (ap (λ (t : Setting). t .faulty) (e .setting)))
-      (ap (λ t. set X k (seatIs W′ t)) (sym (e .controller)) ∙ if-false (s .fresh) (table controllers (λ j. record { controller = started j (s .setting .members) (s .setting .sender); statements = [] })) (set X k (seatIs W′ (s .controller))) (e .fresh)) refl;
-  who = omega (arith, e .who);
-  sound = λ h. subst (Sound W′) (sym (e .controller)) (m .sound);
-  grows = λ h. m .grows;
-  same = λ h q. ap (seatIs W′) (e .controller) ∙ m .same (sym (e .changed) ∙ q);
-  begun = λ h. absurd (subst T (sym h ∙ e .fresh) tt);
+pub told-as : {g : Setting} {who : ℕ} {r r′ : Given} {s : Stepped} → r ≡ r′ → ToldAs g who r s → ToldAs g who r′ s
+told-as {g} {who} {r} {r′} {s} e t = subst (λ x. ToldAs g who x s) e t
+
+-- a line that was answered on its record
+pub stepped-seated : {W R R′ : List ℕ} {g : Setting} {k : ℕ} {l : Line} {r : Given} {s : Stepped} → k < 16 → Distinct W → Seated W R (g .ready) k l r R′ → ToldAs g k r s → SteppedAs W R g k l s W R′
+stepped-seated {W} {R} {R′} {g} {k} {l} {r} {s} b d m e = record {
+  who = omega (arith, e .who-is);
+  advanced = record {
+    steps = λ X x. m .steps (g .faulty) X x
+        ∙ stepped (sym (e .who-is)) (sym (ap (answerIs W) (e .answer))) (sym (e .number)) (sym (ap (λ (t : Setting). t .ready) (e .setting))) (sym (ap (λ (t : Setting). t .faulty) (e .setting)))
+        (if-false (s .fresh) (table controllers (λ j. record { controller = started j (s .setting .members) (s .setting .sender); statements = [] })) (set X k (record { controller = getD X k emptySeat .controller; statements = recordIn W R′ })) (e .fresh)) refl;
+    sound = λ h. record { distinct = d; whole = m .whole };
+    grows = λ h. grows-same W;
+    keeps = λ h. m .keeps;
+    begun = λ h. absurd (subst T (sym h ∙ e .fresh) tt);
+  };
+  full = λ h. m .full (sym (e .whole) ∙ h);
 }
 
--- a line that was refused
-pub advance-refused : {W : List ℕ} {g : Setting} {c : Controller} {k : ℕ} {o : Option Line} (who : ℕ) (q : Refusal) {s : Stepped} → who ≤ 16 → Sound W c → RefusedAs c g who q s
-    → ((X : List Seat) → getD X k emptySeat ≡ seatIs W c → step (benchOf (g .ready) (g .faulty) X W) o ≡ bench.refuse (benchOf (g .ready) (g .faulty) X W) who (refusalIs q)) → Advanced W g c k o s W
-unfolding answerIs
-advance-refused {W} {g} {c} {k} {o} who q {s} b m e h = record {
-  steps = λ X x. h X x ∙ stepped (sym (e .who-is)) (sym (ap (answerIs W) (e .answer))) (sym (e .number)) (sym (ap (λ (t : Setting). t .ready) (e .setting))) (sym (ap (λ (t : Setting). t .faulty) (e .setting)))
-      (sym (ap (λ t. set X k (seatIs W t)) (e .controller) ∙ ap (λ t. set X k t) (sym x) ∙ set-getD X k emptySeat) ∙ if-false (s .fresh) (table controllers (λ j. record { controller = started j (s .setting .members) (s .setting .sender); statements = [] })) (set X k (seatIs W (s .controller))) (e .fresh)) refl;
-  who = omega (arith, e .who-is);
-  sound = λ t. subst (Sound W) (sym (e .controller)) m;
-  grows = λ t. grows-same W;
-  same = λ t q. ap (seatIs W) (e .controller);
-  begun = λ t. absurd (subst T (sym t ∙ e .fresh) tt);
-}
+-- a line on the pool that was refused
+module _ {W : List ℕ} {g : Setting} {l : Line} {s : Stepped} where
+  pools-refused : (who : ℕ) (q : Refusal) → who ≤ 16 → Distinct W → ToldAs g who (refusedFor q) s
+      → ((X : List Seat) → step (benchOf (g .ready) (g .faulty) X W) (some l) ≡ bench.refuse (benchOf (g .ready) (g .faulty) X W) who (refusalIs q)) → Pools W g l s W
+  unfolding answerIs
+  pools-refused who q b d e h = record {
+    over = λ R w. record {
+      who = omega (arith, e .who-is);
+      advanced = record {
+        steps = λ X x. h X ∙ stepped (sym (e .who-is)) (sym (ap (answerIs W) (e .answer))) (sym (e .number)) (sym (ap (λ (t : Setting). t .ready) (e .setting))) (sym (ap (λ (t : Setting). t .faulty) (e .setting)))
+            (sym (seat-same X 0 x) ∙ if-false (s .fresh) (table controllers (λ j. record { controller = started j (s .setting .members) (s .setting .sender); statements = [] })) (set X 0 (record { controller = getD X 0 emptySeat .controller; statements = recordIn W R })) (e .fresh)) refl;
+        sound = λ t. record { distinct = d; whole = w };
+        grows = λ t. grows-same W;
+        keeps = λ t. keeps-same R;
+        begun = λ t. absurd (subst T (sym t ∙ e .fresh) tt);
+      };
+      full = λ t. absurd (true≢false (sym t ∙ e .whole));
+    };
+  }
 
 -- ---- lies that are no statement
 
-module _ (W : List ℕ) (g : Setting) (c : Controller) (s : Stepped) (m : Sound W c) where
-  pub no-statement-early : RefusedAs c g 16 refusal.OutOfPlace s → g .ready ≡ false → Advanced W g c 0 (some noStatement) s W
+module _ (g : Setting) (s : Stepped) where
+  pub no-statement-early : ToldAs g 16 (refusedFor refusal.OutOfPlace) s → g .ready ≡ false → NoStatement g s
   unfolding step
-  no-statement-early e q = advance-refused 16 refusal.OutOfPlace (omega arith) m e (λ X x. go (g .ready) q (benchOf (g .ready) (g .faulty) X W))
+  no-statement-early e q = record { pools = λ W d. pools-refused 16 refusal.OutOfPlace (omega arith) d e (λ X. go (g .ready) q (benchOf (g .ready) (g .faulty) X W)) }
     where
       go : (b : Bool) → b ≡ false → (d : Bench) → (if b then bench.refuse d 16 controller.badStatement else bench.refuse d 16 controller.outOfPlace) ≡ bench.refuse d 16 controller.outOfPlace
       go b e d = rw e
 
-  pub no-statement-bad : RefusedAs c g 16 refusal.BadStatement s → g .ready ≡ true → Advanced W g c 0 (some noStatement) s W
+  pub no-statement-bad : ToldAs g 16 (refusedFor refusal.BadStatement) s → g .ready ≡ true → NoStatement g s
   unfolding step
-  no-statement-bad e q = advance-refused 16 refusal.BadStatement (omega arith) m e (λ X x. go (g .ready) q (benchOf (g .ready) (g .faulty) X W))
+  no-statement-bad e q = record { pools = λ W d. pools-refused 16 refusal.BadStatement (omega arith) d e (λ X. go (g .ready) q (benchOf (g .ready) (g .faulty) X W)) }
     where
       go : (b : Bool) → b ≡ true → (d : Bench) → (if b then bench.refuse d 16 controller.badStatement else bench.refuse d 16 controller.outOfPlace) ≡ bench.refuse d 16 controller.badStatement
       go b e d = rw e
@@ -144,55 +156,53 @@ module _ (members sender faulty : ℕ) where
   unfolding setupAllowed
   allowed-is n m l = rw (lt-ltb 0 members (omega arith), lt-ltb members (2 ^ 16) m, lt-ltb sender 16 l)
 
-  module _ (W : List ℕ) (g : Setting) (c : Controller) (s : Stepped) (m : Sound W c) where
+  module _ (W : List ℕ) (g : Setting) (s : Stepped) (d : Distinct W) where
     or-both : (b : Bool) → (b || true) ≡ true
     or-both true = refl
     or-both false = refl
 
-    refuses : (who : ℕ) (near : Bool) → who ≡ (if near then sender else 16) → who ≤ 16 → RefusedAs c g who refusal.BadSetup s → ltb sender 16 ≡ near → (g .ready || not (setupAllowed 0 members sender)) ≡ true
-        → Advanced W g c 0 (some (setup members sender faulty)) s W
-    refuses who near w b e h o = advance-refused who refusal.BadSetup b m e (λ X x. setup-is (benchOf (g .ready) (g .faulty) X W) refl refl h
+    refuses : (who : ℕ) (near : Bool) → who ≡ (if near then sender else 16) → who ≤ 16 → ToldAs g who (refusedFor refusal.BadSetup) s → ltb sender 16 ≡ near → (g .ready || not (setupAllowed 0 members sender)) ≡ true
+        → Pools W g (setup members sender faulty) s W
+    refuses who near w b e h o = pools-refused who refusal.BadSetup b d e (λ X. setup-is (benchOf (g .ready) (g .faulty) X W) refl refl h
         ∙ (let d : Bench = benchOf (g .ready) (g .faulty) X W in rw o (ap (λ t. bench.refuse d t controller.badSetup) (sym w))))
 
-    pub setup-far : RefusedAs c g 16 refusal.BadSetup s → 16 ≤ sender → Advanced W g c 0 (some (setup members sender faulty)) s W
+    pub setup-far : ToldAs g 16 (refusedFor refusal.BadSetup) s → 16 ≤ sender → Pools W g (setup members sender faulty) s W
     setup-far e l = refuses 16 false refl (omega arith) e (le-ltb sender 16 l) (ap (λ t. g .ready || not t) (far l) ∙ or-both (g .ready))
 
-    pub setup-again : RefusedAs c g sender refusal.BadSetup s → sender < 16 → g .ready ≡ true → Advanced W g c 0 (some (setup members sender faulty)) s W
+    pub setup-again : ToldAs g sender (refusedFor refusal.BadSetup) s → sender < 16 → g .ready ≡ true → Pools W g (setup members sender faulty) s W
     setup-again e l q = refuses sender true refl (omega arith) e (lt-ltb sender 16 l) (ap (λ t. t || not (setupAllowed 0 members sender)) q)
 
-    pub setup-empty : RefusedAs c g sender refusal.BadSetup s → sender < 16 → members ≡ 0 → Advanced W g c 0 (some (setup members sender faulty)) s W
+    pub setup-empty : ToldAs g sender (refusedFor refusal.BadSetup) s → sender < 16 → members ≡ 0 → Pools W g (setup members sender faulty) s W
     setup-empty e l q = refuses sender true refl (omega arith) e (lt-ltb sender 16 l) (ap (λ t. g .ready || not t) (nobody-in q) ∙ or-both (g .ready))
 
-  emptied : (W : List ℕ) → length W ≡ 10241 → poolLen (set W 10240 0) ≡ 0
-  unfolding poolLen
-  emptied W l = let e : getD (set W 10240 0) 10240 0 ≡ 0 = getD-set-same W 10240 0 0 (omega arith) in omega arith
-
-  pub setup-taken : (W : List ℕ) (g : Setting) (c : Controller) (full : ℕ) → length W ≡ 10241 → sender < 16 → g .ready ≡ false → (members ≡ 0 → ⊥) → members < 65536
-      → Advanced W g c 0 (some (setup members sender faulty))
-      (record { who = sender; answer = Taken; number = 0; controller = c; setting = record { ready = true; faulty = faulty; members = members; sender = sender }; fresh = true; changed = false; full = full }) (set W 10240 0)
+  pub setup-taken : (W W′ : List ℕ) (g : Setting) → memory.Cleared W W′ → sender < 16 → g .ready ≡ false → (members ≡ 0 → ⊥) → members < 65536
+      → Pools W g (setup members sender faulty)
+      (record { who = sender; answer = Taken; number = 0; setting = record { ready = true; faulty = faulty; members = members; sender = sender }; fresh = true; whole = false }) W′
   unfolding answerIs
-  setup-taken W g c full n l q a b = record {
-    steps = λ X x. setup-is (benchOf (g .ready) (g .faulty) X W) q (allowed-is a b l) refl ∙ stepped refl refl refl refl refl refl (no-pool (set W 10240 0) (emptied W n));
-    who = omega arith;
-    sound = λ t. absurd (subst T t tt);
-    grows = λ t. absurd (subst T t tt);
-    same = λ t. absurd (subst T t tt);
-    begun = λ t. (emptied W n, allowed-is a b l);
+  setup-taken W W′ g n l q a b = record {
+    over = λ R w. record {
+      who = omega arith;
+      advanced = record {
+        steps = λ X x. setup-is (benchOf (g .ready) (g .faulty) X W) q (allowed-is a b l) refl ∙ stepped refl refl refl refl refl refl (no-pool W′ (n .len));
+        sound = λ t. absurd (subst T t tt);
+        grows = λ t. absurd (subst T t tt);
+        keeps = λ t. absurd (subst T t tt);
+        begun = λ t. (n .len, allowed-is a b l);
+      };
+      full = λ t. absurd (true≢false (sym t));
+    };
   }
 
 -- ---- what a pool that grows leaves as it was
 
-module _ {W W′ : List ℕ} (g : Grows W W′) (c : Controller) (w : Whole W c) where
-  pub record-kept : recordIs W′ c ≡ recordIs W c
-  unfolding recordIs recordOf Whole
-  record-kept = table-cong (min (c .statements .len) 512) (λ i. stmtAt W′ (getD (c .statements .ids) i 0)) (λ i. stmtAt W (getD (c .statements .ids) i 0)) (λ i h. g .same _ (w i h))
+module _ {W W′ : List ℕ} (g : Grows W W′) (R : List ℕ) (w : AllIn W R) where
+  pub record-kept : recordIn W′ R ≡ recordIn W R
+  unfolding recordOf AllIn
+  record-kept = table-cong (recordLen R) (λ i. stmtAt W′ (getD R i 0)) (λ i. stmtAt W (getD R i 0)) (λ i h. g .same _ (w i h))
 
-  pub whole-kept : Whole W′ c
-  unfolding Whole
+  pub whole-kept : AllIn W′ R
+  unfolding AllIn
   whole-kept i h = let a = w i h in omega (arith, g .len)
-
-  pub seat-kept : seatIs W′ c ≡ seatIs W c
-  seat-kept = ap (λ t. record { controller = controllerIs c; statements = t }) record-kept
 
 -- ---- a lie
 
@@ -216,8 +226,8 @@ lie-is b s {ready} {marked} {again} {full} e f h i =
     ∙ ap (λ t. told b s ready marked t (leb 512 (length (b .pool)))) h
     ∙ ap (λ t. told b s ready marked again t) i
 
-pub marked-is : (f k : ℕ) (r : Bool) → r ≡ member (record { joined = f; left = 0 }) k → bit f k ≡ r
-marked-is f k r e = sym (e ∙ ap (λ t. bit f k && not t) (bit-zero k) ∙ and-true (bit f k))
+pub marked-is : (f k : ℕ) (r : Bool) → f < 65536 → r ≡ member (record { joined = f % 65536; left = 0 }) k → r ≡ bit f k
+marked-is f k r l e = let m : f % 65536 ≡ f = omega arith in e ∙ ap (λ x. member (record { joined = x; left = 0 }) k) m ∙ ap (λ t. bit f k && not t) (bit-zero k) ∙ and-true (bit f k)
   where
     and-true : (b : Bool) → (b && true) ≡ b
     and-true true = refl
@@ -246,31 +256,31 @@ full≢at e = let z : _≡_ {A = ℕ} 0 1 = cc in omega arith
 at-injective : {m n : ℕ} → placed.At m ≡ placed.At n → m ≡ n
 at-injective e = cc
 
-module _ (W : List ℕ) (g : Setting) (c : Controller) (st : Statement) (s : Stepped) (m : Sound W c) (near : st .origin < 16) where
-  pub lie-early : RefusedAs c g (st .origin) refusal.OutOfPlace s → g .ready ≡ false → Advanced W g c 0 (some (lie (stmtOf st))) s W
+module _ (W : List ℕ) (g : Setting) (st : Statement) (s : Stepped) (d : Distinct W) (near : st .origin < 16) where
+  pub lie-early : ToldAs g (st .origin) (refusedFor refusal.OutOfPlace) s → g .ready ≡ false → Pools W g (lie (stmtOf st)) s W
   unfolding stmtOf
-  lie-early e q = advance-refused (st .origin) refusal.OutOfPlace (omega arith) m e (λ X x. lie-is (benchOf (g .ready) (g .faulty) X W) (stmtOf st) q refl refl refl)
+  lie-early e q = pools-refused (st .origin) refusal.OutOfPlace (omega arith) d e (λ X. lie-is (benchOf (g .ready) (g .faulty) X W) (stmtOf st) q refl refl refl)
 
   module _ (q : g .ready ≡ true) where
-    pub lie-unmarked : RefusedAs c g (st .origin) refusal.OutOfPlace s → bit (g .faulty) (st .origin) ≡ false → Advanced W g c 0 (some (lie (stmtOf st))) s W
+    pub lie-unmarked : ToldAs g (st .origin) (refusedFor refusal.OutOfPlace) s → bit (g .faulty) (st .origin) ≡ false → Pools W g (lie (stmtOf st)) s W
     unfolding stmtOf
-    lie-unmarked e b = advance-refused (st .origin) refusal.OutOfPlace (omega arith) m e (λ X x. lie-is (benchOf (g .ready) (g .faulty) X W) (stmtOf st) q b refl refl)
+    lie-unmarked e b = pools-refused (st .origin) refusal.OutOfPlace (omega arith) d e (λ X. lie-is (benchOf (g .ready) (g .faulty) X W) (stmtOf st) q b refl refl)
 
     module _ (b : bit (g .faulty) (st .origin) ≡ true) where
-      pub lie-again : RefusedAs c g (st .origin) refusal.Repeated s → (i : ℕ) → found.At i ≡ memory.foundOf (memory.numberOf W (stmtOf st)) → Advanced W g c 0 (some (lie (stmtOf st))) s W
+      pub lie-again : ToldAs g (st .origin) (refusedFor refusal.Repeated) s → (i : ℕ) → found.At i ≡ memory.foundOf (memory.numberOf W (stmtOf st)) → Pools W g (lie (stmtOf st)) s W
       unfolding stmtOf
-      lie-again e i f = advance-refused (st .origin) refusal.Repeated (omega arith) m e (λ X x. lie-is (benchOf (g .ready) (g .faulty) X W) (stmtOf st) q b (present-in W (stmtOf st) i (found-at (memory.numberOf W (stmtOf st)) i f)) refl)
+      lie-again e i f = pools-refused (st .origin) refusal.Repeated (omega arith) d e (λ X. lie-is (benchOf (g .ready) (g .faulty) X W) (stmtOf st) q b (present-in W (stmtOf st) i (found-at (memory.numberOf W (stmtOf st)) i f)) refl)
 
       module _ (W′ : List ℕ) (n : memory.numberOf W (stmtOf st) ≡ none) where
-        pub lie-full : RefusedAs c g (st .origin) refusal.Full s → memory.Appended W W′ st placed.Full → Advanced W g c 0 (some (lie (stmtOf st))) s W′
+        pub lie-full : ToldAs g (st .origin) (refusedFor refusal.Full) s → memory.Appended W W′ st placed.Full → Pools W g (lie (stmtOf st)) s W′
         unfolding stmtOf
         lie-full e a = elim (decLt (poolLen W) 512) [
           | yes l ↦ absurd (full≢at (a .answer ∙ ap (λ o. memory.placedAt o (poolLen W)) n ∙ sym (if-true (ltb (poolLen W) 512) (placed.At (poolLen W)) placed.Full (lt-ltb (poolLen W) 512 l))))
-          | no l ↦ subst (λ U. Advanced W g c 0 (some (lie (stmtOf st))) s U) (sym (a .full (omega arith)))
-              (advance-refused (st .origin) refusal.Full (omega arith) m e (λ X x. lie-is (benchOf (g .ready) (g .faulty) X W) (stmtOf st) q b (absent-in W (stmtOf st) n) (le-leb 512 (length (poolIs W)) (omega (arith, pool-size W)))))
+          | no l ↦ subst (λ U. Pools W g (lie (stmtOf st)) s U) (sym (a .full (omega arith)))
+              (pools-refused (st .origin) refusal.Full (omega arith) d e (λ X. lie-is (benchOf (g .ready) (g .faulty) X W) (stmtOf st) q b (absent-in W (stmtOf st) n) (le-leb 512 (length (poolIs W)) (omega (arith, pool-size W)))))
         ]
 
-module _ (W W′ : List ℕ) (g : Setting) (c : Controller) (st : Statement) (m : Sound W c) (near : st .origin < 16) (short : st .history .len ≤ 16) (q : g .ready ≡ true) (b : bit (g .faulty) (st .origin) ≡ true) (n : ℕ)
+module _ (W W′ : List ℕ) (g : Setting) (st : Statement) (d : Distinct W) (near : st .origin < 16) (short : st .history .len ≤ 16) (q : g .ready ≡ true) (b : bit (g .faulty) (st .origin) ≡ true) (n : ℕ)
     (z : memory.numberOf W (stmtOf st) ≡ none) (a : memory.Appended W W′ st (placed.At n)) where
   room : poolLen W < 512
   room = elim (decLt (poolLen W) 512) [
@@ -284,71 +294,59 @@ module _ (W W′ : List ℕ) (g : Setting) (c : Controller) (st : Statement) (m 
   longer : poolIs W′ ≡ poolIs W ++ (stmtOf st ∷ [])
   longer = grown-pool W W′ st short (a .new z room) room
 
-  pub lie-taken : (full : ℕ) → Advanced W g c 0 (some (lie (stmtOf st))) (record { who = st .origin; answer = Taken; number = n; controller = c; setting = g; fresh = false; changed = false; full = full }) W′
+  pub lie-taken : (s : Stepped) → ToldAs g (st .origin) (takenAs n false) s → Pools W g (lie (stmtOf st)) s W′
   unfolding stmtOf answerIs
-  lie-taken full = record {
-    steps = λ X x. lie-is (benchOf (g .ready) (g .faulty) X W) (stmtOf st) q b (absent-in W (stmtOf st) z) (lt-leb 512 (length (poolIs W)) (omega (arith, pool-size W, room)))
-        ∙ stepped refl refl (pool-size W ∙ sym placed-at) refl refl (sym (ap (λ t. set X 0 t) (seat-kept (one-grows W W′ (stmtOf st) longer) c (m .whole) ∙ sym x) ∙ set-getD X 0 emptySeat)) (sym longer);
-    who = omega arith;
-    sound = λ t. record { distinct = one-distinct W W′ (stmtOf st) longer (absent-in W (stmtOf st) z) (m .distinct); whole = whole-kept (one-grows W W′ (stmtOf st) longer) c (m .whole) };
-    grows = λ t. one-grows W W′ (stmtOf st) longer;
-    same = λ t q. seat-kept (one-grows W W′ (stmtOf st) longer) c (m .whole);
-    begun = λ t. absurd (subst T (sym t) tt);
+  lie-taken s e = record {
+    over = λ R w. record {
+      who = omega (arith, e .who-is);
+      advanced = record {
+        steps = λ X x. lie-is (benchOf (g .ready) (g .faulty) X W) (stmtOf st) q b (absent-in W (stmtOf st) z) (lt-leb 512 (length (poolIs W)) (omega (arith, pool-size W, room)))
+            ∙ stepped (sym (e .who-is)) (sym (ap (answerIs W′) (e .answer))) (pool-size W ∙ sym placed-at ∙ sym (e .number)) (sym (ap (λ (t : Setting). t .ready) (e .setting))) (sym (ap (λ (t : Setting). t .faulty) (e .setting)))
+            (sym (seat-same X 0 (x ∙ sym (record-kept (one-grows W W′ (stmtOf st) longer) R w)))
+            ∙ if-false (s .fresh) (table controllers (λ j. record { controller = started j (s .setting .members) (s .setting .sender); statements = [] })) (set X 0 (record { controller = getD X 0 emptySeat .controller; statements = recordIn W′ R })) (e .fresh)) (sym longer);
+        sound = λ t. record { distinct = one-distinct W W′ (stmtOf st) longer (absent-in W (stmtOf st) z) d; whole = whole-kept (one-grows W W′ (stmtOf st) longer) R w };
+        grows = λ t. one-grows W W′ (stmtOf st) longer;
+        keeps = λ t. keeps-same R;
+        begun = λ t. absurd (subst T (sym t ∙ e .fresh) tt);
+      };
+      full = λ t. absurd (true≢false (sym t ∙ e .whole));
+    };
   }
 
 pub appended : {W W′ : List ℕ} {st : Statement} {p q : Answered} → memory.Appended W W′ st p → p ≡ q → memory.Appended W W′ st q
 appended {W} {W′} {st} a e = subst (memory.Appended W W′ st) e a
 
--- ---- the numbers that a record has after a line
+-- ---- an `all` that finds nothing missing
 
-pub knows-kept : {c : Controller} {full : ℕ} {s : Stepped} → Keeps full s → Knows c full s
-knows-kept {c} {full} {s} e = record {
-  stored = λ f q. subst (Full (s .controller .statements)) (sym (e ∙ ap (λ b. keptIs b full) q)) (full-none (s .controller .statements));
-  stays = λ f q. subst (Full (c .statements)) (sym (e ∙ ap (λ b. keptIs b full) q)) f;
-}
+pub needless : (W : List ℕ) (g : Setting) (full k : ℕ) (l : Held) → l ≡ is.All k → g .ready ≡ true → poolLen W ≤ full → Needless W g full l
+unfolding Full
+needless W g full k l e q b = subst (Needless W g full) (sym e) (record {
+  line = all k;
+  means = refl;
+  steps = λ R s f X x. all-needless W R (g .ready) s q (λ i h. f i (omega arith)) k (g .faulty) X x;
+})
 
-full-after : (r : Record) (a : Answer) (n full : ℕ) → (a ≡ Taken → Full r n) → Full r full → Full r (filledIs a n full)
-full-after r Taken n full h f = h refl
-full-after r (Signed i) n full h f = f
-full-after r (Entered v) n full h f = f
-full-after r (Delivered m) n full h f = f
-full-after r Left n full h f = f
-full-after r Quiet n full h f = f
-full-after r (Refused q) n full h f = f
+-- ---- what a line is that is none of the others
 
--- ---- all
+pub last-call : (l : Held) → OneOf (0 ∷ 4 ∷ 5 ∷ 6 ∷ 7 ∷ []) (tagOf line.the-type l) → isCall l ≡ true → l ≡ is.Turn (seatOf (Readable l))
+last-call (is.Setup m s f) t e = absurd (true≢false (sym e))
+last-call (is.Join k) t e = absurd (miss (0 ∷ 4 ∷ 5 ∷ 6 ∷ 7 ∷ []) 1 tt t)
+last-call (is.Leave k) t e = absurd (miss (0 ∷ 4 ∷ 5 ∷ 6 ∷ 7 ∷ []) 2 tt t)
+last-call (is.Send k m) t e = absurd (miss (0 ∷ 4 ∷ 5 ∷ 6 ∷ 7 ∷ []) 3 tt t)
+last-call (is.Give k n) t e = absurd (true≢false (sym e))
+last-call (is.All k) t e = absurd (true≢false (sym e))
+last-call (is.Turn k) t e = refl
+last-call is.Lie t e = absurd (true≢false (sym e))
 
-module _ (W : List ℕ) (g : Setting) (c : Controller) (k : ℕ) (b : k < 16) (r : Replied) (m : Seated W (g .ready) c k (all k) r W × Gives W c r) (n full f : ℕ) (z : n ≡ poolLen W) (e : f ≡ filledIs (r .answer) n full) where
-  abbrev gave : Stepped
-  gave = record { who = k; answer = r .answer; number = r .number; controller = r .controller; setting = g; fresh = false; changed = r .changed; full = f }
-
-  knows-all : Knows c full gave
-  unfolding Gives
-  knows-all = go (m .1)
-    where
-      go : Gives W c r → Knows c full gave
-      go (inl (q, h)) = record {
-        stored = λ w p. subst (λ (t : Controller). Full (t .statements) f) (sym q) (subst (Full (c .statements)) (sym e) (full-after (c .statements) (r .answer) n full (λ t. subst (Full (c .statements)) (sym z) (h t)) w));
-        stays = λ w p. subst (Full (c .statements)) (sym e) (full-after (c .statements) (r .answer) n full (λ t. subst (Full (c .statements)) (sym z) (h t)) w);
-      }
-      go (inr (p, t, h)) = record {
-        stored = λ w q. subst (Full (r .controller .statements)) (sym (e ∙ ap (λ a. filledIs a n full) t ∙ z)) h;
-        stays = λ w q. absurd (true≢false (sym p ∙ q));
-      }
-
-  pub all-steps : Advanced W g c k (some (all k)) gave W × Knows c full gave
-  all-steps = (advance-seated b (m .0) (record { who = refl; answer = refl; number = refl; controller = refl; setting = refl; fresh = refl; changed = refl }), knows-all)
-
-pub all-needless : (W : List ℕ) (g : Setting) (full k : ℕ) (l : Held) → l ≡ is.All k → g .ready ≡ true → poolLen W ≤ full → Needless W g full l
-unfolding Full Whole answerIs
-all-needless W g full k l e q b = subst (Needless W g full) (sym e) (record { line = all k; means = refl; steps = idle })
-  where
-    idle : (c : Controller) → Sound W c → Full (c .statements) full → (X : List Seat) → getD X k emptySeat ≡ seatIs W c
-        → step (benchOf (g .ready) (g .faulty) X W) (some (all k)) ≡ record { reply = record { who = k; answer = controller.taken; number = 0 }; bench = benchOf (g .ready) (g .faulty) X W }
-    idle c m f X x =
-        all-none W (g .ready) c k (record { answer = Taken; number = 0; controller = c; changed = false }) m q (poolLen W) refl
-        (fill-whole W (c .statements) (m .distinct) (m .whole) (poolLen W) (omega arith) (λ i h. f i (omega arith))) (refl, refl, refl, refl) .steps (g .faulty) X x
-        ∙ stepped refl refl refl refl refl (ap (λ t. set X k t) (sym x) ∙ set-getD X k emptySeat) refl
+pub last-other : (l : Held) → OneOf (1 ∷ 2 ∷ 3 ∷ 6 ∷ 7 ∷ []) (tagOf line.the-type l) → isCall l ≡ false → l ≡ is.Lie
+last-other (is.Setup m s f) t e = absurd (miss (1 ∷ 2 ∷ 3 ∷ 6 ∷ 7 ∷ []) 0 tt t)
+last-other (is.Join k) t e = absurd (true≢false e)
+last-other (is.Leave k) t e = absurd (true≢false e)
+last-other (is.Send k m) t e = absurd (true≢false e)
+last-other (is.Give k n) t e = absurd (miss (1 ∷ 2 ∷ 3 ∷ 6 ∷ 7 ∷ []) 4 tt t)
+last-other (is.All k) t e = absurd (miss (1 ∷ 2 ∷ 3 ∷ 6 ∷ 7 ∷ []) 5 tt t)
+last-other (is.Turn k) t e = absurd (true≢false e)
+last-other is.Lie t e = refl
 
 -- ---- the line that was read
 
@@ -369,19 +367,31 @@ module _ {T′ : List ℕ} where
   pub fit-lie : {l : Held} → Fit l T′ → l ≡ is.Lie → Lying T′
   fit-lie f e = record { tells = subst (λ x. Tells (meant x) (ended T′)) e (f .tells) }
 
-module _ {W W′ : List ℕ} {g : Setting} {c : Controller} {r : Stepped} (T′ : List ℕ) where
-  pub at-line : {l m : Held} {line : Line} → Fit l T′ → l ≡ m → meant m ≡ some line → Advanced W g c (seatOf (Readable m)) (some line) r W′ → AdvancedBy W g c (seatOf (Readable l)) T′ r W′
-  at-line {l} {m} {line} f e q a = record {
+module _ {W W′ : List ℕ} {g : Setting} {s : Stepped} (T′ : List ℕ) where
+  pub at-line : {R R′ : List ℕ} {l m : Held} {line : Line} → Fit l T′ → l ≡ m → meant m ≡ some line → SteppedAs W R g (seatOf (Readable m)) line s W′ R′ → SteppedBy W R g (seatOf (Readable l)) T′ s W′ R′
+  at-line {R} {R′} {l} {m} {line} f e q a = record {
     line = line;
     reads = subst (λ o. Tells o (ended T′)) (ap meant e ∙ q) (f .tells);
-    advanced = subst (λ x. Advanced W g c (seatOf (Readable x)) (some line) r W′) (sym e) a;
+    stepped = subst (λ x. SteppedAs W R g (seatOf (Readable x)) line s W′ R′) (sym e) a;
   }
 
-  pub at-lie : {l : Held} → l ≡ is.Lie → AdvancedBy W g c 0 T′ r W′ → AdvancedBy W g c (seatOf (Readable l)) T′ r W′
-  at-lie e a = subst (λ x. AdvancedBy W g c (seatOf (Readable x)) T′ r W′) (sym e) a
+  -- a line on the pool
+  pub at-pool : {l m : Held} {line : Line} → Fit l T′ → l ≡ m → meant m ≡ some line → 0 ≡ seatOf (Readable m) → Pools W g line s W′ → (R : List ℕ) → AllIn W R → SteppedBy W R g (seatOf (Readable l)) T′ s W′ R
+  at-pool {l} {m} {line} f e q z a R w = at-line f e q (subst (λ k. SteppedAs W R g k line s W′ R) z (a .over R w))
 
-  pub at-told : (l : ReadStatement) → LiedOf T′ l → l .ok ≡ true → Advanced W g c 0 (some (lie (stmtOf (l .statement)))) r W′ → AdvancedBy W g c 0 T′ r W′
-  at-told l of e a = record { line = lie (stmtOf (l .statement)); reads = of .told e; advanced = a }
+  pub at-lie : {l : Held} → l ≡ is.Lie → PoolsBy W g T′ s W′ → (R : List ℕ) → AllIn W R → SteppedBy W R g (seatOf (Readable l)) T′ s W′ R
+  at-lie e a R w = subst (λ x. SteppedBy W R g (seatOf (Readable x)) T′ s W′ R) (sym e) (a .over R w)
 
-  pub at-untold : Lying T′ → (l : ReadStatement) → LiedOf T′ l → l .ok ≡ false → Advanced W g c 0 (some noStatement) r W′ → AdvancedBy W g c 0 T′ r W′
-  at-untold t l of e a = record { line = noStatement; reads = lie-untold T′ t (of .untold e); advanced = a }
+  pub at-told : (l : ReadStatement) → LiedOf T′ l → l .ok ≡ true → Pools W g (lie (stmtOf (l .statement))) s W′ → PoolsBy W g T′ s W′
+  at-told l of e a = record { over = λ R w. record { line = lie (stmtOf (l .statement)); reads = of .told e; stepped = a .over R w } }
+
+  pub at-untold : Lying T′ → (l : ReadStatement) → LiedOf T′ l → l .ok ≡ false → Pools W g noStatement s W′ → PoolsBy W g T′ s W′
+  at-untold t l of e a = record { over = λ R w. record { line = noStatement; reads = lie-untold T′ t (of .untold e); stepped = a .over R w } }
+
+-- a gift, to one record
+module _ {W R R′ : List ℕ} {g : Setting} {s : Stepped} {r : Given} (T′ : List ℕ) (d : Distinct W) {l : Held} {k : ℕ} (f : Fit l T′) where
+  pub at-give : {n : ℕ} → l ≡ is.Give k n → Gives W R (g .ready) n r R′ → ToldAs g k r s → SteppedBy W R g (seatOf (Readable l)) T′ s W R′
+  at-give e m t = at-line T′ f e refl (stepped-seated (fit-at f e) d (m .to k) t)
+
+  pub at-all : l ≡ is.All k → GivesAll W R (g .ready) r R′ → ToldAs g k r s → SteppedBy W R g (seatOf (Readable l)) T′ s W R′
+  at-all e m t = at-line T′ f e refl (stepped-seated (fit-at f e) d (m .to k) t)

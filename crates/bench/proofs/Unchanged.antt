@@ -17,6 +17,7 @@ use Rattle.protocol.specs.Turn.{Action, sign, bindAndSign, enter, deliver, firs
 use Rattle.engine.specs.declared.Answer.{Answer as Answers}
 use Rattle.engine.specs.declared.Answer.the-variants.{Taken, Signed, Entered, Delivered, Left, Quiet, Refused}
 use Rattle.engine.specs.Meaning.{answerIs}
+use Rattle.engine.specs.Promise.{unchanged, signedOf}
 use Rattle.bench.specs.Seats.{changesIs}
 
 -- nothing was done
@@ -43,6 +44,14 @@ idle-answer W (Refused r) e = tt
 pub record Stays (c : Controller) (X : List Stmt) (o : Outcome) : Type 0 where
   pub stays : Idle (o .answer) → (o .controller ≡ c) × (o .statements ≡ X)
 
+-- nothing was signed
+pub record Unsigned (o : Outcome) : Type 0 where
+  pub unsigned : signedOf (o .answer) ≡ unchanged
+
+neither : (b : Bool) {x y : Outcome} → Unsigned x → Unsigned y → Unsigned (if b then x else y)
+neither true f g = f
+neither false f g = g
+
 module _ (c : Controller) (X : List Stmt) where
   either : (b : Bool) {x y : Outcome} → Stays c X x → Stays c X y → Stays c X (if b then x else y)
   either true f g = f
@@ -65,6 +74,24 @@ module _ (c : Controller) (X : List Stmt) where
   pub send-stays : (m : ℕ) → Stays c X (requestSend c X m)
   unfolding requestSend
   send-stays m = either (c .isSetUp) (either (not (eqb (c .number) (c .sender)) || isSome (c .sendRequested)) (refusal badRequest) (noted _)) (refusal outOfPlace)
+
+  unsigned-refusal : (r : Refusal) → Unsigned (record { answer = refused r; controller = c; statements = X })
+  unsigned-refusal r = record { unsigned = refl }
+
+  unsigned-noted : (d : Controller) → Unsigned (record { answer = taken; controller = d; statements = X })
+  unsigned-noted d = record { unsigned = refl }
+
+  pub join-unsigned : Unsigned (requestJoin c X)
+  unfolding requestJoin
+  join-unsigned = neither (c .isSetUp) (neither (member (c .ring .init) (c .number) || c .joinRequested) (unsigned-refusal badRequest) (unsigned-noted _)) (unsigned-refusal outOfPlace)
+
+  pub leave-unsigned : Unsigned (requestLeave c X)
+  unfolding requestLeave
+  leave-unsigned = neither (c .isSetUp) (neither (eqb (length (c .entered)) 0 || c .leaveRequested) (unsigned-refusal badRequest) (unsigned-noted _)) (unsigned-refusal outOfPlace)
+
+  pub send-unsigned : (m : ℕ) → Unsigned (requestSend c X m)
+  unfolding requestSend
+  send-unsigned m = neither (c .isSetUp) (neither (not (eqb (c .number) (c .sender)) || isSome (c .sendRequested)) (unsigned-refusal badRequest) (unsigned-noted _)) (unsigned-refusal outOfPlace)
 
   performed : (room : Stmt → Bool) (a : Option Action) → Stays c X (perform c X room a)
   unfolding perform signing

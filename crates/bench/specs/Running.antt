@@ -1,51 +1,56 @@
--- A schedule's run: the sixteen controllers in memory, and what was printed so far.
+-- A schedule's run: the sixteen controllers and their records in memory, and what was printed so far.
 -- Assumes nothing.
 use mathlib.Core.Path.{_≡_}
 use mathlib.Core.Bool.{Bool, true, false}
 use mathlib.Core.List.{List, [], _∷_, _++_}
-use mathlib.Core.Option.{Option}
+use mathlib.Core.Option.{Option, some}
 use Prim.Native.Nat.{ℕ, _+_, _*_, _<_, _≤_}
 use lib.ListN.{length, getD, drop}
 use lib.Seq.{sets}
 use Rattle.protocol.specs.Call.{started}
 use Rattle.views.specs.Table.{table}
+use Rattle.pool.specs.Pool.{recordLen}
 use Rattle.engine.specs.declared.Controller.{Controller}
 use Rattle.engine.specs.declared.Answer.{Answer}
-use Rattle.engine.specs.Meaning.{Whole}
+use Rattle.engine.specs.Meaning.{controllerIs, AllIn}
 use Rattle.bench.specs.declared.state.Setting.{Setting}
-use Rattle.schedule.specs.Line.{Line, lines, ReadAll}
-use Rattle.bench.specs.Bench.{Seat, Bench, newBench}
-use Rattle.bench.specs.Rows.{rowsFrom, Printed}
+use Rattle.bench.specs.declared.lines.Place.{Place}
+use Rattle.bench.specs.declared.lines.Moved.{Moved}
+use Rattle.schedule.specs.Line.{Line, ended, lines, Reads, ReadAll}
+use Rattle.bench.specs.Bench.{Seat, Bench, Reply, newBench}
+use Rattle.bench.specs.Rows.{rowText, rowsFrom, Printed}
 use Rattle.bench.specs.Writing.{rowOf}
-use Rattle.bench.specs.Seats.{blank, seatIs, benchOf, Distinct, Full, wordOf, valueOf}
+use Rattle.bench.specs.Seats.{blank, seatIs, benchOf, Distinct, Full, Advanced, wordOf, valueOf}
 
 -- The row of a line.
 unfoldable pub rowIs : ℕ → ℕ → Answer → ℕ → List ℕ
 rowIs n who a number = rowOf n who (wordOf a) (valueOf a number)
 
 -- The sixteen seats.
-unfoldable pub seatsIs : List ℕ → List Controller → List Seat
-seatsIs W cs = table 16 (λ k. seatIs W (getD cs k blank))
+unfoldable pub seatsIs : List ℕ → List Controller → List (List ℕ) → List Seat
+seatsIs W cs Rs = table 16 (λ k. seatIs W (getD cs k blank) (getD Rs k []))
 
 -- The bench in memory.
-abbrev pub benchIs : Setting → List ℕ → List Controller → Bench
-benchIs g W cs = benchOf (g .ready) (g .faulty) (seatsIs W cs) W
+abbrev pub benchIs : Setting → List ℕ → List Controller → List (List ℕ) → Bench
+benchIs g W cs Rs = benchOf (g .ready) (g .faulty) (seatsIs W cs Rs) W
 
--- What the bench keeps of its pool and its controllers.
-pub record Kept (W : List ℕ) (cs : List Controller) : Type 0 where
+-- What the bench keeps of its pool, its controllers and their records.
+pub record Kept (W : List ℕ) (cs : List Controller) (Rs : List (List ℕ)) : Type 0 where
   pub distinct : Distinct W
   pub long : length cs ≡ 16
-  pub whole : (k : ℕ) → k < 16 → Whole W (getD cs k blank)
+  pub records : length Rs ≡ 16
+  pub whole : (k : ℕ) → k < 16 → AllIn W (getD Rs k [])
 
--- Controller k has every number below fs at k.
-pub record Fulls (cs : List Controller) (fs : List ℕ) : Type 0 where
+-- Record k has every number below fs at k.
+pub record Fulls (Rs : List (List ℕ)) (fs : List ℕ) : Type 0 where
   pub long : length fs ≡ 16
-  pub each : (k : ℕ) → k < 16 → Full (getD cs k blank .statements) (getD fs k 0)
+  pub each : (k : ℕ) → k < 16 → Full (getD Rs k []) (getD fs k 0)
 
--- Every controller has just started.
-pub record Started (members sender : ℕ) (cs : List Controller) : Type 0 where
+-- Every controller has just started, with an empty record.
+pub record Started (members sender : ℕ) (cs : List Controller) (Rs : List (List ℕ)) : Type 0 where
   pub long : length cs ≡ 16
-  pub each : (k : ℕ) → k < 16 → (W : List ℕ) → (seatIs W (getD cs k blank) ≡ record { controller = started k members sender; statements = [] }) × Whole W (getD cs k blank)
+  pub records : length Rs ≡ 16
+  pub each : (k : ℕ) → k < 16 → (controllerIs (getD cs k blank) ≡ started k members sender) × (recordLen (getD Rs k []) ≡ 0)
 
 -- The whole schedule reads so, and its rows are those printed and then those of the rest.
 pub record Reading (S : List ℕ) (printed rest : List ℕ) : Type 0 where
@@ -53,15 +58,56 @@ pub record Reading (S : List ℕ) (printed rest : List ℕ) : Type 0 where
   pub reads : ReadAll (lines S) reading
   pub rows : rowsFrom 1 newBench reading ≡ printed ++ rest
 
--- The lines before `at` were run: n is the next line's number and b the bench; `printed` stands in the rows R′ after the header.
-pub record Going (S : List ℕ) (at n : ℕ) (b : Bench) (R R′ : List ℕ) (out : ℕ) : Type 0 where
+-- The lines before the place were run, and b is the bench; `printed` stands in the rows R′ after the header.
+pub record Going (S : List ℕ) (place : Place) (b : Bench) (R R′ : List ℕ) : Type 0 where
   pub printed : List ℕ
   pub rows : R′ ≡ sets R 22 printed
-  pub end : out ≡ 22 + length printed
-  pub small : length printed ≤ 40 * at
-  pub number : n ≤ at + 1
-  pub within : at ≤ length S
-  pub rest : (L : List (Option Line)) → ReadAll (lines (drop at S)) L → Reading S printed (rowsFrom n b L)
+  pub end : place .out ≡ 22 + length printed
+  pub small : length printed ≤ 40 * place .at
+  pub number : place .n ≤ place .at + 1
+  pub within : place .at ≤ length S
+  pub rest : (L : List (Option Line)) → ReadAll (lines (drop (place .at) S)) L → Reading S printed (rowsFrom (place .n) b L)
+
+-- A run before the first line, with the rows after the header.
+pub record Begins (place : Place) : Type 0 where
+  pub ready : place .setting .ready ≡ false
+  pub faulty : place .setting .faulty ≡ 0
+  pub at : place .at ≡ 0
+  pub number : place .n ≡ 1
+  pub out : place .out ≡ 22
+
+-- A run that has room for one more row and goes on so many bytes later.
+pub record Room (place : Place) (next : ℕ) : Type 0 where
+  pub out : place .out ≤ 2621504
+  pub number : place .n < 100000
+  pub at : place .at + next ≤ 65536
+
+-- The row went into the rows R where the run stood; it goes on so many bytes later, with the next line.
+pub record Passed (R : List ℕ) (place : Place) (next : ℕ) (row : List ℕ) (on : Place) (R′ : List ℕ) : Type 0 where
+  pub at : on .at ≡ place .at + next
+  pub number : on .n ≡ place .n + 1
+  pub end : on .out ≡ place .out + length row
+  pub rows : R′ ≡ sets R (place .out) row
+  pub small : length row ≤ 40
+
+-- What a row of a line that leaves all settings as they are does to the run.
+pub record Put (R : List ℕ) (place : Place) (next : ℕ) (row : List ℕ) (on : Place) (R′ : List ℕ) : Type 0 where
+  pub passed : Passed R place next row on R′
+  pub setting : on .setting ≡ place .setting
+
+-- Up to where a record is known to have every number after a line, over a pool of n statements: the whole pool, or as before.
+abbrev pub fullAfter : Bool → ℕ → ℕ → ℕ
+fullAfter true n full = n
+fullAfter false n full = full
+
+-- The line in the text T, which calls no controller, was run on the record R at seat k.
+pub record LineRun (W R : List ℕ) (place : Place) (k : ℕ) (T : List ℕ) (rows : List ℕ) (s : Moved) (W′ R′ rows′ : List ℕ) : Type 0 where
+  pub line : Line
+  pub reads : Reads (ended T) (some line)
+  pub reply : Reply
+  pub passed : Passed rows place (length T + 1) (rowText (place .n) reply) (s .place) rows′
+  pub advanced : Advanced W R (place .setting) k line reply (s .place .setting) (s .fresh) W′ R′
+  pub full-is : s .fresh ≡ false → Full R′ (s .full)
 
 -- The rows of a schedule stand after the header.
 pub record Ran (S : List ℕ) (R R′ : List ℕ) (out : ℕ) : Type 0 where

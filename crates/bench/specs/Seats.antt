@@ -1,27 +1,26 @@
--- The bench in memory: controllers over the pool's memory W, and what a line on one of them promises.
+-- The bench in memory: controllers and records over the pool's memory W, and what a line on one of them promises. R is the memory of a record.
 -- Assumes nothing.
 use mathlib.Core.Path.{_≡_}
-use mathlib.Core.Logic.{_⊎_}
 use mathlib.Core.Bool.{Bool, true, false, not}
 use mathlib.Core.List.{List, [], _∷_, _++_}
-use mathlib.Core.Option.{Option, some, none}
-use Prim.Native.Nat.{ℕ, _+_, _<_, _≤_, min}
+use mathlib.Core.Option.{some}
+use Prim.Native.Nat.{ℕ, _+_, _<_, _≤_}
 use lib.Dec.{eqb}
 use lib.ListN.{length, getD, set}
 use Rattle.protocol.specs.Lists.{if_then_else_, any, filter}
 use Rattle.protocol.specs.View.{controllers}
-use Rattle.protocol.specs.Statement.{Stmt, sameStmt}
+use Rattle.protocol.specs.Statement.{sameStmt}
 use Rattle.protocol.specs.Call.{setupAllowed, started}
 use Rattle.views.specs.Table.{table}
 use Rattle.statements.specs.declared.Binding.the-variants.{Unbound}
-use Rattle.pool.specs.declared.Record.{Record}
-use Rattle.pool.specs.Pool.{stmtAt, poolLen, recordOf}
+use Rattle.pool.specs.Pool.{stmtAt, poolLen, recordLen, recordIn}
 use Rattle.engine.specs.declared.Controller.{Controller}
+use Rattle.engine.specs.declared.Outcome.{Outcome}
 use Rattle.rules.specs.declared.Send.the-variants.{Nothing}
 use Rattle.engine.specs.declared.Answer.{Answer}
-use Rattle.engine.specs.declared.Answer.the-variants.{Taken, Signed, Entered, Delivered, Left, Quiet, Refused}
 use Rattle.engine.specs.declared.Refusal.{Refusal}
-use Rattle.engine.specs.Meaning.{controllerIs, recordIs, poolIs, AllIn, Whole, answerIs, refusalIs}
+use Rattle.engine.specs.declared.Answer.the-variants.{Taken, Signed, Entered, Delivered, Left, Quiet, Refused}
+use Rattle.engine.specs.Meaning.{controllerIs, poolIs, AllIn, answerIs, refusalIs}
 use Rattle.protocol.specs.Controller.{refusalNumber, taken}
 use Rattle.schedule.specs.declared.line.Line.{Line as Held}
 use Rattle.schedule.specs.declared.line.Line.the-variants as is
@@ -31,15 +30,13 @@ use Rattle.bench.specs.declared.row.Word.{Word}
 use Rattle.bench.specs.declared.row.Word.the-variants as word
 use Rattle.bench.specs.declared.row.Value.{Value}
 use Rattle.bench.specs.declared.row.Value.the-variants as value
-use Rattle.bench.specs.declared.seat.Replied.{Replied}
-use Rattle.bench.specs.declared.seat.Missing.{Missing}
+use Rattle.bench.specs.declared.seat.Given.{Given}
 use Rattle.bench.specs.declared.state.Setting.{Setting}
 use Rattle.bench.specs.declared.state.Stepped.{Stepped}
 use Rattle.schedule.specs.Line.{Line, ended, Reads}
+use Rattle.schedule.specs.Line as lines
 use Rattle.schedule.specs.Reading.{meant, Tells}
 use Rattle.bench.specs.Bench.{Seat, emptySeat, Bench, Reply, step}
-use Rattle.bench.specs.Bench as bench
-use Rattle.bench.specs.Writing.{rowOf}
 
 -- What stands past the end of a list of controllers.
 abbrev pub blank : Controller
@@ -54,12 +51,11 @@ blank = record {
   joining = false;
   leaving = false;
   sending = Nothing;
-  statements = record { ids = []; len = 0 };
 }
 
 -- A controller and its record.
-abbrev pub seatIs : List ℕ → Controller → Seat
-seatIs W c = record { controller = controllerIs c; statements = recordIs W c }
+abbrev pub seatIs : List ℕ → Controller → List ℕ → Seat
+seatIs W c R = record { controller = controllerIs c; statements = recordIn W R }
 
 -- The bench with these seats over the pool's memory.
 abbrev pub benchOf : Bool → ℕ → List Seat → List ℕ → Bench
@@ -69,35 +65,40 @@ benchOf ready faulty X W = record { isSetUp = ready; faulty = faulty; seats = X;
 pub record Distinct (W : List ℕ) : Type 0 where
   pub tells : (i j : ℕ) → i < poolLen W → j < poolLen W → sameStmt (stmtAt W i) (stmtAt W j) ≡ eqb i j
 
--- What the bench keeps of its pool and of each controller.
-pub record Sound (W : List ℕ) (c : Controller) : Type 0 where
+-- What the bench keeps of its pool and of each record.
+pub record Sound (W R : List ℕ) : Type 0 where
   pub distinct : Distinct W
-  pub whole : Whole W c
+  pub whole : AllIn W R
 
 -- The statements that the pool had keep their numbers.
 pub record Grows (W W′ : List ℕ) : Type 0 where
   pub len : poolLen W ≤ poolLen W′
   pub same : (n : ℕ) → n < poolLen W → stmtAt W′ n ≡ stmtAt W n
 
--- The record of these numbers.
-abbrev pub recordWith : List ℕ → ℕ → Record
-recordWith ids len = record { ids = ids; len = len }
+-- ---- a record's numbers
 
--- Whether n is one of the record's numbers.
-unfoldable pub listed : Record → ℕ → Bool
-listed r n = any (eqb n) (table (min (r .len) 512) (λ i. getD (r .ids) i 0))
+unfoldable pub numbersIn : List ℕ → List ℕ
+numbersIn R = table (recordLen R) (λ i. getD R i 0)
+
+-- Whether n is one of them.
+unfoldable pub listed : List ℕ → ℕ → Bool
+listed R n = any (eqb n) (numbersIn R)
 
 -- The record has every number below m.
-unfoldable pub Full : Record → ℕ → Type 0
-Full r m = (i : ℕ) → i < m → listed r i ≡ true
+unfoldable pub Full : List ℕ → ℕ → Type 0
+Full R m = (i : ℕ) → i < m → listed R i ≡ true
 
--- Every number that the record has is below 512.
-pub record Numbered (r : Record) : Type 0 where
-  pub below : (i : ℕ) → i < min (r .len) 512 → getD (r .ids) i 0 < 512
+-- The record has what it had.
+unfoldable pub Keeps : List ℕ → List ℕ → Type 0
+Keeps R R′ = (i : ℕ) → listed R i ≡ true → listed R′ i ≡ true
+
+-- Every number that the record has is below m.
+unfoldable pub Below : List ℕ → ℕ → Type 0
+Below R m = (i : ℕ) → i < recordLen R → getD R i 0 < m
 
 -- marks tell which numbers below 512 the record has.
-pub record Marks (r : Record) (marks : List Bool) : Type 0 where
-  pub tells : (n : ℕ) → n < 512 → getD marks n false ≡ listed r n
+pub record Marks (R : List ℕ) (marks : List Bool) : Type 0 where
+  pub tells : (n : ℕ) → n < 512 → getD marks n false ≡ listed R n
 
 -- Every number from i on, below j, has a mark.
 unfoldable pub Marked : List Bool → ℕ → ℕ → Type 0
@@ -110,31 +111,37 @@ pub record FirstFree (marks : List Bool) (i n r : ℕ) : Type 0 where
   pub passed : Marked marks i r
   pub free : r < n → getD marks r false ≡ false
 
--- The statements of the pool below n that the list X lacks.
-unfoldable pub lacking : List ℕ → List Stmt → ℕ → List Stmt
-lacking W X n = filter (λ s. not (any (sameStmt s) X)) (table n (stmtAt W))
+-- The numbers below n that have no mark, rising.
+unfoldable pub unmarked : List Bool → ℕ → List ℕ
+unmarked marks n = filter (λ i. not (getD marks i false)) (table n (λ i. i))
 
--- The record with every statement of the pool that it lacked, in rising number, and how many they were. A record has no more than 512.
-pub record Filled (W : List ℕ) (from : Record) (n : ℕ) (m : Missing) : Type 0 where
-  pub count : m .count ≡ length (lacking W (recordOf W (from .ids) (from .len)) n)
-  pub means : min (from .len) 512 + m .count ≤ 512 → recordOf W (m .statements .ids) (m .statements .len) ≡ recordOf W (from .ids) (from .len) ++ lacking W (recordOf W (from .ids) (from .len)) n
-  pub within : AllIn W (m .statements)
+-- The numbers below n that had no mark are at the end of the record, if it had room for all of them.
+pub record Filled (R : List ℕ) (marks : List Bool) (n : ℕ) (R′ : List ℕ) : Type 0 where
+  pub numbers : recordLen R + length (unmarked marks n) ≤ 512 → numbersIn R′ ≡ numbersIn R ++ unmarked marks n
+  pub below : (m : ℕ) → n ≤ m → Below R m → Below R′ m
 
--- The line l, which names controller k, was answered by r: what it does to every bench that has c there.
-pub record Seated (W : List ℕ) (ready : Bool) (c : Controller) (k : ℕ) (l : Line) (r : Replied) (W′ : List ℕ) : Type 0 where
-  pub steps : (faulty : ℕ) (X : List Seat) → getD X k emptySeat ≡ seatIs W c
+-- ---- a line that goes to one record
+
+-- The line l, which names seat k, was answered so: what it does to every bench that has the record R there.
+pub record Seated (W R : List ℕ) (ready : Bool) (k : ℕ) (l : Line) (r : Given) (R′ : List ℕ) : Type 0 where
+  pub steps : (faulty : ℕ) (X : List Seat) → getD X k emptySeat .statements ≡ recordIn W R
       → step (benchOf ready faulty X W) (some l)
-      ≡ record { reply = record { who = k; answer = answerIs W′ (r .answer); number = r .number }; bench = benchOf ready faulty (set X k (seatIs W′ (r .controller))) W′ }
-  pub sound : Sound W′ (r .controller)
-  pub grows : Grows W W′
-  -- What is not stored is as it was.
-  pub same : r .changed ≡ false → seatIs W′ (r .controller) ≡ seatIs W c
+      ≡ record {
+        reply = record { who = k; answer = answerIs W (r .answer); number = r .number };
+        bench = benchOf ready faulty (set X k (record { controller = getD X k emptySeat .controller; statements = recordIn W R′ })) W;
+      }
+  pub whole : AllIn W R′
+  pub keeps : Keeps R R′
+  pub full : r .whole ≡ true → Full R′ (poolLen W)
 
--- What `all` promises of the numbers: c stays, and has all of the pool where the answer is taken; or it is to be stored, and then has all.
-unfoldable pub Gives : List ℕ → Controller → Replied → Type 0
-Gives W c r =
-    ((r .controller ≡ c) × (r .answer ≡ Taken → Full (c .statements) (poolLen W)))
-    ⊎ ((r .changed ≡ true) × (r .answer ≡ Taken) × Full (r .controller .statements) (poolLen W))
+-- What `give` of statement n promises, and what `all` does, whomever they name.
+pub record Gives (W R : List ℕ) (ready : Bool) (n : ℕ) (r : Given) (R′ : List ℕ) : Type 0 where
+  pub to : (k : ℕ) → Seated W R ready k (lines.give k n) r R′
+
+pub record GivesAll (W R : List ℕ) (ready : Bool) (r : Given) (R′ : List ℕ) : Type 0 where
+  pub to : (k : ℕ) → Seated W R ready k (lines.all k) r R′
+
+-- ---- a call
 
 -- The number beside an engine's answer: of a signed statement its own.
 abbrev pub numberIs : Answer → ℕ
@@ -156,20 +163,19 @@ changesIs Left = false
 changesIs Quiet = false
 changesIs (Refused r) = false
 
--- Up to where a record is known to have every number after a line: as before, or 0 where its controller changed.
-abbrev pub keptIs : Bool → ℕ → ℕ
-keptIs true full = 0
-keptIs false full = full
-
--- The same after an `all` that answers so, over a pool of n statements: n where it was taken.
-abbrev pub filledIs : Answer → ℕ → ℕ → ℕ
-filledIs Taken n full = n
-filledIs (Signed i) n full = full
-filledIs (Entered v) n full = full
-filledIs (Delivered m) n full = full
-filledIs Left n full = full
-filledIs Quiet n full = full
-filledIs (Refused r) n full = full
+-- The line l calls controller c at seat k, which has the record R: what it does to every bench that has them there.
+pub record CalledAt (W R : List ℕ) (c : Controller) (k : ℕ) (l : Line) (o : Outcome) (W′ R′ : List ℕ) : Type 0 where
+  pub steps : (ready : Bool) (faulty : ℕ) (X : List Seat) → getD X k emptySeat ≡ seatIs W c R
+      → step (benchOf ready faulty X W) (some l)
+      ≡ record {
+        reply = record { who = k; answer = answerIs W′ (o .answer); number = numberIs (o .answer) };
+        bench = benchOf ready faulty (set X k (seatIs W′ (o .controller) R′)) W′;
+      }
+  pub sound : Sound W′ R′
+  pub grows : Grows W W′
+  pub keeps : Keeps R R′
+  -- A controller that is not stored is as it was.
+  pub same : changesIs (o .answer) ≡ false → controllerIs (o .controller) ≡ controllerIs c
 
 -- ---- any line
 
@@ -185,74 +191,90 @@ seatOf (Readable (is.Turn k)) = k
 seatOf (Readable is.Lie) = 0
 seatOf Unreadable = 0
 
+-- Whether a line calls the controller that it names.
+abbrev pub isCall : Held → Bool
+isCall (is.Setup members sender faulty) = false
+isCall (is.Join k) = true
+isCall (is.Leave k) = true
+isCall (is.Send k m) = true
+isCall (is.Give k n) = false
+isCall (is.All k) = false
+isCall (is.Turn k) = true
+isCall is.Lie = false
+
 -- The line l was read from the text T.
 pub record Fit (l : Held) (T : List ℕ) : Type 0 where
   pub tells : Tells (meant l) (ended T)
 
--- The seats after a line: a setup that is taken starts all of them, every other line changes at most one.
-abbrev pub seatsAfter : Stepped → List ℕ → ℕ → List Seat → List Seat
-seatsAfter r W′ k X =
-    if r .fresh then table controllers (λ j. record { controller = started j (r .setting .members) (r .setting .sender); statements = [] })
-    else set X k (seatIs W′ (r .controller))
+-- The line l calls the controller c, which has the record R.
+pub record Called (W R : List ℕ) (c : Controller) (l : Held) (o : Outcome) (W′ R′ : List ℕ) : Type 0 where
+  pub line : Line
+  pub means : meant l ≡ some line
+  pub called : CalledAt W R c (seatOf (Readable l)) line o W′ R′
 
-abbrev pub replyIs : List ℕ → Stepped → Reply
-replyIs W r = record { who = r .who; answer = answerIs W (r .answer); number = r .number }
+-- The seats after a line that calls no controller: a setup that is taken starts all of them, every other line changes at most one record.
+abbrev pub seatsAfter : Bool → Setting → List ℕ → List ℕ → ℕ → List Seat → List Seat
+seatsAfter fresh g W′ R′ k X =
+    if fresh then table controllers (λ j. record { controller = started j (g .members) (g .sender); statements = [] })
+    else set X k (record { controller = getD X k emptySeat .controller; statements = recordIn W′ R′ })
 
-abbrev pub replied : Answer → ℕ → Controller → Replied
-replied a n c = record { answer = a; number = n; controller = c; changed = changesIs a }
+abbrev pub replyIs : List ℕ → ℕ → Answer → ℕ → Reply
+replyIs W who a number = record { who = who; answer = answerIs W a; number = number }
 
--- What is told of a line on controller k that was answered by r, and of one that was refused.
-pub record SeatedAs (g : Setting) (k : ℕ) (r : Replied) (s : Stepped) : Type 0 where
-  pub who : s .who ≡ k
+-- The line l, which calls no controller, on a bench that has the record R at seat k: its reply is y, and what the setup said is h after it. `fresh` tells that every controller is to start.
+pub record Advanced (W R : List ℕ) (g : Setting) (k : ℕ) (l : Line) (y : Reply) (h : Setting) (fresh : Bool) (W′ R′ : List ℕ) : Type 0 where
+  pub steps : (X : List Seat) → getD X k emptySeat .statements ≡ recordIn W R
+      → step (benchOf (g .ready) (g .faulty) X W) (some l) ≡ record { reply = y; bench = benchOf (h .ready) (h .faulty) (seatsAfter fresh h W′ R′ k X) W′ }
+  pub sound : fresh ≡ false → Sound W′ R′
+  pub grows : fresh ≡ false → Grows W W′
+  pub keeps : fresh ≡ false → Keeps R R′
+  pub begun : fresh ≡ true → (poolLen W′ ≡ 0) × (setupAllowed 0 (h .members) (h .sender) ≡ true)
+
+-- What `step` answers of a line.
+pub record SteppedAs (W R : List ℕ) (g : Setting) (k : ℕ) (l : Line) (s : Stepped) (W′ R′ : List ℕ) : Type 0 where
+  pub who : s .who ≤ 16
+  pub advanced : Advanced W R g k l (replyIs W′ (s .who) (s .answer) (s .number)) (s .setting) (s .fresh) W′ R′
+  pub full : s .whole ≡ true → Full R′ (poolLen W′)
+
+-- The text T reads as a line, which does this.
+pub record SteppedBy (W R : List ℕ) (g : Setting) (k : ℕ) (T : List ℕ) (s : Stepped) (W′ R′ : List ℕ) : Type 0 where
+  pub line : Line
+  pub reads : Reads (ended T) (some line)
+  pub stepped : SteppedAs W R g k line s W′ R′
+
+-- The same of a line that goes to the pool alone: whatever record stands at the first seat stays.
+pub record Pools (W : List ℕ) (g : Setting) (l : Line) (s : Stepped) (W′ : List ℕ) : Type 0 where
+  pub over : (R : List ℕ) → AllIn W R → SteppedAs W R g 0 l s W′ R
+
+pub record PoolsBy (W : List ℕ) (g : Setting) (T : List ℕ) (s : Stepped) (W′ : List ℕ) : Type 0 where
+  pub over : (R : List ℕ) → AllIn W R → SteppedBy W R g 0 T s W′ R
+
+-- What is told of a lie whose text is no statement.
+pub record NoStatement (g : Setting) (s : Stepped) : Type 0 where
+  pub pools : (W : List ℕ) → Distinct W → Pools W g lines.noStatement s W
+
+-- What is told of a line that was answered so and leaves all settings as they were.
+pub record ToldAs (g : Setting) (who : ℕ) (r : Given) (s : Stepped) : Type 0 where
+  pub who-is : s .who ≡ who
   pub answer : s .answer ≡ r .answer
   pub number : s .number ≡ r .number
-  pub controller : s .controller ≡ r .controller
   pub setting : s .setting ≡ g
   pub fresh : s .fresh ≡ false
-  pub changed : s .changed ≡ r .changed
+  pub whole : s .whole ≡ r .whole
 
-pub record RefusedAs (c : Controller) (g : Setting) (who : ℕ) (q : Refusal) (s : Stepped) : Type 0 where
-  pub who-is : s .who ≡ who
-  pub answer : s .answer ≡ Refused q
-  pub number : s .number ≡ 0
-  pub controller : s .controller ≡ c
-  pub setting : s .setting ≡ g
-  pub fresh : s .fresh ≡ false
-  pub changed : s .changed ≡ false
+abbrev pub refusedFor : Refusal → Given
+refusedFor q = record { answer = Refused q; number = 0; whole = false }
 
--- What a line other than `all` tells of the numbers.
-abbrev pub Keeps : ℕ → Stepped → Type 0
-Keeps full s = s .full ≡ keptIs (s .changed) full
+abbrev pub takenAs : ℕ → Bool → Given
+takenAs n whole = record { answer = Taken; number = n; whole = whole }
 
--- What a line promises of the numbers that the controller in the seat has after it, where c had all below full.
-pub record Knows (c : Controller) (full : ℕ) (s : Stepped) : Type 0 where
-  pub stored : Full (c .statements) full → s .changed ≡ true → Full (s .controller .statements) (s .full)
-  pub stays : Full (c .statements) full → s .changed ≡ false → Full (c .statements) (s .full)
-
--- The line leaves every bench as it is and answers taken with 0, where the controller that it names has every number below full.
+-- The line leaves every bench as it is and answers taken with 0, where the record of the controller that it names has every number below full.
 pub record Needless (W : List ℕ) (g : Setting) (full : ℕ) (l : Held) : Type 0 where
   pub line : Line
   pub means : meant l ≡ some line
-  pub steps : (c : Controller) → Sound W c → Full (c .statements) full → (X : List Seat) → getD X (seatOf (Readable l)) emptySeat ≡ seatIs W c
+  pub steps : (R : List ℕ) → Sound W R → Full R full → (X : List Seat) → getD X (seatOf (Readable l)) emptySeat .statements ≡ recordIn W R
       → step (benchOf (g .ready) (g .faulty) X W) (some line)
       ≡ record { reply = record { who = seatOf (Readable l); answer = taken; number = 0 }; bench = benchOf (g .ready) (g .faulty) X W }
-
--- The line l on a bench that has c at seat k.
-pub record Advanced (W : List ℕ) (g : Setting) (c : Controller) (k : ℕ) (l : Option Line) (r : Stepped) (W′ : List ℕ) : Type 0 where
-  pub steps : (X : List Seat) → getD X k emptySeat ≡ seatIs W c
-      → step (benchOf (g .ready) (g .faulty) X W) l ≡ record { reply = replyIs W′ r; bench = benchOf (r .setting .ready) (r .setting .faulty) (seatsAfter r W′ k X) W′ }
-  pub who : r .who ≤ 16
-  pub sound : r .fresh ≡ false → Sound W′ (r .controller)
-  pub grows : r .fresh ≡ false → Grows W W′
-  -- A seat that is not stored is as it was.
-  pub same : r .fresh ≡ false → r .changed ≡ false → seatIs W′ (r .controller) ≡ seatIs W c
-  pub begun : r .fresh ≡ true → (poolLen W′ ≡ 0) × (setupAllowed 0 (r .setting .members) (r .setting .sender) ≡ true)
-
--- The text T reads as a line, which does this on a bench that has c at seat k.
-pub record AdvancedBy (W : List ℕ) (g : Setting) (c : Controller) (k : ℕ) (T : List ℕ) (r : Stepped) (W′ : List ℕ) : Type 0 where
-  pub line : Line
-  pub reads : Reads (ended T) (some line)
-  pub advanced : Advanced W g c k (some line) r W′
 
 -- ---- rows
 

@@ -1,25 +1,29 @@
 // A schedule to its rows.
 ghost use mathlib.Core.Path.{_≡_};
-ghost use mathlib.Core.Bool.{true};
-ghost use Prim.Native.Nat.{_+_, _<_, _≤_};
+ghost use mathlib.Core.Bool.{true, false};
+ghost use mathlib.Core.List.{List};
+ghost use Prim.Native.Nat.{ℕ, _+_, _<_, _≤_};
 ghost use lib.ListN.{length};
-ghost use lib.Seq.{sets};
 ghost use Rattle.protocol.specs.Controller.{refusalNumber};
 ghost use Rattle.protocol.specs.Call.{setupAllowed};
 ghost use Rattle.engine.specs.Meaning.{refusalIs};
 ghost use Rattle.schedule.specs.declared.line.Parsed.the-variants.{Readable};
 ghost use Rattle.bench.specs.Rows.{Answered};
-ghost use Rattle.bench.specs.Seats.{seatOf, wordOf, valueOf};
-ghost use Rattle.bench.specs.Running.{rowIs, Started, Ran, Wrote, Long};
+ghost use Rattle.bench.specs.Seats.{Sound, Full, Fit, seatOf, isCall, wordOf, valueOf};
+ghost use Rattle.bench.specs.Writing.{rowOf};
+ghost use Rattle.bench.specs.Running.{rowIs, Started, Room, Put, fullAfter, LineRun, Begins, Ran, Wrote, Long};
+ghost use Rattle.pool.specs.Pool.{poolLen};
 use crate::row;
 use crate::row::Value;
 use crate::row::Word;
 use crate::state;
+use crate::state::NOBODY;
 use crate::state::Setting;
 use engine::Answer;
 use engine::Controller;
 use engine::Refusal;
 use pool::POOL_WORDS;
+use pool::RECORD;
 use schedule::line;
 use schedule::line::Line;
 use schedule::line::Parsed;
@@ -74,12 +78,41 @@ fn value_of(a: Answer, n: u64) -> Value
     }
 }
 
-// The row of line n. It takes what the row names alone, so that no controller is passed.
-fn put_step(rows: &mut [u8], at: usize, n: u64, who: u64, a: Answer, number: u64) -> usize
-    requires { ⌜ (at ≤ 2621504) × (n < 100000) × (who ≤ 16) ⌝ }
-    ensures { λ r. ⌜ (r ≡ at + length (rowIs n who a number)) × (now (rows .exit) ≡ sets (now (rows .entry)) at (rowIs n who a number)) × (length (rowIs n who a number) ≤ 40) ⌝ }
+// Where a run stands: what the setup said, where the next line starts, its number, and where its row goes.
+struct Place {
+    setting: Setting,
+    at: usize,
+    n: u64,
+    out: usize,
+}
+
+// What a line that calls no controller leaves: `fresh` where every controller is to start. Its record is known to have every number below `full`.
+struct Moved {
+    place: Place,
+    fresh: bool,
+    full: usize,
+}
+
+// Writes a row, and goes on with the line that starts so many bytes later.
+fn put_line(rows: &mut [u8], place: Place, next: usize, who: u64, word: Word, value: Value) -> Place
+    requires { ⌜ Room place next × (who ≤ 16) ⌝ }
+    ensures { λ r. ⌜ Put (now (rows .entry)) place next (rowOf (place .n) who word value) r (now (rows .exit)) ⌝ }
 {
-    row::put_row_within(rows, at, n, who, word_of(a), value_of(a, number))
+    let end = row::put_row_within(rows, place.out, place.n, who, word, value);
+    Place {
+        at: place.at + next,
+        n: place.n + 1,
+        out: end,
+        ..place
+    }
+}
+
+// The row of an answer.
+fn put_step(rows: &mut [u8], place: Place, next: usize, who: u64, a: Answer, number: u64) -> Place
+    requires { ⌜ Room place next × (who ≤ 16) ⌝ }
+    ensures { λ r. ⌜ Put (now (rows .entry)) place next (rowIs (place .n) who a number) r (now (rows .exit)) ⌝ }
+{
+    put_line(rows, place, next, who, word_of(a), value_of(a, number))
 }
 
 // The seat of the controller that a line names; the first where it names none.
@@ -98,21 +131,84 @@ fn seat_of(line: Line) -> usize
     }
 }
 
-// Sixteen controllers that have just started.
-fn start_all(members: u16, sender: u8) -> [Controller; SEATS]
-    requires { ⌜ setupAllowed 0 members sender ≡ true ⌝ }
-    ensures { λ r. ⌜ Started members sender r ⌝ }
+// How many records there are. A proof that one was written asks for it.
+fn seats_of(records: &[[u16; RECORD]; SEATS]) -> usize
+    ensures { λ r. ⌜ length (now (records .entry)) ≡ 16 ⌝ }
 {
+    let s = &records[..];
+    s.len()
+}
+
+// Sixteen controllers that have just started, and their records emptied.
+fn start_all(records: &mut [[u16; RECORD]; SEATS], members: u16, sender: u8) -> [Controller; SEATS]
+    requires { ⌜ setupAllowed 0 members sender ≡ true ⌝ }
+    ensures { λ r. ⌜ Started members sender r (now (records .exit)) ⌝ }
+{
+    seats_of(records);
     let c = Controller::new();
     let mut seats = [c; SEATS];
     let mut k = 0usize;
     while k < SEATS {
-        let o = c.setup(k as u8, members, sender);
+        let o = c.setup(&mut records[k], k as u8, members, sender);
         let d = o.controller;
         seats[k] = d;
         k += 1;
     }
     seats
+}
+
+// Up to where a record is known to have every number after a line: the whole pool, or as before.
+fn known(words: &[u64; POOL_WORDS], whole: bool, full: usize) -> usize
+    ensures { λ r. ⌜ r ≡ fullAfter whole (poolLen (now (words .entry))) full ⌝ }
+{
+    if whole {
+        return pool::pool_len(words);
+    }
+    full
+}
+
+// A line that calls no controller: what it does, and its row.
+fn run_line(
+    rows: &mut [u8],
+    place: Place,
+    ids: &mut [u16; RECORD],
+    words: &mut [u64; POOL_WORDS],
+    line: Line,
+    text: &[u8],
+    full: usize,
+) -> Moved
+    requires { ⌜ Sound (now words) (now ids) × Fit line (now text) × (isCall line ≡ false) × Room place (length (now text) + 1) × Full (now ids) full ⌝ }
+    ensures { λ r. ⌜ LineRun (now (words .entry)) (now (ids .entry)) place (seatOf (Readable line)) (now (text .entry)) (now (rows .entry)) r (now (words .exit)) (now (ids .exit)) (now (rows .exit)) ⌝ }
+{
+    let next = text.len() + 1;
+    let g = place.setting;
+    let s = state::step(ids, words, g, line, text);
+    let a = s.answer;
+    let h = s.setting;
+    let on = put_step(rows, place, next, s.who, a, s.number);
+    Moved {
+        place: Place { setting: h, ..on },
+        fresh: s.fresh,
+        full: known(words, s.whole, full),
+    }
+}
+
+// Where a run stands at first: the rows stand after the header.
+fn first() -> Place
+    ensures { λ r. ⌜ Begins r ⌝ }
+{
+    let none = Setting {
+        ready: false,
+        faulty: 0,
+        members: 0,
+        sender: 0,
+    };
+    Place {
+        setting: none,
+        at: 0,
+        n: 1,
+        out: 22,
+    }
 }
 
 // The rows of a schedule's lines, after the header.
@@ -122,59 +218,57 @@ fn run_lines(schedule: &[u8], rows: &mut [u8]) -> usize
 {
     let c = Controller::new();
     let mut seats = [c; SEATS];
+    let mut records = [[0u16; RECORD]; SEATS];
     // The record of controller k is known to have every number below full[k].
     let mut full = [0usize; SEATS];
     let mut words = [0u64; POOL_WORDS];
-    let mut setting = Setting {
-        ready: false,
-        faulty: 0,
-        members: 0,
-        sender: 0,
-    };
-    let mut at = 0usize;
-    let mut n = 1u64;
-    let mut out = 22usize;
-    while at < schedule.len() {
+    pool::clear(&mut words);
+    let mut place = first();
+    while place.at < schedule.len() {
+        let at = place.at;
         let read = line::read_line(&schedule[at..]);
+        let next = read.next;
         let parsed = read.parsed;
-        // Nothing changes, so no controller is copied.
         let Parsed::Readable(line) = parsed else {
-            out = row::put_row_within(rows, out, n, state::NOBODY, Word::Refused, Value::Number(8));
-            at += read.next;
-            n += 1;
+            let on = put_line(rows, place, next, NOBODY, Word::Refused, Value::Number(8));
+            place = on;
             continue;
         };
         let k = seat_of(line);
-        let known = full[k];
-        // Nothing changes here either, and most lines of a long honest schedule are such.
-        if state::lacks_nothing(line, setting, &words, known) {
-            out = row::put_row_within(rows, out, n, k as u64, Word::Taken, Value::Number(0));
-            at += read.next;
-            n += 1;
+        // No other line looks at a controller, so that none is copied.
+        if state::is_call(line) {
+            let named = seats[k];
+            let o = state::call(named, &mut records[k], &mut words, line);
+            let a = o.answer;
+            if state::changes(a) {
+                let d = o.controller;
+                seats[k] = d;
+            }
+            let on = put_step(rows, place, next, k as u64, a, state::number_of(a));
+            place = on;
             continue;
         }
-        let named = seats[k];
-        let end = at + read.next - 1;
-        let s = state::step(named, &mut words, setting, line, &schedule[at..end], known);
-        full[k] = s.full;
-        let a = s.answer;
-        // Before the row is put, so that a line which changes nothing copies no controller.
-        if s.changed {
-            let d = s.controller;
-            seats[k] = d;
+        let below = full[k];
+        let setting = place.setting;
+        // Nothing changes, and most lines of a long honest schedule are such.
+        if state::lacks_nothing(line, setting, &words, below) {
+            let on = put_line(rows, place, next, k as u64, Word::Taken, Value::Number(0));
+            place = on;
+            continue;
         }
-        out = put_step(rows, out, n, s.who, a, s.number);
-        let g = s.setting;
-        setting = g;
-        at += read.next;
-        n += 1;
+        let text = &schedule[at..at + next - 1];
+        let s = run_line(rows, place, &mut records[k], &mut words, line, text, below);
+        let on = s.place;
+        place = on;
+        full[k] = s.full;
         if s.fresh {
-            let all = start_all(g.members, g.sender);
+            let g = on.setting;
+            let all = start_all(&mut records, g.members, g.sender);
             seats = all;
             full = [0usize; SEATS];
         }
     }
-    out
+    place.out
 }
 
 // Of the rows of a schedule, writes what has room, and answers how many bytes they all have. No schedule has more than 65,536 lines, and
@@ -184,10 +278,10 @@ fn run_rows(schedule: &[u8], rows: &mut [u8]) -> usize
 {
     row::put_header(rows);
     if schedule.len() == 0 {
-        return row::put_row_within(rows, 22, 0, state::NOBODY, Word::Refused, Value::Number(8));
+        return row::put_row_within(rows, 22, 0, NOBODY, Word::Refused, Value::Number(8));
     }
     if schedule.len() > 65536 {
-        return row::put_row_within(rows, 22, 0, state::NOBODY, Word::Refused, Value::Number(8));
+        return row::put_row_within(rows, 22, 0, NOBODY, Word::Refused, Value::Number(8));
     }
     run_lines(schedule, rows)
 }

@@ -1,59 +1,46 @@
-// What a line does to the controller that it names.
+// What a line does to the record of the controller that it names.
 ghost use mathlib.Core.Path.{_≡_};
 ghost use mathlib.Core.Bool.{true};
 ghost use Prim.Native.Nat.{_+_, _≤_};
-ghost use Rattle.engine.specs.Meaning.{AllIn};
-ghost use Rattle.pool.specs.Pool.{poolLen};
-ghost use Rattle.schedule.specs.Line.{Line};
-ghost use Rattle.bench.specs.Seats.{Distinct, Sound, recordWith, listed, Numbered, Marks, Marked, FirstFree, Filled, Seated, Gives};
+ghost use lib.ListN.{length};
+ghost use Rattle.bench.specs.Seats.{Sound, listed, Below, Marks, Marked, FirstFree, unmarked, Filled, refusedFor, takenAs, Gives, GivesAll};
 use engine::Answer;
-use engine::Controller;
 use engine::Refusal;
 use pool::POOL_WORDS;
-use pool::Record;
+use pool::RECORD;
 
-// The answer, the number that its row may need, the controller after it, and whether that is to be stored.
-pub struct Replied {
+// The answer, the number that its row may need, and whether the record has all of the pool.
+pub struct Given {
     pub answer: Answer,
     pub number: u64,
-    pub controller: Controller,
-    pub changed: bool,
+    pub whole: bool,
 }
 
-// A record with what it lacked of the pool, and how many statements that were.
-struct Missing {
-    statements: Record,
-    count: usize,
-}
-
-fn refused(c: Controller, r: Refusal) -> Replied
-    ensures { λ o. ⌜ (o .answer ≡ Answer.Refused r) × (o .number ≡ 0) × (o .controller ≡ c) ⌝ }
+pub fn refused(r: Refusal) -> Given
+    ensures { λ o. ⌜ o ≡ refusedFor r ⌝ }
 {
-    Replied {
+    Given {
         answer: Answer::Refused(r),
         number: 0,
-        controller: c,
-        changed: false,
+        whole: false,
     }
 }
 
-fn taken(c: Controller, n: u64, changed: bool) -> Replied
-    ensures { λ o. ⌜ (o .answer ≡ Answer.Taken) × (o .number ≡ n) × (o .controller ≡ c) × (o .changed ≡ changed) ⌝ }
+pub fn taken(n: u64, whole: bool) -> Given
+    ensures { λ o. ⌜ o ≡ takenAs n whole ⌝ }
 {
-    Replied {
+    Given {
         answer: Answer::Taken,
         number: n,
-        controller: c,
-        changed: changed,
+        whole: whole,
     }
 }
 
 // Whether a record has the number n. The pool's statements differ, so that it has the statement just where it has the number.
-fn has_number(rec: Record, n: u16) -> bool
-    ensures { λ r. ⌜ r ≡ listed rec n ⌝ }
+fn has_number(ids: &[u16; RECORD], n: u16) -> bool
+    ensures { λ r. ⌜ r ≡ listed (now (ids .entry)) n ⌝ }
 {
-    let end = pool::limit(rec.len);
-    let ids = rec.ids;
+    let end = pool::record_length(ids);
     let mut i = 0usize;
     while i < end {
         if ids[i] == n {
@@ -70,12 +57,12 @@ fn index(id: u16) -> usize
     id as usize
 }
 
-// Which numbers a record has. They are lent, so that no record is copied.
-fn marks_of(ids: &[u16; 512], len: usize) -> [bool; 512]
-    requires { ⌜ Numbered (recordWith (now ids) len) ⌝ }
-    ensures { λ r. ⌜ Marks (recordWith (now (ids .entry)) len) r ⌝ }
+// Which numbers a record has.
+fn marks_of(ids: &[u16; RECORD]) -> [bool; 512]
+    requires { ⌜ Below (now ids) 512 ⌝ }
+    ensures { λ r. ⌜ Marks (now (ids .entry)) r ⌝ }
 {
-    let end = pool::limit(len);
+    let end = pool::record_length(ids);
     let mut marks = [false; 512];
     let mut i = 0usize;
     while i < end {
@@ -111,7 +98,7 @@ fn skip_eights(marks: &[bool; 512], from: usize, n: usize) -> usize
 }
 
 // The first number from `from` on that has no mark, or n.
-fn unmarked(marks: &[bool; 512], from: usize, n: usize) -> usize
+fn first_free(marks: &[bool; 512], from: usize, n: usize) -> usize
     requires { ⌜ (from ≤ n) × (n ≤ 512) ⌝ }
     ensures { λ r. ⌜ FirstFree (now (marks .entry)) from n r ⌝ }
 {
@@ -125,84 +112,71 @@ fn unmarked(marks: &[bool; 512], from: usize, n: usize) -> usize
     i
 }
 
-// The record with every statement below n that it lacks, in rising number.
-fn fill(words: &[u64; POOL_WORDS], rec: Record, marks: [bool; 512], n: usize) -> Missing
-    requires { ⌜ Distinct (now words) × AllIn (now words) rec × Marks rec marks × (n ≡ poolLen (now words)) ⌝ }
-    ensures { λ r. ⌜ Filled (now (words .entry)) rec n r ⌝ }
+// How many numbers below n have no mark.
+fn count_free(marks: &[bool; 512], n: usize) -> usize
+    requires { ⌜ n ≤ 512 ⌝ }
+    ensures { λ r. ⌜ (r ≡ length (unmarked (now (marks .entry)) n)) × (r ≤ n) ⌝ }
 {
-    let mut more = rec;
     let mut count = 0usize;
-    let mut i = unmarked(&marks, 0, n);
+    let mut i = first_free(marks, 0, n);
     while i < n {
-        let next = pool::push(more, i as u16);
-        more = next;
         count += 1;
-        i = unmarked(&marks, i + 1, n);
+        i = first_free(marks, i + 1, n);
     }
-    Missing {
-        statements: more,
-        count: count,
+    count
+}
+
+// Every number below n that has no mark goes to the end of the record, rising.
+fn fill(ids: &mut [u16; RECORD], marks: &[bool; 512], n: usize)
+    requires { ⌜ n ≤ 512 ⌝ }
+    ensures { λ _. ⌜ Filled (now (ids .entry)) (now (marks .entry)) n (now (ids .exit)) ⌝ }
+{
+    let mut i = first_free(marks, 0, n);
+    while i < n {
+        pool::record_push(ids, i as u16);
+        i = first_free(marks, i + 1, n);
     }
 }
 
-// Statement n goes to the end of k's record.
-pub fn give(c: Controller, words: &[u64; POOL_WORDS], ready: bool, k: u8, n: u64) -> Replied
-    requires { ⌜ Sound (now words) c ⌝ }
-    ensures { λ r. ⌜ Seated (now (words .entry)) ready c k (Line.give k n) r (now (words .entry)) ⌝ }
+// Statement n goes to the end of a record.
+pub fn give(ids: &mut [u16; RECORD], words: &[u64; POOL_WORDS], ready: bool, n: u64) -> Given
+    requires { ⌜ Sound (now words) (now ids) ⌝ }
+    ensures { λ r. ⌜ Gives (now (words .entry)) (now (ids .entry)) ready n r (now (ids .exit)) ⌝ }
 {
     if !ready {
-        return refused(c, Refusal::OutOfPlace);
+        return refused(Refusal::OutOfPlace);
     }
     if n >= pool::pool_len(words) as u64 {
-        return refused(c, Refusal::OutOfPlace);
+        return refused(Refusal::OutOfPlace);
     }
-    let statements = c.statements;
-    if has_number(statements, n as u16) {
-        return refused(c, Refusal::Repeated);
+    if has_number(ids, n as u16) {
+        return refused(Refusal::Repeated);
     }
-    if statements.len >= 512 {
-        return refused(c, Refusal::Full);
+    if pool::record_length(ids) >= 512 {
+        return refused(Refusal::Full);
     }
-    let more = pool::push(statements, n as u16);
-    taken(
-        Controller {
-            statements: more,
-            ..c
-        },
-        0,
-        true,
-    )
+    pool::record_push(ids, n as u16);
+    taken(0, false)
 }
 
-// Every statement that k's record lacks goes to its end.
-pub fn all(c: Controller, words: &[u64; POOL_WORDS], ready: bool, k: u8) -> Replied
-    requires { ⌜ Sound (now words) c ⌝ }
-    ensures { λ r. ⌜ Seated (now (words .entry)) ready c k (Line.all k) r (now (words .entry)) × Gives (now (words .entry)) c r ⌝ }
+// Every statement that a record lacks goes to its end. They are counted first, since a record that has no room for all of them stays as it is.
+pub fn all(ids: &mut [u16; RECORD], words: &[u64; POOL_WORDS], ready: bool) -> Given
+    requires { ⌜ Sound (now words) (now ids) ⌝ }
+    ensures { λ r. ⌜ GivesAll (now (words .entry)) (now (ids .entry)) ready r (now (ids .exit)) ⌝ }
 {
     if !ready {
-        return refused(c, Refusal::OutOfPlace);
+        return refused(Refusal::OutOfPlace);
     }
-    let statements = c.statements;
-    let had = pool::limit(statements.len);
-    let ids = statements.ids;
-    let marks = marks_of(&ids, statements.len);
+    let had = pool::record_length(ids);
+    let marks = marks_of(ids);
     let n = pool::pool_len(words);
-    let first = unmarked(&marks, 0, n);
-    // Nothing is missing: the controller is as it was.
-    if first == n {
-        return taken(c, 0, false);
+    let count = count_free(&marks, n);
+    if count == 0 {
+        return taken(0, true);
     }
-    let m = fill(words, statements, marks, n);
-    if had + m.count > 512 {
-        return refused(c, Refusal::Full);
+    if had + count > 512 {
+        return refused(Refusal::Full);
     }
-    let more = m.statements;
-    taken(
-        Controller {
-            statements: more,
-            ..c
-        },
-        m.count as u64,
-        true,
-    )
+    fill(ids, &marks, n);
+    taken(count as u64, true)
 }

@@ -5,7 +5,7 @@ use mathlib.Core.Logic.{_⊎_, inl, inr}
 use mathlib.Core.Bool.{Bool, true, false, not, _||_}
 use mathlib.Core.List.{List, [], _∷_, _++_}
 use mathlib.Core.Option.{Option, none}
-use Prim.Native.Nat.{ℕ, _≤_, _<_, min}
+use Prim.Native.Nat.{ℕ, _≤_, _<_}
 use native.Mathlib.Decide.{decLt}
 use native.Mathlib.Omega.{arith}
 use lib.Dec.{leb, ltb}
@@ -18,19 +18,17 @@ use Rattle.protocol.specs.Pool.{numberOf, pooled, hasRoom}
 use Rattle.views.proofs.Tables.{table-length, table-cong}
 use Rattle.statements.specs.declared.Statement.{Statement}
 use Rattle.statements.specs.Meaning.{stmtOf}
-use Rattle.pool.specs.declared.Record.{Record}
 use Rattle.pool.specs.declared.Placed.{Placed as Answered}
 use Rattle.pool.specs.declared.Placed.the-variants as placed
-use Rattle.pool.specs.Pool.{stmtAt, poolLen, recordOf}
+use Rattle.pool.specs.Pool.{stmtAt, poolLen, recordOf, recordLen, recordIn}
 use Rattle.pool.specs.Changes as memory
-use Rattle.engine.specs.declared.Controller.{Controller}
-use Rattle.engine.specs.Meaning.{recordIs, poolIs, AllIn, Whole}
+use Rattle.engine.specs.Meaning.{poolIs, AllIn}
 use Rattle.engine.specs.Promise.{Placed, Numbered}
 use Rattle.engine.proofs.Pools.{Located, there, absent, number-none, in-pool, grown-same, grown-pool}
 
-record-length : (W : List ℕ) (c : Controller) → length (recordIs W c) ≡ min (c .statements .len) 512
-unfolding recordIs recordOf
-record-length W c = table-length (min (c .statements .len) 512) (λ i. stmtAt W (getD (c .statements .ids) i 0))
+record-length : (W R : List ℕ) → length (recordIn W R) ≡ recordLen R
+unfolding recordOf
+record-length W R = table-length (recordLen R) (λ i. stmtAt W (getD R i 0))
 
 -- ---- whether there is room
 
@@ -38,37 +36,36 @@ or-not : (a b : Bool) → b ≡ false → (a || not b) ≡ true
 or-not true b e = refl
 or-not false b e = rw e
 
-module _ (W : List ℕ) (c : Controller) (s : Stmt) where
-  pub is-full : (512 ≤ c .statements .len) ⊎ (hasRoom (poolIs W) s ≡ false) → isFull (hasRoom (poolIs W)) (recordIs W c) s ≡ true
+module _ (W R : List ℕ) (s : Stmt) where
+  pub is-full : (512 ≤ recordLen R) ⊎ (hasRoom (poolIs W) s ≡ false) → isFull (hasRoom (poolIs W)) (recordIn W R) s ≡ true
   unfolding isFull
-  is-full (inl l) = rw (le-leb 512 (length (recordIs W c)) (omega (arith, record-length W c)))
-  is-full (inr e) = or-not (leb 512 (length (recordIs W c))) (hasRoom (poolIs W) s) e
+  is-full (inl l) = rw (le-leb 512 (length (recordIn W R)) (omega (arith, record-length W R)))
+  is-full (inr e) = or-not (leb 512 (length (recordIn W R))) (hasRoom (poolIs W) s) e
 
-  pub not-full : c .statements .len < 512 → hasRoom (poolIs W) s ≡ true → isFull (hasRoom (poolIs W)) (recordIs W c) s ≡ false
+  pub not-full : recordLen R < 512 → hasRoom (poolIs W) s ≡ true → isFull (hasRoom (poolIs W)) (recordIn W R) s ≡ false
   unfolding isFull
-  not-full l e = rw (lt-leb 512 (length (recordIs W c)) (omega (arith, record-length W c)), e)
+  not-full l e = rw (lt-leb 512 (length (recordIn W R)) (omega (arith, record-length W R)), e)
 
 -- ---- the number went to the end of the record
 
-module _ {W W′ : List ℕ} (c : Controller) {s : Stmt} {n : ℕ} {more : Record} (k : Numbered W (c .statements .len) s n W′) (p : memory.Pushed (c .statements) n more) where
-  pub all-in : Whole W c → AllIn W′ more
-  unfolding Whole
-  all-in w i h = elim (decLt i (c .statements .len)) [
-    | yes m ↦ let e = p .first i (omega arith) in let b = w i (omega arith) in omega (arith, k .more)
+module _ {W W′ R R′ : List ℕ} {s : Stmt} {n : ℕ} (k : Numbered W R s n W′) (p : memory.PushedTo R n R′) where
+  pub all-in : AllIn W R → AllIn W′ R′
+  unfolding AllIn
+  all-in w i h = elim (decLt i (recordLen R)) [
+    | yes m ↦ let e = p .first i m in let b = w i m in omega (arith, k .more)
     | no m ↦
-        (let q : min (c .statements .len) 512 ≡ i = omega (arith, p .len) in
-        let e = p .last (omega (arith, k .short)) in subst (λ j. getD (more .ids) j 0 < poolLen W′) q (omega (arith, k .within)))
+        (let q : recordLen R ≡ i = omega (arith, p .len) in
+        let e = p .last (k .short) in subst (λ j. getD R′ j 0 < poolLen W′) q (omega (arith, k .within)))
   ]
 
-  same-record : Whole W c → recordIs W′ c ≡ recordIs W c
-  unfolding recordIs recordOf Whole
-  same-record w = table-cong (min (c .statements .len) 512) (λ i. stmtAt W′ (getD (c .statements .ids) i 0)) (λ i. stmtAt W (getD (c .statements .ids) i 0)) (λ i h. k .same _ (w i h))
+  same-record : AllIn W R → recordIn W′ R ≡ recordIn W R
+  unfolding recordOf AllIn
+  same-record w = table-cong (recordLen R) (λ i. stmtAt W′ (getD R i 0)) (λ i. stmtAt W (getD R i 0)) (λ i h. k .same _ (w i h))
 
-  longer : recordOf W′ (more .ids) (more .len) ≡ recordIs W′ c ++ (s ∷ [])
-  unfolding recordIs
-  longer = p .means W′ ∙ rw (lt-ltb (min (c .statements .len) 512) 512 (omega (arith, k .short))) (ap (λ x. recordIs W′ c ++ (x ∷ [])) (k .is))
+  longer : recordIn W′ R′ ≡ recordIn W′ R ++ (s ∷ [])
+  longer = p .means W′ ∙ rw (lt-ltb (recordLen R) 512 (k .short)) (ap (λ x. recordIn W′ R ++ (x ∷ [])) (k .is))
 
-  pub record-more : Whole W c → recordOf W′ (more .ids) (more .len) ≡ recordIs W c ++ (s ∷ [])
+  pub record-more : AllIn W R → recordIn W′ R′ ≡ recordIn W R ++ (s ∷ [])
   record-more w = longer ∙ ap (λ l. l ++ (s ∷ [])) (same-record w)
 
 -- ---- what the pool answered
@@ -105,14 +102,14 @@ pool-length W = table-length (poolLen W) (stmtAt W)
 at-injective : {m n : ℕ} → placed.At m ≡ placed.At n → m ≡ n
 at-injective e = cc
 
--- a record of this length is full
-pub record-full : {W : List ℕ} {len : ℕ} {s : Stmt} → 512 ≤ len → Placed W len s placed.Full W
+-- the record is full
+pub record-full : {W R : List ℕ} {s : Stmt} → 512 ≤ recordLen R → Placed W R s placed.Full W
 record-full l = record { full = λ e. (inl l, refl); at = λ n e. absurd (full≢at e) }
 
-module _ (W W′ : List ℕ) (len : ℕ) (st : Statement) (short : st .history .len ≤ 16) (l : len < 512) where
+module _ (W W′ R : List ℕ) (st : Statement) (short : st .history .len ≤ 16) (l : recordLen R < 512) where
   -- the statement was in the pool
   old : W′ ≡ memory.pooledIn W (stmtOf st) → (n i : ℕ) → W′ ≡ W → n ≡ i → i < poolLen W → stmtAt W i ≡ stmtOf st → numberOf (stmtOf st) (poolIs W) ≡ i → any (sameStmt (stmtOf st)) (poolIs W) ≡ true
-      → Numbered W len (stmtOf st) n W′
+      → Numbered W R (stmtOf st) n W′
   old x n i w e b h m y = record {
     short = l;
     room = room-old (stmtOf st) (poolIs W) y;
@@ -125,7 +122,7 @@ module _ (W W′ : List ℕ) (len : ℕ) (st : Statement) (short : st .history .
   }
 
   -- it went to the end of the pool
-  new : W′ ≡ memory.pooledIn W (stmtOf st) → (n : ℕ) → memory.Grown W W′ st → n ≡ poolLen W → poolLen W < 512 → any (sameStmt (stmtOf st)) (poolIs W) ≡ false → Numbered W len (stmtOf st) n W′
+  new : W′ ≡ memory.pooledIn W (stmtOf st) → (n : ℕ) → memory.Grown W W′ st → n ≡ poolLen W → poolLen W < 512 → any (sameStmt (stmtOf st)) (poolIs W) ≡ false → Numbered W R (stmtOf st) n W′
   new x n g e b y = record {
     short = l;
     room = room-new (stmtOf st) (poolIs W) true y (ap (λ m. ltb m 512) (pool-length W) ∙ lt-ltb (poolLen W) 512 b);
@@ -148,11 +145,11 @@ module _ (W W′ : List ℕ) (len : ℕ) (st : Statement) (short : st .history .
     no-end q b = answer-is q ∙ if-false (ltb (poolLen W) 512) (placed.At (poolLen W)) placed.Full (le-ltb (poolLen W) 512 b)
 
     -- what the pool answered, for a record that has room
-    pub pool-placed : Placed W len (stmtOf st) r W′
+    pub pool-placed : Placed W R (stmtOf st) r W′
     unfolding poolIs
     pool-placed = go (in-pool W (stmtOf st))
       where
-        go : Located (stmtOf st) (stmtAt W) (poolLen W) (memory.numberOf W (stmtOf st)) → Placed W len (stmtOf st) r W′
+        go : Located (stmtOf st) (stmtAt W) (poolLen W) (memory.numberOf W (stmtOf st)) → Placed W R (stmtOf st) r W′
         go (there i q b h m y) = record {
           full = λ e. absurd (full≢at (sym e ∙ answer-is q));
           at = λ n e. old (a .is) n i (a .old i q) (at-injective (sym e ∙ answer-is q)) b h m y;

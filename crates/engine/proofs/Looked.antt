@@ -1,34 +1,39 @@
 -- What the rules look at is what the record shows.
 -- Assumes nothing.
-use mathlib.Core.Path.{_≡_, refl, sym, ap, ap₂, _∙_}
+use mathlib.Core.Path.{_≡_, refl, sym, ap, ap₂, subst, _∙_}
 use mathlib.Core.Bool.{Bool, true, false, not, _&&_}
 use mathlib.Core.List.{List}
 use Prim.Native.Nat.{ℕ, _-_, _<_, min}
 use native.Mathlib.Omega.{arith}
 use lib.Dec.{ltb}
 use lib.ListN.{length, getD}
-use Rattle.protocol.specs.Lists.{any, all, when}
+use Rattle.protocol.specs.Lists.{any, all}
 use Rattle.protocol.specs.View.{View, Ring, sameView, below}
 use Rattle.protocol.specs.History.{top}
 use Rattle.protocol.specs.Statement.{Stmt}
-use Rattle.protocol.specs.Evidence.{candidates, greatest}
 use Rattle.protocol.specs.Controller as protocol
-use Rattle.protocol.specs.Turn.{G, T, hasEntered, stands, certificate}
+use Rattle.protocol.specs.Turn as turn
+use Rattle.protocol.proofs.Bits.{Fits}
 use Rattle.views.specs.declared.View as held
 use Rattle.views.specs.declared.History.{History}
-use Rattle.views.specs.View.{viewOf}
+use Rattle.views.specs.View.{viewOf, viewIn}
 use Rattle.views.specs.Held.{viewIs, viewsIs, heldAt}
-use Rattle.views.proofs.Tables.{table-length}
+use Rattle.views.proofs.Tables.{table-length, table-cong}
+use Rattle.views.proofs.Held.{held-fits}
 use Rattle.views.proofs.Histories.{top-some}
+use Rattle.pool.specs.Pool.{recordIn}
 use Rattle.evidence.specs.declared.Evidence.{Evidence}
-use Rattle.evidence.specs.Evidence.{EvidenceOf, Settled}
+use Rattle.evidence.specs.declared.Ring as declared
+use Rattle.evidence.specs.Evidence.{ringOf, certificateOf, EvidenceOf, Settled, Narrow}
+use Rattle.evidence.proofs.Fitting.{wished-narrow, greatest-narrow}
 use Rattle.ranking.specs.Slots.{viewsOf}
 use Rattle.order.proofs.Counts.{some-view}
 use Rattle.engine.specs.declared.Controller.{Controller}
-use Rattle.rules.specs.declared.Sight.{Sight}
+use Rattle.rules.specs.declared.Situation.{Situation}
 use Rattle.engine.specs.Meaning.{controllerIs}
-use Rattle.rules.specs.Rules.{SightOf}
-use Rattle.engine.specs.Looks.{notAbove, Looks}
+use Rattle.rules.specs.Actions.{viewsIn}
+use Rattle.rules.specs.Rules.{SituationOf}
+use Rattle.engine.specs.Looks.{notAbove, RingOf, Looks}
 
 views-count : (h : History) → length (viewsIs h) ≡ min (h .len) 16
 unfolding viewsIs
@@ -38,49 +43,64 @@ slots-top : (R : Ring) (W : List ℕ) (n : ℕ) → 0 < n → viewOf (getD W (n 
 unfolding viewsOf
 slots-top R W n h = top-some _ R n (λ e. omega arith)
 
-pub record Looking (c : Controller) (e : Evidence) (s : Sight) : Type 0 where
-  pub top : viewIs (s .top) ≡ viewOf (getD (e .greatest) (e .length - 1) 0)
-  pub wished : viewIs (s .wished) ≡ viewOf (e .wished)
+pub record Looking (c : Controller) (G : List ℕ) (e : Evidence) (s : Situation) : Type 0 where
+  pub top : viewIs (s .top) ≡ viewIn (getD G (e .length - 1) 0)
   pub entered : s .entered ≡ any (sameView (viewIs (s .top))) (viewsIs (c .entered))
   pub stands : s .stands ≡ (s .entered && all (notAbove (viewIs (s .top))) (viewsIs (c .entered)))
   pub active : s .active ≡ ltb 0 (min (c .entered .len) 16)
 
+-- the evidence in a ring is that of its controller
+pub of-controller : {c : Controller} {r : declared.Ring} {X : List Stmt} {C G : List ℕ} {e : Evidence} → RingOf c r → EvidenceOf (ringOf r) (r .sender) X C G e → EvidenceOf (controllerIs c .ring) (c .sender) X C G e
+of-controller {c} {r} {X} {C} {G} {e} q o = subst (λ k. EvidenceOf (controllerIs c .ring) k X C G e) (q .sender) (subst (λ R. EvidenceOf R (r .sender) X C G e) (q .is) o)
+
+-- the initial view of a controller's ring is of the sixteen controllers, as every struct's is
+pub init-fits : {c : Controller} {r : declared.Ring} → RingOf c r → Fits 16 (viewOf (r .init))
+unfolding controllerIs
+init-fits {c} q = subst (Fits 16) (sym (ap (λ R. R .init) (q .is))) (held-fits (c .init))
+
+-- words without other bits are read as they are
+pub read-whole : {list : List ℕ} {n : ℕ} → Narrow list n → viewsIn list n ≡ viewsOf list n
+unfolding viewsIn viewsOf
+read-whole {list} {n} k = table-cong n (λ i. viewIn (getD list i 0)) (λ i. viewOf (getD list i 0)) (k .at)
+
 -- ---- what the rules look at
 
-module _ (X : List Stmt) (c : Controller) (e : Evidence) (k : Settled (controllerIs c .ring) (c .sender) X e) (s : Sight) (l : Looking c e s) where
+module _ (X : List Stmt) (C G : List ℕ) (c : Controller) (e : Evidence) (k : Settled (controllerIs c .ring) (c .sender) X C G e) (narrow : Narrow G (e .length)) (s : Situation) (l : Looking c G e s) where
   abbrev d : protocol.Controller
   d = controllerIs c
 
-  abbrev shown : EvidenceOf (d .ring) (c .sender) X e
+  abbrev shown : EvidenceOf (d .ring) (c .sender) X C G e
   shown = k .of
 
-  the-greatest : G d X ≡ viewsOf (e .greatest) (e .length)
-  unfolding G
+  the-greatest : turn.G d X ≡ viewsOf G (e .length)
+  unfolding turn.G
   the-greatest = sym (shown .greatest (k .agree))
 
-  the-top : T d X ≡ viewIs (s .top)
-  unfolding T
-  the-top = ap (top (d .ring)) the-greatest ∙ sym (slots-top (d .ring) (e .greatest) (e .length) (some-view (d .ring) (c .sender) X e k)) ∙ sym (l .top)
+  the-top : turn.T d X ≡ viewIs (s .top)
+  unfolding turn.T
+  the-top =
+      let some = some-view (d .ring) (c .sender) X C G e k in
+      ap (top (d .ring)) the-greatest ∙ sym (slots-top (d .ring) G (e .length) some) ∙ sym (narrow .at (e .length - 1) (omega arith)) ∙ sym (l .top)
 
-  has-entered : (v : View) → hasEntered d X v ≡ any (sameView v) (viewsIs (c .entered))
-  unfolding hasEntered controllerIs
+  has-entered : (v : View) → turn.hasEntered d X v ≡ any (sameView v) (viewsIs (c .entered))
+  unfolding turn.hasEntered controllerIs
   has-entered v = refl
 
-  the-entered : hasEntered d X (viewIs (s .top)) ≡ s .entered
+  the-entered : turn.hasEntered d X (viewIs (s .top)) ≡ s .entered
   the-entered = has-entered (viewIs (s .top)) ∙ sym (l .entered)
 
   at-the-top : (t : View) → all (λ u. not (below (d .ring .width) t u)) (d .entered) ≡ all (notAbove t) (viewsIs (c .entered))
   unfolding controllerIs notAbove
   at-the-top t = refl
 
-  it-stands : stands d X ≡ s .stands
-  unfolding stands
+  it-stands : turn.stands d X ≡ s .stands
+  unfolding turn.stands
   it-stands =
-      ap (λ t. hasEntered d X t && all (λ u. not (below (d .ring .width) t u)) (d .entered)) the-top
+      ap (λ t. turn.hasEntered d X t && all (λ u. not (below (d .ring .width) t u)) (d .entered)) the-top
       ∙ ap₂ _&&_ the-entered (at-the-top (viewIs (s .top))) ∙ sym (l .stands)
 
-  the-certificate : certificate d X ≡ when (e .certified) (e .payload)
-  unfolding certificate controllerIs
+  the-certificate : turn.certificate d X ≡ certificateOf e
+  unfolding turn.certificate controllerIs
   the-certificate = sym (shown .certificate (k .agree))
 
   some-entered : ltb 0 (length (d .entered)) ≡ s .active
@@ -88,10 +108,10 @@ module _ (X : List Stmt) (c : Controller) (e : Evidence) (k : Settled (controlle
   some-entered = ap (ltb 0) (views-count (c .entered)) ∙ sym (l .active)
 
 -- what `look` makes of the controller and the evidence
-abbrev pub sight : Controller → Evidence → held.View → held.View → Bool → Bool → Bool → Sight
-sight c e t w active entered stands = record {
+abbrev pub lookedAt : Controller → declared.Ring → Evidence → held.View → Bool → Bool → Bool → Situation
+lookedAt c r e t active entered stands = record {
   number = c .number;
-  sender = c .sender;
+  ring = r;
   binding = c .binding;
   delivered = c .delivered;
   joining = c .joining;
@@ -101,41 +121,38 @@ sight c e t w active entered stands = record {
   entered = entered;
   stands = stands;
   top = t;
-  wished = w;
-  candidates = e .candidates;
-  count = e .count;
-  greatest = e .greatest;
-  length = e .length;
-  certified = e .certified;
-  payload = e .payload;
-  stored = e .stored;
+  shown = e;
 }
 
-module _ (c : Controller) (e : Evidence) (t w : held.View) (active entered stands : Bool) (l : Looking c e (sight c e t w active entered stands)) where
-  seen : (X : List Stmt) → Settled (controllerIs c .ring) (c .sender) X e → SightOf (controllerIs c) X (sight c e t w active entered stands)
+module _ (c : Controller) (r : declared.Ring) (G : List ℕ) (e : Evidence) (t : held.View) (active entered stands : Bool) (q : RingOf c r) (l : Looking c G e (lookedAt c r e t active entered stands)) where
+  seen : (X : List Stmt) (C : List ℕ) → Settled (controllerIs c .ring) (c .sender) X C G e → Narrow G (e .length) → viewIn (e .wished) ≡ viewOf (e .wished) → SituationOf (controllerIs c) X (lookedAt c r e t active entered stands)
   unfolding controllerIs
-  seen X k = record {
+  seen X C k narrow w = record {
     number = refl;
-    width = refl;
-    sender = refl;
+    ring = sym (q .is);
+    sender = sym (q .sender);
     binding = refl;
     delivered = refl;
     joining = refl;
     leaving = refl;
     sending = refl;
-    active = some-entered X c e k _ l;
-    entered = the-entered X c e k _ l;
-    stands = it-stands X c e k _ l;
-    top = the-top X c e k _ l;
-    wished = sym (k .of .wished) ∙ sym (l .wished);
-    candidates = sym (k .of .candidates (k .agree) (k .few));
-    greatest = the-greatest X c e k _ l;
-    certificate = the-certificate X c e k _ l;
-    stored = λ q. sym (k .of .stored (k .agree) q);
+    active = some-entered X C G c e k narrow _ l;
+    entered = the-entered X C G c e k narrow _ l;
+    stands = it-stands X C G c e k narrow _ l;
+    top = the-top X C G c e k narrow _ l;
+    wished = sym (w ∙ k .of .wished);
+    certificate = the-certificate X C G c e k narrow _ l;
+    stored = λ h. sym (k .of .stored (k .agree) h);
   }
 
-  pub looked : Looks c e (sight c e t w active entered stands)
-  looked = record { sight = seen; sender = refl; count = refl; length = refl }
+  pub looked : Looks c r G e (lookedAt c r e t active entered stands)
+  looked = record {
+    situation = λ W R C k.
+        seen (recordIn W R) C (record { of = of-controller q (k .of); agree = k .agree; few = k .few })
+        (greatest-narrow (r .init) (r .sender) W R C G e (init-fits q) k) (wished-narrow (r .init) (r .sender) W R C G e (k .of));
+    ring = refl;
+    shown = refl;
+  }
 
 -- a view that t is below, and one that it is not
 module _ (t u : View) (b : Bool) (e : b ≡ below 16 t u) where

@@ -1,31 +1,26 @@
 -- The pool in memory and the protocol's pool: where a statement is, and what one more does to it and to the records over it.
 -- Assumes nothing.
 use mathlib.Core.Path.{_≡_, refl, sym, ap, ap₂, subst, _∙_}
-use mathlib.Core.Logic.{_≢_}
-use mathlib.Core.Bool.{Bool, true, false, not, _&&_, _||_}
+use mathlib.Core.Bool.{Bool, true, false, _||_}
 use mathlib.Core.List.{List, [], _∷_, _++_}
 use mathlib.Core.Option.{Option, some, none}
-use Prim.Native.Nat.{ℕ, zero, suc, _+_, _≤_, _<_, min}
-use native.Mathlib.Decide.{decLt}
+use Prim.Native.Nat.{ℕ, zero, suc, _+_, _≤_, _<_}
 use native.Mathlib.Numerals.{add-one}
 use native.Mathlib.Omega.{arith}
-use lib.Dec.{T, ltb}
-use lib.ListN.{length, getD}
-use borrow.Author.Tests.{lt-ltb, le-ltb}
+use lib.Dec.{T}
+use lib.ListN.{length}
 use Rattle.protocol.specs.Lists.{if_then_else_, any, find}
 use Rattle.protocol.specs.Statement.{Stmt, sameStmt}
-use Rattle.protocol.specs.Pool.{numberOf, pooled, hasRoom}
+use Rattle.protocol.specs.Pool.{numberOf}
 use Rattle.protocol.proofs.Asked.{says-same-stmt}
 use Rattle.protocol.proofs.Found.{none≢some}
 use Rattle.views.specs.Table.{table}
 use Rattle.views.proofs.Tables.{table-length, table-cong, any-append}
-use Rattle.views.proofs.Views.{passes}
 use Rattle.statements.specs.declared.Statement.{Statement}
 use Rattle.statements.specs.Meaning.{stmtOf}
-use Rattle.pool.specs.Pool.{stmtAt, poolLen, recordOf}
+use Rattle.pool.specs.Pool.{stmtAt, poolLen}
 use Rattle.pool.specs.Changes as memory
-use Rattle.engine.specs.declared.Controller.{Controller}
-use Rattle.engine.specs.Meaning.{recordIs, poolIs, AllIn, Whole}
+use Rattle.engine.specs.Meaning.{poolIs}
 
 or-yes : (a : Bool) → (a || true) ≡ true
 or-yes true = refl

@@ -1,15 +1,15 @@
 -- What the calls that do not touch the pool come to.
 -- Assumes nothing.
-use mathlib.Core.Path.{_≡_, refl, sym, ap, ap₂, subst, _∙_}
-use mathlib.Core.Bool.{Bool, true, false, not, _&&_, _||_}
-use mathlib.Core.List.{List, [], _∷_, _++_}
-use Prim.Native.Nat.{ℕ, _+_, _^_, _≤_, _<_, min}
+use mathlib.Core.Path.{_≡_, refl, sym, ap, subst, _∙_}
+use mathlib.Core.Bool.{Bool, true, false, _&&_}
+use mathlib.Core.List.{List, [], _∷_}
+use Prim.Native.Nat.{ℕ, _%_, _^_, _≤_, _<_, min}
 use native.Mathlib.Omega.{arith}
 use lib.Dec.{eqb, ltb}
-use lib.ListN.{length, replicate}
+use lib.ListN.{length}
 use borrow.Author.Tests.{eq-eqb, ne-eqb, lt-ltb, le-ltb}
 use Rattle.protocol.specs.Sets.{bit}
-use Rattle.protocol.specs.Lists.{if_then_else_, isSome}
+use Rattle.protocol.specs.Lists.{if_then_else_}
 use Rattle.protocol.specs.View.{View, member}
 use Rattle.protocol.specs.Statement.{Stmt}
 use Rattle.protocol.specs.Controller as controller
@@ -21,74 +21,75 @@ use Rattle.views.specs.Held.{viewIs, viewsIs, heldAt}
 use Rattle.views.specs.declared.View as held
 use Rattle.views.specs.declared.History.{History}
 use Rattle.views.proofs.Tables.{table-length}
-use Rattle.pool.specs.Pool.{recordOf}
+use Rattle.pool.specs.Pool.{recordIn}
+use Rattle.pool.specs.Changes.{Emptied}
 use Rattle.statements.specs.declared.Binding.the-variants.{Unbound}
 use Rattle.engine.specs.declared.Controller.{Controller}
 use Rattle.engine.specs.declared.Outcome.{Outcome}
 use Rattle.engine.specs.declared.Refusal.{Refusal}
-use Rattle.rules.specs.declared.Send.{Send}
 use Rattle.rules.specs.declared.Send.the-variants.{Nothing, Payload}
 use Rattle.engine.specs.declared.Answer.{Answer}
 use Rattle.engine.specs.declared.Answer.the-variants.{Taken, Refused}
-use Rattle.engine.specs.Meaning.{initialIs, controllerIs, recordIs, AllIn, Whole, refusalIs, answerIs}
-use Rattle.rules.specs.Deeds.{sendIs}
+use Rattle.engine.specs.Meaning.{initialIs, controllerIs, AllIn, refusalIs, answerIs}
 use Rattle.engine.specs.Promise.{unchanged, Meets, IsRefused, Calls, startedOf, Starts}
 
 -- ---- pool and record stay as they were
 
-module _ (W : List ℕ) (c : Controller) (r : Outcome) (d : controller.Controller) (a : controller.Answer) (e : answerIs W (r .answer) ≡ a) (f : controllerIs (r .controller) ≡ d)
-    (k : r .controller .statements ≡ c .statements) (unsigned : (s : Stmt) → a ≡ controller.signed s → ⊥) (same : IsRefused a → r .controller ≡ c) where
-  pub settled : Meets W c (record { answer = a; controller = d; statements = recordIs W c }) unchanged r W
-  unfolding recordIs Whole
+module _ (W R : List ℕ) (c : Controller) (r : Outcome) (d : controller.Controller) (a : controller.Answer) (e : answerIs W (r .answer) ≡ a) (f : controllerIs (r .controller) ≡ d)
+    (unsigned : (s : Stmt) → a ≡ controller.signed s → ⊥) (same : IsRefused a → r .controller ≡ c) where
+  pub settled : Meets W R c (record { answer = a; controller = d; statements = recordIn W R }) unchanged r W R
   settled = record {
     answer = e;
     number = λ s q. absurd (unsigned s q);
     controller = f;
-    numbers = k;
-    statements = λ w. (ap (λ x. recordOf W (x .ids) (x .len)) k, subst (AllIn W) (sym k) w);
+    numbers = refl;
+    statements = λ w. (refl, w);
     pool = refl;
-    refused = λ t. (same t, refl);
+    refused = λ t. (same t, refl, refl);
   }
 
-pub refused-so : (W : List ℕ) (c : Controller) (r : Outcome) (q : Refusal) → r .answer ≡ Refused q → r .controller ≡ c → Meets W c (call.refuse (controllerIs c) (recordIs W c) (refusalIs q)) unchanged r W
+pub refused-so : (W R : List ℕ) (c : Controller) (r : Outcome) (q : Refusal) → r .answer ≡ Refused q → r .controller ≡ c
+    → Meets W R c (call.refuse (controllerIs c) (recordIn W R) (refusalIs q)) unchanged r W R
 unfolding answerIs
-refused-so W c r q e h =
-    settled W c r (controllerIs c) (controller.refused (refusalIs q)) (ap (answerIs W) e) (ap controllerIs h) (ap (λ x. x .statements) h) (λ s p. let z : _≡_ {A = ℕ} 0 1 = cc in omega arith) (λ t. h)
+refused-so W R c r q e h =
+    settled W R c r (controllerIs c) (controller.refused (refusalIs q)) (ap (answerIs W) e) (ap controllerIs h) (λ s p. let z : _≡_ {A = ℕ} 0 1 = cc in omega arith) (λ t. h)
 
 -- ---- the two ways in which a request ends
 
 pub refused : {f : List Stmt → controller.Outcome} (c : Controller) (q : Refusal) {r : Outcome} → r .answer ≡ Refused q → r .controller ≡ c
     → ((X : List Stmt) → f X ≡ call.refuse (controllerIs c) X (refusalIs q)) → Calls f c r
 unfolding Calls
-refused {f} c q {r} e h g W = subst (λ o. Meets W c o unchanged r W) (sym (g (recordIs W c))) (refused-so W c r q e h)
+refused {f} c q {r} e h g W R = subst (λ o. Meets W R c o unchanged r W R) (sym (g (recordIn W R))) (refused-so W R c r q e h)
 
-pub noted : {f : List Stmt → controller.Outcome} (c d : Controller) {r : Outcome} → r .answer ≡ Taken → r .controller ≡ d → d .statements ≡ c .statements
+pub noted : {f : List Stmt → controller.Outcome} (c d : Controller) {r : Outcome} → r .answer ≡ Taken → r .controller ≡ d
     → ((X : List Stmt) → f X ≡ record { answer = controller.taken; controller = controllerIs d; statements = X }) → Calls f c r
 unfolding Calls answerIs
-noted {f} c d {r} e h k g W =
-    subst (λ o. Meets W c o unchanged r W) (sym (g (recordIs W c)))
-    (settled W c r (controllerIs d) controller.taken (ap (answerIs W) e) (ap controllerIs h) (ap (λ x. x .statements) h ∙ k) (λ s p. let z : _≡_ {A = ℕ} 0 1 = cc in omega arith) (λ t. absurd t))
+noted {f} c d {r} e h g W R =
+    subst (λ o. Meets W R c o unchanged r W R) (sym (g (recordIn W R)))
+    (settled W R c r (controllerIs d) controller.taken (ap (answerIs W) e) (ap controllerIs h) (λ s p. let z : _≡_ {A = ℕ} 0 1 = cc in omega arith) (λ t. absurd t))
 
 -- ---- the two ways in which a setup ends
 
-pub barred : {f : List Stmt → controller.Outcome} (c : Controller) (q : Refusal) {r : Outcome} → r .answer ≡ Refused q → r .controller ≡ c
-    → ((X : List Stmt) → f X ≡ call.refuse (controllerIs c) X (refusalIs q)) → Starts f c r
+pub barred : {f : List Stmt → controller.Outcome} (R : List ℕ) (c : Controller) (q : Refusal) {r : Outcome} → r .answer ≡ Refused q → r .controller ≡ c
+    → ((X : List Stmt) → f X ≡ call.refuse (controllerIs c) X (refusalIs q)) → Starts f R c r R
 unfolding Starts
-barred {f} c q {r} e h g W = subst (λ o. Meets W c o (startedOf (o .answer)) r W) (sym (g (recordIs W c))) (refused-so W c r q e h)
+barred {f} R c q {r} e h g W = subst (λ o. Meets W R c o (startedOf (o .answer)) r W R) (sym (g (recordIn W R))) (refused-so W R c r q e h)
+
+-- an empty record has only statements of the pool
+none-in : {R R′ : List ℕ} (W : List ℕ) → Emptied R R′ → AllIn W R′
+unfolding AllIn
+none-in W k i l = absurd (omega (arith, k .len))
 
 -- a controller that starts has an empty record
-pub began : {f : List Stmt → controller.Outcome} (c d : Controller) {e : controller.Controller} {r : Outcome} → r .answer ≡ Taken → r .controller ≡ d → controllerIs d ≡ e → d .statements .len ≡ 0
-    → ((X : List Stmt) → f X ≡ record { answer = controller.taken; controller = e; statements = [] }) → Starts f c r
-unfolding Starts answerIs recordIs Whole recordOf table
-began {f} c d {e} {r} a h k n g W = subst (λ o. Meets W c o (startedOf (o .answer)) r W) (sym (g (recordIs W c))) (record {
+pub began : {f : List Stmt → controller.Outcome} {R R′ : List ℕ} (c d : Controller) {e : controller.Controller} {r : Outcome} → r .answer ≡ Taken → r .controller ≡ d → controllerIs d ≡ e → Emptied R R′
+    → ((X : List Stmt) → f X ≡ record { answer = controller.taken; controller = e; statements = [] }) → Starts f R c r R′
+unfolding Starts answerIs
+began {f} {R} {R′} c d {e} {r} a h k n g W = subst (λ o. Meets W R c o (startedOf (o .answer)) r W R′) (sym (g (recordIn W R))) (record {
   answer = ap (answerIs W) a;
   number = λ s p. let z : _≡_ {A = ℕ} 0 1 = cc in absurd (omega arith);
   controller = ap controllerIs h ∙ k;
-  numbers = ap (λ x. x .statements .len) h ∙ n;
-  statements = λ w. (
-    ap (recordIs W) h ∙ ap (λ l. recordOf W (d .statements .ids) l) n,
-    subst (λ (x : Controller). AllIn W (x .statements)) (sym h) (λ i l. absurd (omega arith)),
-  );
+  numbers = n;
+  statements = λ w. (n .none W, none-in W n);
   pool = refl;
   refused = λ t. absurd t;
 })
@@ -109,7 +110,7 @@ module _ (c : Controller) (X : List Stmt) where
   join-again b e f g h = rw (e, sym f ∙ g, h)
 
   abbrev pub joining : Controller
-  joining = record { ready = c .ready; number = c .number; init = c .init; sender = c .sender; entered = c .entered; binding = c .binding; delivered = c .delivered; joining = true; leaving = c .leaving; sending = c .sending; statements = c .statements }
+  joining = record { ready = c .ready; number = c .number; init = c .init; sender = c .sender; entered = c .entered; binding = c .binding; delivered = c .delivered; joining = true; leaving = c .leaving; sending = c .sending }
 
   pub join-taken : (b : Bool) → c .ready ≡ true → b ≡ member (viewIs (c .init)) (c .number) → b ≡ false → c .joining ≡ false
       → call.requestJoin (controllerIs c) X ≡ record { answer = controller.taken; controller = controllerIs joining; statements = X }
@@ -140,7 +141,7 @@ module _ (c : Controller) (X : List Stmt) where
   leave-again e f h = rw (e, entered-some (c .entered) f, h)
 
   abbrev pub leaving : Controller
-  leaving = record { ready = c .ready; number = c .number; init = c .init; sender = c .sender; entered = c .entered; binding = c .binding; delivered = c .delivered; joining = c .joining; leaving = true; sending = c .sending; statements = c .statements }
+  leaving = record { ready = c .ready; number = c .number; init = c .init; sender = c .sender; entered = c .entered; binding = c .binding; delivered = c .delivered; joining = c .joining; leaving = true; sending = c .sending }
 
   pub leave-taken : c .ready ≡ true → (c .entered .len ≡ 0 → ⊥) → c .leaving ≡ false
       → call.requestLeave (controllerIs c) X ≡ record { answer = controller.taken; controller = controllerIs leaving; statements = X }
@@ -163,7 +164,7 @@ module _ (c : Controller) (X : List Stmt) (m : ℕ) where
   send-again p e f g = rw (e, eq-eqb (c .number) (c .sender) f, g)
 
   abbrev pub sending : Controller
-  sending = record { ready = c .ready; number = c .number; init = c .init; sender = c .sender; entered = c .entered; binding = c .binding; delivered = c .delivered; joining = c .joining; leaving = c .leaving; sending = Payload m; statements = c .statements }
+  sending = record { ready = c .ready; number = c .number; init = c .init; sender = c .sender; entered = c .entered; binding = c .binding; delivered = c .delivered; joining = c .joining; leaving = c .leaving; sending = Payload m }
 
   pub send-taken : c .ready ≡ true → c .number ≡ c .sender → c .sending ≡ Nothing
       → call.requestSend (controllerIs c) X m ≡ record { answer = controller.taken; controller = controllerIs sending; statements = X }
@@ -229,9 +230,9 @@ pub first-none : (v : held.View) (k : ℕ) (b : Bool) (h : History) → b ≡ me
 unfolding initialIs
 first-none v k b h m t n = n ∙ rw (sym m ∙ t)
 
-pub entered-start : (members k : ℕ) (h : History) → viewsIs h ≡ initialIs (record { joined = members; left = 0 }) k → viewsIs h ≡ (if bit members k then call.initialView members ∷ [] else [])
+pub entered-start : (members k : ℕ) (h : History) → members < 65536 → viewsIs h ≡ initialIs (record { joined = members; left = 0 }) k → viewsIs h ≡ (if bit members k then call.initialView members ∷ [] else [])
 unfolding initialIs
-entered-start members k h e = e ∙ rw (bit-member members k)
+entered-start members k h l e = e ∙ rw (let q : members % 65536 ≡ members = omega arith in q, bit-member members k)
 
 pub new-is : (h : History) → viewsIs h ≡ [] → controllerIs (record {
   ready = false;
@@ -244,12 +245,11 @@ pub new-is : (h : History) → viewsIs h ≡ [] → controllerIs (record {
   joining = false;
   leaving = false;
   sending = Nothing;
-  statements = record { ids = replicate 512 0; len = 0 };
 }) ≡ controller.notSetUp
 unfolding controllerIs
 new-is h e = rw e
 
-pub start-is : (number members sender : ℕ) (h : History) → viewsIs h ≡ initialIs (record { joined = members; left = 0 }) number → controllerIs (record {
+pub start-is : (number members sender : ℕ) (h : History) → members < 65536 → viewsIs h ≡ initialIs (record { joined = members; left = 0 }) number → controllerIs (record {
   ready = true;
   number = number;
   init = record { joined = members; left = 0 };
@@ -260,7 +260,6 @@ pub start-is : (number members sender : ℕ) (h : History) → viewsIs h ≡ ini
   joining = false;
   leaving = false;
   sending = Nothing;
-  statements = record { ids = replicate 512 0; len = 0 };
 }) ≡ call.started number members sender
 unfolding controllerIs call.started
-start-is number members sender h e = rw (entered-start members number h e)
+start-is number members sender h l e = rw (let q : members % 65536 ≡ members = omega arith in q, entered-start members number h l e)

@@ -3,12 +3,14 @@
 use mathlib.Core.Path.{_≡_}
 use mathlib.Core.Bool.{Bool, not}
 use mathlib.Core.List.{List}
+use Prim.Native.Nat.{ℕ}
 use Rattle.protocol.specs.View.{View, below}
-use Rattle.protocol.specs.Statement.{Stmt}
+use Rattle.pool.specs.Pool.{recordIn}
 use Rattle.evidence.specs.declared.Evidence.{Evidence}
-use Rattle.evidence.specs.Evidence.{Settled}
-use Rattle.rules.specs.declared.Sight.{Sight}
-use Rattle.rules.specs.Rules.{SightOf}
+use Rattle.evidence.specs.declared.Ring.{Ring}
+use Rattle.evidence.specs.Evidence.{ringOf, Settled}
+use Rattle.rules.specs.declared.Situation.{Situation}
+use Rattle.rules.specs.Rules.{SituationOf}
 use Rattle.engine.specs.declared.Controller as held
 use Rattle.engine.specs.Meaning.{controllerIs}
 
@@ -16,9 +18,13 @@ use Rattle.engine.specs.Meaning.{controllerIs}
 unfoldable pub notAbove : View → View → Bool
 notAbove t u = not (below 16 t u)
 
--- s is what the rules look at, of the controller c with a record whose evidence is e.
-pub record Looks (c : held.Controller) (e : Evidence) (s : Sight) : Type 0 where
-  pub sight : (X : List Stmt) → Settled (controllerIs c .ring) (c .sender) X e → SightOf (controllerIs c) X s
-  pub sender : s .sender ≡ c .sender
-  pub count : s .count ≡ e .count
-  pub length : s .length ≡ e .length
+-- The ring is the controller's.
+pub record RingOf (c : held.Controller) (r : Ring) : Type 0 where
+  pub is : ringOf r ≡ controllerIs c .ring
+  pub sender : r .sender ≡ c .sender
+
+-- s is the situation of the controller c in its ring, with a record whose evidence is e and whose greatest history is in G.
+pub record Looks (c : held.Controller) (r : Ring) (G : List ℕ) (e : Evidence) (s : Situation) : Type 0 where
+  pub situation : (W R C : List ℕ) → Settled (ringOf r) (r .sender) (recordIn W R) C G e → SituationOf (controllerIs c) (recordIn W R) s
+  pub ring : s .ring ≡ r
+  pub shown : s .shown ≡ e

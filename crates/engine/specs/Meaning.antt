@@ -1,7 +1,7 @@
 -- What the engine's values mean: the protocol's controller and answer.
 -- Assumes nothing.
 use mathlib.Core.List.{List, [], _∷_}
-use Prim.Native.Nat.{ℕ, _<_, min}
+use Prim.Native.Nat.{ℕ, _<_}
 use lib.ListN.{getD}
 use Rattle.protocol.specs.Lists.{if_then_else_}
 use Rattle.protocol.specs.View.{View, controllers, member}
@@ -11,10 +11,9 @@ use Rattle.views.specs.Table.{table}
 use Rattle.views.specs.Held.{viewIs, viewsIs}
 use Rattle.views.specs.declared.View as held
 use Rattle.statements.specs.Meaning.{bindingIs}
-use Rattle.pool.specs.declared.Record.{Record}
-use Rattle.pool.specs.Pool.{stmtAt, poolLen, recordOf}
+use Rattle.pool.specs.Pool.{stmtAt, poolLen, recordLen}
 use Rattle.engine.specs.declared.Controller.{Controller}
-use Rattle.rules.specs.Deeds.{sendIs}
+use Rattle.rules.specs.Actions.{sendIs}
 use Rattle.engine.specs.declared.Refusal.{Refusal}
 use Rattle.engine.specs.declared.Refusal.the-variants.{BadSetup, BadStatement, Repeated, Full, BadRequest, ManyCandidates, Conflict, OutOfPlace}
 use Rattle.engine.specs.declared.Answer.{Answer}
@@ -24,7 +23,7 @@ use Rattle.engine.specs.declared.Answer.the-variants.{Taken, Signed, Ent
 unfoldable pub initialIs : held.View → ℕ → List View
 initialIs v k = if member (viewIs v) k then viewIs v ∷ [] else []
 
--- The controller. Its record is `recordIs`.
+-- The controller. Its record is lent beside it.
 unfoldable pub controllerIs : Controller → controller.Controller
 controllerIs c = record {
   isSetUp = c .ready;
@@ -39,36 +38,13 @@ controllerIs c = record {
   sendRequested = sendIs (c .sending);
 }
 
--- The controller with another record.
-abbrev pub withStatements : Controller → Record → Controller
-withStatements c r = record {
-  ready = c .ready;
-  number = c .number;
-  init = c .init;
-  sender = c .sender;
-  entered = c .entered;
-  binding = c .binding;
-  delivered = c .delivered;
-  joining = c .joining;
-  leaving = c .leaving;
-  sending = c .sending;
-  statements = r;
-}
-
--- The record of a controller, over the pool's memory W.
-unfoldable pub recordIs : List ℕ → Controller → List Stmt
-recordIs W c = recordOf W (c .statements .ids) (c .statements .len)
-
 -- The pool.
 unfoldable pub poolIs : List ℕ → List Stmt
 poolIs W = table (poolLen W) (stmtAt W)
 
--- Every statement of the record is one of the pool. A controller that calls returned has this; one that a caller made up need not.
-abbrev pub AllIn : List ℕ → Record → Type 0
-AllIn W r = (i : ℕ) → i < min (r .len) 512 → getD (r .ids) i 0 < poolLen W
-
-unfoldable pub Whole : List ℕ → Controller → Type 0
-Whole W c = AllIn W (c .statements)
+-- Every statement of the record in the memory R is one of the pool. A record that calls left has this; one that a caller made up need not.
+unfoldable pub AllIn : List ℕ → List ℕ → Type 0
+AllIn W R = (i : ℕ) → i < recordLen R → getD R i 0 < poolLen W
 
 abbrev pub refusalIs : Refusal → controller.Refusal
 refusalIs BadSetup = controller.badSetup

@@ -10,15 +10,14 @@ use Rattle.protocol.specs.Controller as controller
 use Rattle.protocol.specs.Pool.{numberOf, pooled, hasRoom}
 use Rattle.protocol.specs.Run.{Call, setupCall, joinCall, leaveCall, sendCall, addCall, turnCall, outcome}
 use Rattle.engine.specs.declared.Controller.{Controller}
-use Rattle.pool.specs.declared.Record.{Record}
 use Rattle.pool.specs.declared.Placed as placing
 use Rattle.pool.specs.declared.Placed.the-variants.{At, Full}
-use Rattle.pool.specs.Pool.{stmtAt, poolLen}
-use Rattle.pool.specs.Changes.{pooledIn, Pushed}
+use Rattle.pool.specs.Pool.{stmtAt, poolLen, recordLen, recordIn}
+use Rattle.pool.specs.Changes.{pooledIn, PushedTo, Emptied}
 use Rattle.engine.specs.declared.Outcome.{Outcome}
 use Rattle.engine.specs.declared.Answer.{Answer}
 use Rattle.engine.specs.declared.Answer.the-variants.{Signed, Left, Quiet}
-use Rattle.engine.specs.Meaning.{controllerIs, recordIs, poolIs, Whole, answerIs}
+use Rattle.engine.specs.Meaning.{controllerIs, poolIs, AllIn, answerIs}
 
 -- What a call does to a record: nothing, it empties it, or it puts a statement at its end.
 pub data Change : Type 0 where
@@ -37,11 +36,11 @@ PoolAfter W unchanged W′ = W′ ≡ W
 PoolAfter W emptied W′ = W′ ≡ W
 PoolAfter W (grown s) W′ = Pooled s W W′
 
--- The record's numbers after it: those that it had, none, or those that it had and then that of the statement in the pool.
-abbrev pub NumbersAfter : List ℕ → Record → Change → Record → Type 0
-NumbersAfter W from unchanged to = to ≡ from
-NumbersAfter W from emptied to = to .len ≡ 0
-NumbersAfter W from (grown s) to = Pushed from (numberOf s (poolIs W)) to
+-- The record after it: as it was to the last place, none, or with the number of the statement in the pool at its end.
+abbrev pub NumbersAfter : List ℕ → List ℕ → Change → List ℕ → Type 0
+NumbersAfter W R unchanged R′ = R′ ≡ R
+NumbersAfter W R emptied R′ = Emptied R R′
+NumbersAfter W R (grown s) R′ = PushedTo R (numberOf s (poolIs W)) R′
 
 -- The answer was refused.
 abbrev pub IsRefused : controller.Answer → Type 0
@@ -63,22 +62,22 @@ signedOf controller.left = unchanged
 signedOf controller.quiet = unchanged
 signedOf (controller.refused r) = unchanged
 
--- A call on c over the pool W has the outcome o and changes the record by p; it returned r, and left the pool W′.
--- What becomes of the record's numbers is promised for every controller. What they mean is promised for one that is whole, which it stays: a number that a made-up record names
--- and the pool does not have may come to mean a new statement.
-pub record Meets (W : List ℕ) (c : Controller) (o : controller.Outcome) (p : Change) (r : Outcome) (W′ : List ℕ) : Type 0 where
+-- A call on c over the pool W and the record R has the outcome o and changes the record by p; it returned r, and left the pool W′ and the record R′.
+-- What becomes of the record's numbers is promised for every record. What they mean is promised for one whose numbers are in the pool, as they stay: a number that a made-up
+-- record names and the pool does not have may come to mean a new statement.
+pub record Meets (W R : List ℕ) (c : Controller) (o : controller.Outcome) (p : Change) (r : Outcome) (W′ R′ : List ℕ) : Type 0 where
   pub answer : answerIs W′ (r .answer) ≡ o .answer
   pub number : (s : Stmt) → o .answer ≡ controller.signed s → r .answer ≡ Signed (numberOf s (poolIs W))
   pub controller : controllerIs (r .controller) ≡ o .controller
-  pub numbers : NumbersAfter W (c .statements) p (r .controller .statements)
-  pub statements : Whole W c → (recordIs W′ (r .controller) ≡ o .statements) × Whole W′ (r .controller)
+  pub numbers : NumbersAfter W R p R′
+  pub statements : AllIn W R → (recordIn W′ R′ ≡ o .statements) × AllIn W′ R′
   pub pool : PoolAfter W p W′
   -- "as before", to the last byte.
-  pub refused : IsRefused (o .answer) → (r .controller ≡ c) × (W′ ≡ W)
+  pub refused : IsRefused (o .answer) → (r .controller ≡ c) × (R′ ≡ R) × (W′ ≡ W)
 
--- A call that touches neither the pool nor the record, whatever the pool is.
+-- A call that touches neither the pool nor the record, whatever they are.
 unfoldable pub Calls : (List Stmt → controller.Outcome) → Controller → Outcome → Type 0
-Calls f c r = (W : List ℕ) → Meets W c (f (recordIs W c)) unchanged r W
+Calls f c r = (W R : List ℕ) → Meets W R c (f (recordIn W R)) unchanged r W R
 
 -- What a setup that answers so does to the record: one that is taken empties it.
 abbrev pub startedOf : controller.Answer → Change
@@ -90,13 +89,13 @@ startedOf controller.left = unchanged
 startedOf controller.quiet = unchanged
 startedOf (controller.refused r) = unchanged
 
--- A setup.
-unfoldable pub Starts : (List Stmt → controller.Outcome) → Controller → Outcome → Type 0
-Starts f c r = (W : List ℕ) → Meets W c (f (recordIs W c)) (startedOf (f (recordIs W c) .answer)) r W
+-- A setup, over any pool.
+unfoldable pub Starts : (List Stmt → controller.Outcome) → List ℕ → Controller → Outcome → List ℕ → Type 0
+Starts f R c r R′ = (W : List ℕ) → Meets W R c (f (recordIn W R)) (startedOf (f (recordIn W R) .answer)) r W R′
 
--- Statement n of the pool W′ is s, the pool is W with s, and it had room for s, as has a record of this length.
-pub record Numbered (W : List ℕ) (len : ℕ) (s : Stmt) (n : ℕ) (W′ : List ℕ) : Type 0 where
-  pub short : len < 512
+-- Statement n of the pool W′ is s, the pool is W with s, and it had room for s, as has the record R.
+pub record Numbered (W R : List ℕ) (s : Stmt) (n : ℕ) (W′ : List ℕ) : Type 0 where
+  pub short : recordLen R < 512
   pub room : hasRoom (poolIs W) s ≡ true
   pub number : n ≡ numberOf s (poolIs W)
   pub is : stmtAt W′ n ≡ s
@@ -105,14 +104,14 @@ pub record Numbered (W : List ℕ) (len : ℕ) (s : Stmt) (n : ℕ) (W′ : List
   pub within : n < poolLen W′
   pub same : (m : ℕ) → m < poolLen W → stmtAt W′ m ≡ stmtAt W m
 
--- s went into the pool W under the number that r tells; or a record of this length, or the pool, had no room, and nothing changed.
-pub record Placed (W : List ℕ) (len : ℕ) (s : Stmt) (r : placing.Placed) (W′ : List ℕ) : Type 0 where
-  pub full : r ≡ Full → ((512 ≤ len) ⊎ (hasRoom (poolIs W) s ≡ false)) × (W′ ≡ W)
-  pub at : (n : ℕ) → r ≡ At n → Numbered W len s n W′
+-- s went into the pool W under the number that r tells; or the record R, or the pool, had no room, and nothing changed.
+pub record Placed (W R : List ℕ) (s : Stmt) (r : placing.Placed) (W′ : List ℕ) : Type 0 where
+  pub full : r ≡ Full → ((512 ≤ recordLen R) ⊎ (hasRoom (poolIs W) s ≡ false)) × (W′ ≡ W)
+  pub at : (n : ℕ) → r ≡ At n → Numbered W R s n W′
 
 -- A turn: what it signs goes into the pool.
-abbrev pub Turns : List ℕ → Controller → controller.Outcome → Outcome → List ℕ → Type 0
-Turns W c o r W′ = Meets W c o (signedOf (o .answer)) r W′
+abbrev pub Turns : List ℕ → List ℕ → Controller → controller.Outcome → Outcome → List ℕ → List ℕ → Type 0
+Turns W R c o r W′ R′ = Meets W R c o (signedOf (o .answer)) r W′ R′
 
 -- What an addition of s that answers so does to the record.
 abbrev pub addedOf : controller.Answer → Stmt → Change
@@ -125,8 +124,8 @@ addedOf controller.quiet s = unchanged
 addedOf (controller.refused r) s = unchanged
 
 -- An addition of s.
-abbrev pub Adds : List ℕ → Controller → Stmt → controller.Outcome → Outcome → List ℕ → Type 0
-Adds W c s o r W′ = Meets W c o (addedOf (o .answer) s) r W′
+abbrev pub Adds : List ℕ → List ℕ → Controller → Stmt → controller.Outcome → Outcome → List ℕ → List ℕ → Type 0
+Adds W R c s o r W′ R′ = Meets W R c o (addedOf (o .answer) s) r W′ R′
 
 -- What a controller answers that has nothing to do.
 abbrev pub restIs : Bool → Answer
@@ -144,7 +143,7 @@ changeOf (sendCall payload) a = unchanged
 changeOf (addCall s) a = addedOf a s
 changeOf turnCall a = signedOf a
 
--- The engine was called so, over the pool W, and returned r with the pool W′. Every contract of the engine's calls is of this form.
-abbrev pub Called : List ℕ → Controller → Call → Outcome → List ℕ → Type 0
-Called W c k r W′ =
-    Meets W c (outcome (hasRoom (poolIs W)) (controllerIs c) (recordIs W c) k) (changeOf k (outcome (hasRoom (poolIs W)) (controllerIs c) (recordIs W c) k .answer)) r W′
+-- The engine was called so, over the pool W and the record R, and returned r with the pool W′ and the record R′. Every contract of the engine's calls is of this form.
+abbrev pub Called : List ℕ → List ℕ → Controller → Call → Outcome → List ℕ → List ℕ → Type 0
+Called W R c k r W′ R′ =
+    Meets W R c (outcome (hasRoom (poolIs W)) (controllerIs c) (recordIn W R) k) (changeOf k (outcome (hasRoom (poolIs W)) (controllerIs c) (recordIn W R) k .answer)) r W′ R′

@@ -1,6 +1,5 @@
 // Setup and requests.
 ghost use mathlib.Core.Path.{_≡_};
-ghost use mathlib.Core.List.{[]};
 ghost use Rattle.protocol.specs.Controller.{notSetUp};
 ghost use Rattle.protocol.specs.Call.{started, setup, requestJoin, requestLeave, requestSend};
 ghost use Rattle.views.specs.Held.{viewsIs};
@@ -10,7 +9,7 @@ use crate::Answer;
 use crate::Controller;
 use crate::Outcome;
 use crate::Refusal;
-use pool::Record;
+use pool::RECORD;
 use rules::Send;
 use statements::Binding;
 use views::History;
@@ -48,17 +47,13 @@ fn entered_first(init: View, number: u8) -> History
 
 // A controller that is set up in the ring of these initial members.
 fn start(number: u8, members: u16, sender: u8) -> Controller
-    ensures { λ r. ⌜ (controllerIs r ≡ started number members sender) × (r .statements .len ≡ 0) ⌝ }
+    ensures { λ r. ⌜ controllerIs r ≡ started number members sender ⌝ }
 {
     let init = View {
-        joined: members,
+        joined: members as u32,
         left: 0,
     };
     let entered = entered_first(init, number);
-    let statements = Record {
-        ids: [0u16; 512],
-        len: 0,
-    };
     Controller {
         ready: true,
         number: number,
@@ -70,21 +65,16 @@ fn start(number: u8, members: u16, sender: u8) -> Controller
         joining: false,
         leaving: false,
         sending: Send::Nothing,
-        statements: statements,
     }
 }
 
 impl Controller {
     // A controller before setup.
     pub fn new() -> Controller
-        ensures { λ r. ⌜ (controllerIs r ≡ notSetUp) × (r .statements .len ≡ 0) ⌝ }
+        ensures { λ r. ⌜ controllerIs r ≡ notSetUp ⌝ }
     {
         let init = View { joined: 0, left: 0 };
         let entered = History::new();
-        let statements = Record {
-            ids: [0u16; 512],
-            len: 0,
-        };
         Controller {
             ready: false,
             number: 0,
@@ -96,12 +86,12 @@ impl Controller {
             joining: false,
             leaving: false,
             sending: Send::Nothing,
-            statements: statements,
         }
     }
 
-    pub fn setup(self, number: u8, members: u16, sender: u8) -> Outcome
-        ensures { λ r. ⌜ Starts (λ X. setup (controllerIs self) X number members sender) self r ⌝ }
+    // A setup that is taken empties the record.
+    pub fn setup(self, ids: &mut [u16; RECORD], number: u8, members: u16, sender: u8) -> Outcome
+        ensures { λ r. ⌜ Starts (λ X. setup (controllerIs self) X number members sender) (now (ids .entry)) self r (now (ids .exit)) ⌝ }
     {
         if self.ready {
             return refuse(self, Refusal::BadSetup);
@@ -115,6 +105,7 @@ impl Controller {
         if sender >= View::WIDTH {
             return refuse(self, Refusal::BadSetup);
         }
+        pool::record_clear(ids);
         take(start(number, members, sender))
     }
 

@@ -3,14 +3,15 @@ ghost use Prim.Native.Nat.{_≤_};
 ghost use Rattle.statements.specs.Meaning.{stmtOf};
 ghost use Rattle.engine.specs.Promise.{Placed};
 use pool::POOL_WORDS;
+use pool::RECORD;
 use statements::Statement;
 
-// The number of the statement in the pool; or there is no room in a record of this length, or none in the pool, which lacks the statement.
-pub fn place(words: &mut [u64; POOL_WORDS], len: usize, st: Statement) -> pool::Placed
+// The number of the statement in the pool; or there is no room in the record, or none in the pool, which lacks the statement.
+pub fn place(words: &mut [u64; POOL_WORDS], ids: &[u16; RECORD], st: Statement) -> pool::Placed
     requires { ⌜ st .history .len ≤ 16 ⌝ }
-    ensures { λ r. ⌜ Placed (now (words .entry)) len (stmtOf st) r (now (words .exit)) ⌝ }
+    ensures { λ r. ⌜ Placed (now (words .entry)) (now (ids .entry)) (stmtOf st) r (now (words .exit)) ⌝ }
 {
-    if len >= 512 {
+    if pool::record_length(ids) >= 512 {
         return pool::Placed::Full;
     }
     pool::append(words, st)

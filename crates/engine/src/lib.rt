@@ -1,4 +1,4 @@
-// The engine of one controller: setup, requests, additions and turns, each a value in and a value out, over a pool that is lent.
+// The engine of one controller: setup, requests, additions and turns, each a value in and a value out, over a record and a pool that are lent.
 mod add;
 mod calls;
 mod keep;
@@ -7,7 +7,6 @@ mod perform;
 mod turn;
 
 pub use calls::refuse;
-use pool::Record;
 use rules::Send;
 use statements::Binding;
 use views::History;
@@ -24,7 +23,6 @@ pub struct Controller {
     pub joining: bool,
     pub leaving: bool,
     pub sending: Send,
-    pub statements: Record,
 }
 
 // Why a call is refused, in the order of the table of refusals.

@@ -3,10 +3,11 @@ ghost use mathlib.Core.Path.{_≡_};
 ghost use Prim.Native.Nat.{_≤_, _<_};
 ghost use Rattle.protocol.specs.Lists.{all};
 ghost use Rattle.views.specs.Held.{viewIs, viewsIs};
-ghost use Rattle.engine.specs.Looks.{notAbove, Looks};
+ghost use Rattle.engine.specs.Looks.{notAbove, RingOf, Looks};
 use crate::Controller;
 use evidence::Evidence;
-use rules::Sight;
+use evidence::Ring;
+use rules::Situation;
 use views::History;
 use views::View;
 
@@ -27,22 +28,19 @@ fn none_above(h: History, t: View) -> bool
     true
 }
 
-// What the rules look at, of the controller c with the evidence e.
-pub fn look(c: Controller, e: Evidence) -> Sight
-    requires { ⌜ (0 < e .length) × (e .length ≤ 16) ⌝ }
-    ensures { λ r. ⌜ Looks c e r ⌝ }
+// The situation of the controller c, in its ring, with the evidence e of its record.
+pub fn look(c: Controller, ring: Ring, e: Evidence, greatest: &[u64; View::LIMIT]) -> Situation
+    requires { ⌜ RingOf c ring × (0 < e .length) × (e .length ≤ 16) ⌝ }
+    ensures { λ r. ⌜ Looks c ring (now (greatest .entry)) e r ⌝ }
 {
-    let greatest = e.greatest;
-    let candidates = e.candidates;
     let t = View::of_word(greatest[e.length - 1]);
-    let w = View::of_word(e.wished);
     let h = c.entered;
     let entered = h.has(t);
     let b = c.binding;
     let sending = c.sending;
-    Sight {
+    Situation {
         number: c.number,
-        sender: c.sender,
+        ring: ring,
         binding: b,
         delivered: c.delivered,
         joining: c.joining,
@@ -52,13 +50,6 @@ pub fn look(c: Controller, e: Evidence) -> Sight
         entered: entered,
         stands: entered & none_above(h, t),
         top: t,
-        wished: w,
-        candidates: candidates,
-        count: e.count,
-        greatest: greatest,
-        length: e.length,
-        certified: e.certified,
-        payload: e.payload,
-        stored: e.stored,
+        shown: e,
     }
 }

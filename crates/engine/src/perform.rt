@@ -1,14 +1,15 @@
 // What the rule of a turn has the controller do.
 ghost use mathlib.Core.Path.{_≡_};
 ghost use Prim.Native.Nat.{_≤_};
-ghost use Rattle.protocol.specs.Sets.{bit};
 ghost use Rattle.protocol.specs.Pool.{hasRoom};
 ghost use Rattle.protocol.specs.Controller.{withBinding, withEntered, withDelivered};
 ghost use Rattle.views.specs.Held.{viewIs, viewsIs};
 ghost use Rattle.protocol.specs.Turn as protocol;
 ghost use Rattle.statements.specs.Meaning.{stmtOf, bindingIs};
-ghost use Rattle.engine.specs.Meaning.{controllerIs, recordIs, poolIs};
-ghost use Rattle.rules.specs.Deeds.{actionIs};
+ghost use Rattle.pool.specs.Pool.{recordIn};
+ghost use Rattle.engine.specs.Meaning.{controllerIs, poolIs};
+ghost use Rattle.rules.specs.Actions.{viewsIn, actionIs};
+ghost use Rattle.rules.specs.Rules.{SituationOf};
 ghost use Rattle.engine.specs.Promise.{Turns, restIs};
 use crate::Answer;
 use crate::Controller;
@@ -17,36 +18,38 @@ use crate::Refusal;
 use crate::calls;
 use crate::keep;
 use pool::POOL_WORDS;
-use rules::Deed;
-use rules::Step;
+use pool::RECORD;
+use rules::Action;
+use rules::Situation;
 use statements::Binding;
 use statements::Statement;
 use views::View;
 
 // The statement goes at the end of the record and is answered; the binding is b from then on.
-fn sign(c: Controller, words: &mut [u64; POOL_WORDS], b: Binding, st: Statement) -> Outcome
+fn sign(
+    c: Controller,
+    ids: &mut [u16; RECORD],
+    words: &mut [u64; POOL_WORDS],
+    b: Binding,
+    st: Statement,
+) -> Outcome
     requires { ⌜ st .history .len ≤ 16 ⌝ }
-    ensures { λ r. ⌜ Turns (now (words .entry)) c (protocol.signing (controllerIs c) (recordIs (now (words .entry)) c) (hasRoom (poolIs (now (words .entry)))) (withBinding (bindingIs b) (controllerIs c)) (stmtOf st)) r (now (words .exit)) ⌝ }
+    ensures { λ r. ⌜ Turns (now (words .entry)) (now (ids .entry)) c (protocol.signing (controllerIs c) (recordIn (now (words .entry)) (now (ids .entry))) (hasRoom (poolIs (now (words .entry)))) (withBinding (bindingIs b) (controllerIs c)) (stmtOf st)) r (now (words .exit)) (now (ids .exit)) ⌝ }
 {
-    let statements = c.statements;
-    let placed = keep::place(words, statements.len, st);
+    let placed = keep::place(words, ids, st);
     let pool::Placed::At(n) = placed else {
         return calls::refuse(c, Refusal::Full);
     };
-    let more = pool::push(statements, n);
+    pool::record_push(ids, n);
     Outcome {
         answer: Answer::Signed(n),
-        controller: Controller {
-            statements: more,
-            binding: b,
-            ..c
-        },
+        controller: Controller { binding: b, ..c },
     }
 }
 
 // The controller that entered v with the binding b.
 fn enter(c: Controller, v: View, b: Binding) -> Outcome
-    ensures { λ r. ⌜ (r .answer ≡ Answer.Entered v) × (controllerIs (r .controller) ≡ withEntered (protocol.enteredAfter (viewIs v) (viewsIs (c .entered))) (withBinding (bindingIs b) (controllerIs c))) × (r .controller .statements ≡ c .statements) ⌝ }
+    ensures { λ r. ⌜ (r .answer ≡ Answer.Entered v) × (controllerIs (r .controller) ≡ withEntered (protocol.enteredAfter (viewIs v) (viewsIs (c .entered))) (withBinding (bindingIs b) (controllerIs c))) ⌝ }
 {
     let entered = c.entered;
     let more = entered.push(v);
@@ -77,7 +80,7 @@ fn rest(c: Controller, gone: bool) -> Outcome
 }
 
 fn deliver(c: Controller, m: u64) -> Outcome
-    ensures { λ r. ⌜ (r .answer ≡ Answer.Delivered m) × (controllerIs (r .controller) ≡ withDelivered (controllerIs c)) × (r .controller .statements ≡ c .statements) ⌝ }
+    ensures { λ r. ⌜ (r .answer ≡ Answer.Delivered m) × (controllerIs (r .controller) ≡ withDelivered (controllerIs c)) ⌝ }
 {
     Outcome {
         answer: Answer::Delivered(m),
@@ -88,23 +91,32 @@ fn deliver(c: Controller, m: u64) -> Outcome
     }
 }
 
-pub fn perform(c: Controller, words: &mut [u64; POOL_WORDS], a: Step, gone: bool) -> Outcome
-    requires { ⌜ (a .statement .history .len ≤ 16) × (gone ≡ bit (protocol.T (controllerIs c) (recordIs (now words) c) .left) (c .number)) ⌝ }
-    ensures { λ r. ⌜ Turns (now (words .entry)) c (protocol.perform (controllerIs c) (recordIs (now (words .entry)) c) (hasRoom (poolIs (now (words .entry)))) (actionIs a)) r (now (words .exit)) ⌝ }
+// Does the action a. The one statement of a turn is made here, where it is signed.
+pub fn perform(
+    c: Controller,
+    ids: &mut [u16; RECORD],
+    words: &mut [u64; POOL_WORDS],
+    candidates: &[u64; View::LIMIT],
+    s: Situation,
+    a: Action,
+) -> Outcome
+    requires { ⌜ (s .shown .count ≤ 16) × SituationOf (controllerIs c) (recordIn (now words) (now ids)) s ⌝ }
+    ensures { λ r. ⌜ Turns (now (words .entry)) (now (ids .entry)) c (protocol.perform (controllerIs c) (recordIn (now (words .entry)) (now (ids .entry))) (hasRoom (poolIs (now (words .entry)))) (actionIs s (viewsIn (now (candidates .entry)) (s .shown .count)) a)) r (now (words .exit)) (now (ids .exit)) ⌝ }
 {
-    let deed = a.deed;
-    let st = a.statement;
-    match deed {
-        Deed::Rest => rest(c, gone),
-        Deed::Sign => {
-            let b = c.binding;
-            sign(c, words, b, st)
+    match a {
+        Action::Rest => {
+            let t = s.top;
+            rest(c, rules::has_left(t, s.number))
         }
-        Deed::Bind(m) => {
+        Action::Enter(v, b) => enter(c, v, b),
+        Action::Deliver(m) => deliver(c, m),
+        Action::Ack(m) => {
             let b = Binding::Bound(m);
-            sign(c, words, b, st)
+            sign(c, ids, words, b, rules::statement(candidates, s, a))
         }
-        Deed::Enter(v, b) => enter(c, v, b),
-        Deed::Deliver(m) => deliver(c, m),
+        _ => {
+            let b = c.binding;
+            sign(c, ids, words, b, rules::statement(candidates, s, a))
+        }
     }
 }

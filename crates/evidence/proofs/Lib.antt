@@ -1,8 +1,11 @@
 pub mod Sifted
 pub mod Payloads
 pub mod Backing
+pub mod Kept
+pub mod Acked
 pub mod Reporting
 pub mod Merging
 pub mod Turns
+pub mod Fitting
 pub mod Tied
 pub mod Unvoted

@@ -21,8 +21,8 @@ use Rattle.views.specs.Table.{table}
 use Rattle.views.proofs.Tables.{any-zero, any-suc, any-more, any-at, table-cong}
 use Rattle.pool.specs.Pool.{recordOf}
 use Rattle.pool.proofs.Records.{entry, none-first, any-next, whole}
-use Rattle.evidence.specs.Shown.{preparesIt, listed, twofold, PreparedList}
-use Rattle.ranking.proofs.Members.{table-in, table-out}
+use Rattle.evidence.specs.Shown.{preparesIt, payloadCount, listed, twofold, PreparedList}
+use Rattle.ranking.proofs.Members.{table-out}
 
 -- ---- one statement
 
@@ -55,17 +55,27 @@ listed-zero : (P : List ℕ) (m : ℕ) → listed P 0 m ≡ false
 unfolding listed
 listed-zero P m = any-zero (λ p. eqb p m) (λ i. getD P i 0)
 
+counted-last : (P : List ℕ) (n : ℕ) → n ≤ 512 → length P ≡ 513 → payloadCount (set P 512 n) ≡ n
+counted-last P n l h = ap (λ k. min k 512) (getD-set-same P 512 n 0 (omega arith)) ∙ omega arith
+
+-- the count in the last place changes no payload
+listed-counted : (P : List ℕ) (n m : ℕ) → n ≤ 512 → length P ≡ 513 → listed (set P 512 n) (payloadCount (set P 512 n)) m ≡ listed P n m
+unfolding listed
+listed-counted P n m l h =
+    ap (λ k. any (λ p. eqb p m) (table k (λ i. getD (set P 512 n) i 0))) (counted-last P n l h)
+    ∙ ap (any (λ p. eqb p m)) (table-cong n (λ i. getD (set P 512 n) i 0) (λ i. getD P i 0) (λ i k. getD-set-other P 512 i n 0 (λ e. omega arith)))
+
 module _ (W ids : List ℕ) (sender : ℕ) where
   abbrev its : ℕ → Stmt → Bool
   its m s = prepares sender s && eqb (s .payload) m
 
   -- P has the n payloads that the sender prepared before i
   pub record ListedTo (P : List ℕ) (n i : ℕ) : Type 0 where
-    pub long : length P ≡ 512
+    pub long : length P ≡ 513
     pub most : n ≤ i
     pub are : (m : ℕ) → any (its m) (recordOf W ids i) ≡ listed P n m
 
-  pub list-first : (P : List ℕ) → length P ≡ 512 → ListedTo P 0 0
+  pub list-first : (P : List ℕ) → length P ≡ 513 → ListedTo P 0 0
   list-first P l = record { long = l; most = omega arith; are = λ m. none-first W ids (its m) ∙ sym (listed-zero P m) }
 
   pub list-skip : {P : List ℕ} {n i : ℕ} (r : Bool) → i < 512 → r ≡ prepares sender (entry W ids i) → r ≡ false → ListedTo P n i → ListedTo P n (i + 1)
@@ -82,9 +92,10 @@ module _ (W ids : List ℕ) (sender : ℕ) where
     are = λ m. any-next W ids (its m) i l ∙ ap₂ _||_ (w .are m) (ap₂ (λ b p. b && eqb p m) (sym e ∙ f) (sym g)) ∙ sym (listed-suc P n x m (omega (arith, w .most, w .long)));
   }
 
-  pub list-whole : (len : ℕ) {P : List ℕ} {n i : ℕ} → i ≡ min len 512 → ListedTo P n i → PreparedList sender (recordOf W ids len) P n
+  -- the count goes into the last place
+  pub list-whole : (len : ℕ) {P : List ℕ} {n i : ℕ} → i ≡ min len 512 → ListedTo P n i → PreparedList sender (recordOf W ids len) (set P 512 n)
   unfolding isPrepared
-  list-whole len {P} {n} {i} e w = record { most = omega (arith, w .most); are = λ m. ap (any (its m)) (sym (whole W ids len i e)) ∙ w .are m }
+  list-whole len {P} {n} {i} e w = record { are = λ m. ap (any (its m)) (sym (whole W ids len i e)) ∙ w .are m ∙ sym (listed-counted P n m (omega (arith, w .most)) (w .long)) }
 
 -- ---- the list, as it is asked
 
@@ -129,26 +140,29 @@ module _ (P : List ℕ) where
 
 -- ---- two payloads that the sender prepared
 
-module _ {sender : ℕ} {X : List Stmt} {P : List ℕ} {n : ℕ} (ok : PreparedList sender X P n) where
-  prepared-at : (i : ℕ) → i < n → Prepared sender X (getD P i 0)
-  prepared-at i l = says-prepared sender X (getD P i 0) .sound (subst T (listed-found P (getD P i 0) n l refl ∙ sym (ok .are (getD P i 0))) tt)
+module _ {sender : ℕ} {X : List Stmt} {P : List ℕ} (ok : PreparedList sender X P) where
+  abbrev all : List ℕ
+  all = table (payloadCount P) (λ i. getD P i 0)
 
-  place : {m : ℕ} → Prepared sender X m → m ∈ table n (λ i. getD P i 0)
+  prepared-at : (i : ℕ) → i < payloadCount P → Prepared sender X (getD P i 0)
+  prepared-at i l = says-prepared sender X (getD P i 0) .sound (subst T (listed-found P (getD P i 0) (payloadCount P) l refl ∙ sym (ok .are (getD P i 0))) tt)
+
+  place : {m : ℕ} → Prepared sender X m → m ∈ all
   unfolding listed
   place {m} p =
-      let (x, i, e) = says-any (λ p. says-eqb {m = p} {n = m}) (table n (λ i. getD P i 0)) .sound (subst T (ok .are m) (says-prepared sender X m .complete p)) in
-      subst (λ (x : ℕ). x ∈ table n (λ i. getD P i 0)) e i
+      let (x, i, e) = says-any (λ p. says-eqb {m = p} {n = m}) all .sound (subst T (ok .are m) (says-prepared sender X m .complete p)) in
+      subst (λ (x : ℕ). x ∈ all) e i
 
-  pub twofold-is : twofold P n ≡ twoPrepares sender X
+  pub twofold-is : twofold P (payloadCount P) ≡ twoPrepares sender X
   unfolding twofold
-  twofold-is = says-unique (says-map to from (says-any (λ p. says-not (says-eqb {m = p} {n = getD P 0 0})) (table n (λ i. getD P i 0)))) (says-twoPrepares sender X)
+  twofold-is = says-unique (says-map to from (says-any (λ p. says-not (says-eqb {m = p} {n = getD P 0 0})) all)) (says-twoPrepares sender X)
     where
-      to : (p : ℕ) × (p ∈ table n (λ i. getD P i 0)) × (p ≢ getD P 0 0) → (m m′ : ℕ) × (m ≢ m′) × Prepared sender X m × Prepared sender X m′
+      to : (p : ℕ) × (p ∈ all) × (p ≢ getD P 0 0) → (m m′ : ℕ) × (m ≢ m′) × Prepared sender X m × Prepared sender X m′
       to (p, i, d) =
-          let (j, l, e) = table-out n (λ i. getD P i 0) i in
+          let (j, l, e) = table-out (payloadCount P) (λ i. getD P i 0) i in
           (getD P j 0, getD P 0 0, (λ q. d (sym e ∙ q)), prepared-at j l, prepared-at 0 (omega arith))
 
-      from : (m m′ : ℕ) × (m ≢ m′) × Prepared sender X m × Prepared sender X m′ → (p : ℕ) × (p ∈ table n (λ i. getD P i 0)) × (p ≢ getD P 0 0)
+      from : (m m′ : ℕ) × (m ≢ m′) × Prepared sender X m × Prepared sender X m′ → (p : ℕ) × (p ∈ all) × (p ≢ getD P 0 0)
       from (m, m′, d, a, b) = elim (ℕ-discrete m (getD P 0 0)) [
         | yes e ↦ (m′, place b, λ q. d (e ∙ sym q))
         | no q ↦ (m, place a, q)

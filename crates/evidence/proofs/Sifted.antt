@@ -13,8 +13,9 @@ use Rattle.protocol.specs.Lists.{if_then_else_, any, filter}
 use Rattle.protocol.specs.Statement.{Stmt}
 use Rattle.views.specs.Table.{table}
 use Rattle.views.proofs.Tables.{table-cong}
-use Rattle.pool.specs.Pool.{stmtAt, recordOf}
+use Rattle.pool.specs.Pool.{stmtAt, recordOf, recordIn}
 use Rattle.pool.proofs.Records.{entry, so-far, whole}
+use Rattle.pool.proofs.Lists.{same-numbers}
 
 -- ---- lists
 
@@ -59,7 +60,7 @@ any-among q p l h = any-filter q p l ∙ any-same (λ a. q a && p a) p l (λ a. 
 
 -- the first m numbers of J are those of the statements that have q, of the first i numbers of ids
 pub record Sifted (q : Stmt → Bool) (W ids J : List ℕ) (i m : ℕ) : Type 0 where
-  pub size : length J ≡ 512
+  pub size : length J ≡ 513
   pub most : m ≤ i
   pub are : recordOf W J m ≡ filter q (recordOf W ids i)
 
@@ -70,7 +71,7 @@ byte-one false = omega arith
 pub more-fits : (m : ℕ) (b : Bool) → m ≤ 512 → m + boolByte b < 2 ^ 64
 more-fits m b h = omega (arith, byte-one b)
 
-pub sifted-none : {q : Stmt → Bool} {W ids J : List ℕ} → length J ≡ 512 → Sifted q W ids J 0 0
+pub sifted-none : {q : Stmt → Bool} {W ids J : List ℕ} → length J ≡ 513 → Sifted q W ids J 0 0
 unfolding filter table
 sifted-none {q} {W} {ids} {J} e = record { size = e; most = omega arith; are = so-far W J 0 (omega arith) ∙ ap (filter q) (sym (so-far W ids 0 (omega arith))) }
 
@@ -101,5 +102,8 @@ module _ {q : Stmt → Bool} {W ids J : List ℕ} {i m : ℕ} (l : i < 512) (g :
         ∙ ap (filter q) (sym (longer W ids i l));
   }
 
-pub sifted-whole : {q : Stmt → Bool} {W ids J : List ℕ} {i m end : ℕ} (len : ℕ) → i ≡ end → end ≡ min len 512 → Sifted q W ids J i m → recordOf W J m ≡ filter q (recordOf W ids len)
-sifted-whole {q} {W} {ids} {i = i} len d e g = g .are ∙ ap (filter q) (whole W ids len i (d ∙ e))
+-- the count goes into the last place
+pub sifted-whole : {q : Stmt → Bool} {W ids J : List ℕ} {i m end : ℕ} (len : ℕ) → i ≡ end → end ≡ min len 512 → Sifted q W ids J i m → recordIn W (set J 512 m) ≡ filter q (recordOf W ids len)
+sifted-whole {q} {W} {ids} {J} {i} {m} len d e g =
+    same-numbers W J (set J 512 m) (getD (set J 512 m) 512 0) m (ap (λ k. min k 512) (getD-set-same J 512 m 0 (omega (arith, g .size)))) (λ k l. getD-set-other J 512 k m 0 (λ q. omega arith))
+    ∙ g .are ∙ ap (filter q) (whole W ids len i (d ∙ e))

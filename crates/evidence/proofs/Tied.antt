@@ -4,7 +4,7 @@ use mathlib.Core.Path.{_≡_, refl, sym, ap, ap₂, subst, _∙_}
 use mathlib.Core.Logic.{_⊎_, inl, inr}
 use mathlib.Core.Bool.{Bool, true, false, not, _||_}
 use mathlib.Core.List.{List, [], _∷_}
-use Prim.Native.Nat.{ℕ, _%_, _<_}
+use Prim.Native.Nat.{ℕ, _/_, _%_, _<_}
 use native.Mathlib.Omega.{arith}
 use lib.Dec.{T, eqb, eqb→eq}
 use lib.ListN.{getD}
@@ -15,30 +15,41 @@ use Rattle.protocol.specs.Statement.{Stmt}
 use Rattle.protocol.specs.Evidence.{wished, candidate, sealed, Candidate, initial, chosen, isCandidate, candidates, sealedHistories, certificates, isConflict, isStored, greatest}
 use Rattle.protocol.specs.Grounds.{isTop}
 use Rattle.protocol.proofs.Says.{Says, says-self, says-and, says-or, says-eqb, says-any}
+use Rattle.protocol.proofs.Bits.{Fits}
 use Rattle.protocol.proofs.Quorums.{someone}
 use Rattle.protocol.proofs.Decided.{says-sames, says-shown}
 use Rattle.protocol.proofs.Asked.{greatest-holds}
 use Rattle.views.specs.View.{viewOf, ring}
-use Rattle.views.proofs.Views.{view-low}
-use Rattle.pool.specs.Pool.{word, stmtAt, recordOf}
-use Rattle.votes.specs.Tables.{low, high, upTo, gives, sealsAt, sealsAs, Tables, Verdicts}
+use Rattle.pool.specs.Pool.{wordOf, recordIn}
+use Rattle.tables.specs.Index.{keyAt}
+use Rattle.votes.specs.Tables.{IsWord, upTo, choiceAt, agreementAt, gives, sealsAt, sealsAs, Tables, Verdicts}
 use Rattle.ranking.specs.declared.Ranked.{Ranked}
 use Rattle.ranking.specs.declared.Summit.{Summit}
 use Rattle.evidence.specs.declared.certificates.Certified.{Certified}
-use Rattle.ranking.specs.Slots.{viewsOf}
+use Rattle.ranking.specs.Slots.{choiceMark, viewsOf}
 use Rattle.ranking.specs.Ranking.{Choices, Agreements, CandidatesOf, HistoriesOf}
 use Rattle.evidence.specs.Shown.{CertificatesOf}
 use Rattle.evidence.specs.Evidence.{EvidenceOf}
 use Rattle.ranking.proofs.Members.{table-in, table-out}
-use Rattle.evidence.proofs.Backing.{placed}
+use Rattle.ranking.proofs.Ranks.{record-fits}
 use Rattle.ranking.proofs.Summits.{held-same}
 
 -- ---- the marks
 
-module _ (W ids : List ℕ) (len init : ℕ) (C : List ℕ) (nc : ℕ) (A E : List ℕ) (na : ℕ) (mc ma : List ℕ)
-    (tables : Tables W ids len init C nc A E na) (verdicts : Verdicts W ids len init C nc A E na mc ma) where
+-- the word of a view of the sixteen controllers
+word-for : (v : View) → Fits 16 v → (w : ℕ) × IsWord w × (viewOf w ≡ v)
+unfolding viewOf
+word-for v f = (wordOf v, omega (arith, f .joined, f .left), λ i. record { joined = low i; left = high i })
+  where
+    low : wordOf v % 4294967296 ≡ v .joined
+    low = omega (arith, f .joined)
+
+    high : wordOf v / 4294967296 % 4294967296 ≡ v .left
+    high = omega (arith, f .joined, f .left)
+
+module _ (W ids : List ℕ) (init : ℕ) (K R : List ℕ) (nc na : ℕ) (M : List ℕ) (tables : Tables W (recordIn W ids) init K R nc na) (verdicts : Verdicts W (recordIn W ids) init K R nc na M) where
   abbrev X : List Stmt
-  X = recordOf W ids len
+  X = recordIn W ids
 
   -- a number below n that has p
   some-of : (p : ℕ → Bool) (n : ℕ) → T (any p (upTo n)) → (i : ℕ) × (i < n) × T (p i)
@@ -51,53 +62,52 @@ module _ (W ids : List ℕ) (len init : ℕ) (C : List ℕ) (nc : ℕ) (A E : Li
   of-some p n i l h = says-any (λ i. says-self (p i)) (upTo n) .complete (i, table-in n (λ i. i) i l, h)
 
   -- a candidate is the view of a word
-  word-of : {v : View} → Candidate (ring init) X v → (v ≡ viewOf init) ⊎ ((w : ℕ) × (w < 4294967296) × (viewOf w ≡ v))
-  unfolding stmtAt
+  word-of : {v : View} → Candidate (ring init) X v → (v ≡ viewOf init) ⊎ ((w : ℕ) × IsWord w × (viewOf w ≡ v))
   word-of (initial e) = inl e
   word-of (chosen g b n i q) =
       let (_, (s, m, _, a)) = someone q in
-      let (j, l, e) = placed W ids len init m in
-      let w = word W (getD ids j 0) 512 in
-      inr (w % 4294967296, omega arith, view-low w ∙ ap (λ s. s .view) e ∙ a .view)
+      let (w, l, e) = word-for (s .view) (record-fits W ids (getD ids 512 0) s m) in
+      inr (w, l, e ∙ a .view)
 
-  says-gives : (w c : ℕ) → Says (gives W ids len init C w c) ((high (getD C c 0) ≡ w) × T (isTop (ring init) X (viewOf (low (getD C c 0)))))
+  says-gives : (w c : ℕ) → Says (gives W X init K R w c) ((keyAt K 0 c ≡ w) × T (isTop (ring init) X (choiceAt W R c .at)))
   unfolding gives
-  says-gives w c = says-and says-eqb (says-self (isTop (ring init) X (viewOf (low (getD C c 0)))))
+  says-gives w c = says-and says-eqb (says-self (isTop (ring init) X (choiceAt W R c .at)))
 
-  pub choices-marked : Choices init X C mc nc
+  pub choices-marked : Choices init X K M nc
   choices-marked = record {
-    sound = λ c l e. says-shown (ring init) X (candidate (viewOf (high (getD C c 0)))) .sound (subst T (verdicts .candidate c l) (says-eqb .complete e));
+    sound = λ c l e. says-shown (ring init) X (candidate (viewOf (keyAt K 0 c))) .sound (subst T (verdicts .candidate c l) (says-eqb .complete e));
     complete = λ v k. elim (word-of k) [ inl e ↦ inl e | inr (w, l, e) ↦ go v k w l e ];
+    fits = record-fits W ids (getD ids 512 0);
   }
     where
-      go : (v : View) → Candidate (ring init) X v → (w : ℕ) → w < 4294967296 → viewOf w ≡ v
-          → (v ≡ viewOf init) ⊎ ((c : ℕ) × (c < nc) × (getD mc c 0 ≡ 1) × (viewOf (high (getD C c 0)) ≡ v))
+      go : (v : View) → Candidate (ring init) X v → (w : ℕ) → IsWord w → viewOf w ≡ v
+          → (v ≡ viewOf init) ⊎ ((c : ℕ) × (c < nc) × (choiceMark M c ≡ 1) × (viewOf (keyAt K 0 c) ≡ v))
       go v k w l e =
           let shown : (u : View) → u ≡ v → T (isCandidate (ring init) X u) = λ u q. subst (λ u. T (isCandidate (ring init) X u)) (sym q) (says-shown (ring init) X (candidate v) .complete k) in
-          elim (says-or (says-eqb {m = w} {n = init}) (says-self (any (gives W ids len init C w) (upTo nc))) .sound (subst T (tables .candidates w l) (shown (viewOf w) e))) [
+          elim (says-or (says-eqb {m = w} {n = init}) (says-self (any (gives W X init K R w) (upTo nc))) .sound (subst T (tables .candidates w l) (shown (viewOf w) e))) [
             | inl q ↦ inl (sym e ∙ ap viewOf q)
-            | inr t ↦ (let (c, h, g) = some-of (gives W ids len init C w) nc t in
-                let is : viewOf (high (getD C c 0)) ≡ v = ap viewOf (says-gives w c .sound g .0) ∙ e in
+            | inr t ↦ (let (c, h, g) = some-of (gives W X init K R w) nc t in
+                let is : viewOf (keyAt K 0 c) ≡ v = ap viewOf (says-gives w c .sound g .0) ∙ e in
                 inr (c, h, eqb→eq _ _ (subst T (sym (verdicts .candidate c h)) (shown _ is)), is))
           ]
 
-  says-seals : (H : List View) (a : ℕ) → Says (sealsAs W ids len init A E H a) ((stmtAt W (getD E a 0) .views ≡ H) × T (sealsAt W ids len init A E a))
+  says-seals : (H : List View) (a : ℕ) → Says (sealsAs W X init K R H a) ((agreementAt W R a .views ≡ H) × T (sealsAt W X init K R a))
   unfolding sealsAs
-  says-seals H a = says-and (says-sames (stmtAt W (getD E a 0) .views) H) (says-self (sealsAt W ids len init A E a))
+  says-seals H a = says-and (says-sames (agreementAt W R a .views) H) (says-self (sealsAt W X init K R a))
 
-  says-listed : (H : List View) → Says (sameViews H (viewOf init ∷ []) || any (sealsAs W ids len init A E H) (upTo na)) ((H ≡ viewOf init ∷ []) ⊎ T (any (sealsAs W ids len init A E H) (upTo na)))
-  says-listed H = says-or (says-sames H (viewOf init ∷ [])) (says-self (any (sealsAs W ids len init A E H) (upTo na)))
+  says-listed : (H : List View) → Says (sameViews H (viewOf init ∷ []) || any (sealsAs W X init K R H) (upTo na)) ((H ≡ viewOf init ∷ []) ⊎ T (any (sealsAs W X init K R H) (upTo na)))
+  says-listed H = says-or (says-sames H (viewOf init ∷ [])) (says-self (any (sealsAs W X init K R H) (upTo na)))
 
-  pub agreements-marked : Agreements init X W E ma na
+  pub agreements-marked : Agreements init X W R M na
   agreements-marked = record {
     sound = λ a l e.
-        let H = stmtAt W (getD E a 0) .views in
+        let H = agreementAt W R a .views in
         says-shown (ring init) X (sealed H) .sound (subst T (sym (tables .histories H))
-        (says-listed H .complete (inr (of-some (sealsAs W ids len init A E H) na a l (says-seals H a .complete (refl, subst T (verdicts .sealed a l) (says-eqb .complete e)))))));
+        (says-listed H .complete (inr (of-some (sealsAs W X init K R H) na a l (says-seals H a .complete (refl, subst T (verdicts .sealed a l) (says-eqb .complete e)))))));
     complete = λ H k.
         elim (says-listed H .sound (subst T (tables .histories H) (says-shown (ring init) X (sealed H) .complete k))) [
           | inl e ↦ inl e
-          | inr t ↦ (let (a, l, g) = some-of (sealsAs W ids len init A E H) na t in
+          | inr t ↦ (let (a, l, g) = some-of (sealsAs W X init K R H) na t in
               let (e, h) = says-seals H a .sound g in
               inr (a, l, eqb→eq _ _ (subst T (sym (verdicts .sealed a l)) h), e))
         ];
@@ -117,21 +127,19 @@ unfolding isConflict
 conflict-of init sender X e f g = ap₂ (λ x y. x || y) (ap₂ _||_ e f) g
 
 pub tied : (wish : ℕ) (r : Ranked) (h : Summit) (c : Certified) (stored b : Bool) → b ≡ (r .conflict || h .conflict || c .conflict)
-    → (init sender : ℕ) (X : List Stmt) → viewOf wish ≡ wished (ring init) X → CandidatesOf init X r → HistoriesOf init X h → CertificatesOf init sender X c
+    → (init sender : ℕ) (X : List Stmt) (C G : List ℕ) → viewOf wish ≡ wished (ring init) X → CandidatesOf init X C r → HistoriesOf init X G h → CertificatesOf init sender X c
     → stored ≡ isStored (ring init) X (c .payload)
-    → EvidenceOf (ring init) sender X (record {
+    → EvidenceOf (ring init) sender X C G (record {
       conflict = b;
       many = r .many;
       wished = wish;
-      candidates = r .views;
       count = r .count;
-      greatest = h .views;
       length = h .length;
       certified = c .some;
       payload = c .payload;
       stored = stored;
     })
-tied wish r h c stored b e init sender X w p q s t = record {
+tied wish r h c stored b e init sender X C G w p q s t = record {
   wished = w;
   conflict = is;
   many = λ f. p .many (parts f .0);
@@ -139,7 +147,7 @@ tied wish r h c stored b e init sender X w p q s t = record {
   greatest = λ f.
       let (g, k) = greatest-holds (ring init) sender X (subst (λ b. T (not b)) (sym f ∙ is) tt) in
       let z = parts f .1 in
-      held-same init X (q .sealed z) g (q .holds z (greatest (ring init) X) g) (k (viewsOf (h .views) (h .length)) (q .sealed z));
+      held-same init X (q .sealed z) g (q .holds z (greatest (ring init) X) g) (k (viewsOf G (h .length)) (q .sealed z));
   certificate = λ f. s .certificate (parts f .2);
   stored = λ f y. t;
 }

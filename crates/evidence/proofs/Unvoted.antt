@@ -2,16 +2,16 @@
 -- Assumes nothing.
 use mathlib.Core.Path.{_≡_, refl, sym, ap, subst, _∙_}
 use mathlib.Core.Logic.{inl, inr}
-use mathlib.Core.Bool.{Bool, true, false, not}
+use mathlib.Core.Bool.{Bool, false, not}
 use mathlib.Core.List.{List, [], _∷_, map, List·Memᴰ·head, List·Memᴰ·tail}
 use Prim.Native.Nat.{ℕ}
 use native.Mathlib.Omega.{arith}
-use lib.Dec.{T, eqb, ltb}
-use lib.ListN.{length, replicate}
+use lib.Dec.{T, ltb}
+use lib.ListN.{length, set}
 use Rattle.protocol.specs.Lists.{if_then_else_, _∈_, any, filter, first, when}
 use Rattle.protocol.specs.View.{View}
 use Rattle.protocol.specs.Statement.{Stmt, isKind}
-use Rattle.protocol.specs.Evidence.{wished, candidate, initial, chosen, start, agreed, Candidate, isCandidate, insert, insertAll, candidates, Sealed, Certificate, certificates, isStored}
+use Rattle.protocol.specs.Evidence.{wished, candidate, initial, chosen, start, agreed, Candidate, isCandidate, insert, insertAll, candidates, Sealed, certificates, isStored}
 use Rattle.protocol.proofs.Says.{says-eqb, says-any}
 use Rattle.protocol.proofs.Quorums.{someone}
 use Rattle.protocol.proofs.Histories.{within-of}
@@ -52,18 +52,18 @@ module _ (init : ℕ) (X : List Stmt) (none : any isVote X ≡ false) where
       (filter-none (isKind 3) X (λ s m. fails (says-kind 3 s) (λ k. silent m (inl (inl (inl k))))))
       ∙ ap (λ b. insertAll (ring init) [] (if b then viewOf init ∷ [] else [])) (passes (says-shown (ring init) X (candidate (viewOf init))) (initial refl))
 
-  candidates-of : CandidatesOf init X (record { conflict = false; many = false; count = 1; views = replicate 16 init })
-  candidates-of = record {
+  candidates-of : (C : List ℕ) → length C ≡ 16 → CandidatesOf init X (set C 0 init) (record { conflict = false; many = false; count = 1 })
+  candidates-of C long = record {
     conflict = ap not (sym (passes (says-pairwise says-comparable (candidates (ring init) X)) (λ u i v j. inl (within-of (inl (is u i ∙ sym (is v j)))))));
     many = λ z. ap (λ l. ltb 16 (length l)) (sym candidates-are);
-    views = λ z h. alone-views init ∙ sym candidates-are;
+    views = λ z h. alone-views C init long ∙ sym candidates-are;
   }
     where
       is : (v : View) → v ∈ candidates (ring init) X → v ≡ viewOf init
       is v m = only-candidate (candidates-exact (ring init) X v .0 m)
 
-  histories-of : HistoriesOf init X (record { conflict = false; length = 1; views = replicate 16 init })
-  histories-of = alone init X [] [] [] 0 (record { sound = λ a l. absurd (omega arith); complete = λ H k. inl (only-sealed k) }) 0 refl
+  histories-of : (G : List ℕ) → length G ≡ 16 → HistoriesOf init X (set G 0 init) (record { conflict = false; length = 1 })
+  histories-of G long = alone init X [] [] [] 0 (record { sound = λ a l. absurd (omega arith); complete = λ H k. inl (only-sealed k) }) G 0 long refl
       (record { most = omega arith; none = λ a l. absurd (omega arith); is = λ l. absurd (omega arith) })
 
   certificates-of : (sender : ℕ) → CertificatesOf init sender X (record { conflict = false; some = false; payload = 0 })
@@ -82,17 +82,9 @@ module _ (init : ℕ) (X : List Stmt) (none : any isVote X ≡ false) where
   unstored : (m : ℕ) → false ≡ isStored (ring init) X m
   unstored m = sym (fails (says-stored (ring init) X m) (λ (H, h, q). let (_, (s, i, _, a)) = someone q in silent i (inr (a .kind))))
 
-  pub unvoted : (wish sender : ℕ) → viewOf wish ≡ wished (ring init) X
-      → EvidenceOf (ring init) sender X (record {
-        conflict = false;
-        many = false;
-        wished = wish;
-        candidates = replicate 16 init;
-        count = 1;
-        greatest = replicate 16 init;
-        length = 1;
-        certified = false;
-        payload = 0;
-        stored = false;
-      })
-  unvoted wish sender w = tied wish _ _ _ false false refl init sender X w candidates-of histories-of (certificates-of sender) (unstored 0)
+  pub unvoted : (wish sender : ℕ) (C G : List ℕ) {C′ G′ : List ℕ} → (length C ≡ 16) × (C′ ≡ set C 0 init) → (length G ≡ 16) × (G′ ≡ set G 0 init) → viewOf wish ≡ wished (ring init) X
+      → EvidenceOf (ring init) sender X C′ G′ (record { conflict = false; many = false; wished = wish; count = 1; length = 1; certified = false; payload = 0; stored = false })
+  unvoted wish sender C G {C′} {G′} (c, d) (g, h) w =
+      tied wish (record { conflict = false; many = false; count = 1 }) (record { conflict = false; length = 1 }) (record { conflict = false; some = false; payload = 0 }) false false refl init sender X C′ G′ w
+      (subst (λ C. CandidatesOf init X C (record { conflict = false; many = false; count = 1 })) (sym d) (candidates-of C c))
+      (subst (λ G. HistoriesOf init X G (record { conflict = false; length = 1 })) (sym h) (histories-of G g)) (certificates-of sender) (unstored 0)

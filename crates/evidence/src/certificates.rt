@@ -1,19 +1,22 @@
 // The certificate, and whether its payload is stored: what quorums of sealed tops acked and stored.
 ghost use mathlib.Core.Path.{_≡_};
-ghost use lib.Dec.{eqb};
+ghost use mathlib.Core.List.{List};
+ghost use Prim.Native.Nat.{ℕ, _<_};
 ghost use lib.ListN.{length};
 ghost use Rattle.protocol.specs.Evidence.{signs, isStored};
 ghost use Rattle.views.specs.Sets.{IsSet};
 ghost use Rattle.views.specs.View.{ring};
-ghost use Rattle.pool.specs.Pool.{stmtAt, recordOf};
-ghost use Rattle.votes.specs.Votes.{alike, Groups};
-ghost use Rattle.votes.specs.Tables.{Tables};
-ghost use Rattle.sealing.specs.Memos.{Agreements};
-ghost use Rattle.sealing.specs.Rows.{Indexed};
-ghost use Rattle.evidence.specs.Shown.{isBacked, Backed, AckedOf, PreparedList, certifies, storesIt, CertificatesOf};
+ghost use Rattle.pool.specs.Pool.{stmtAt, recordLen, recordIn};
+ghost use Rattle.votes.specs.Votes.{alike, entry, placeOf, tagOf, signersOf, GroupsIn};
+ghost use Rattle.sealing.specs.Memos.{Judged};
+ghost use Rattle.evidence.specs.Shown.{isBacked, Ended, BackedIn, AckedOf, PreparedList, certifiesBy, storesIt, CertificatesOf};
 use crate::prepares;
+use crate::prepares::PAYLOADS;
 use pool::POOL_WORDS;
-use sealing::INDEX;
+use pool::RECORD;
+use sealing::MEMO;
+use tables::KEYS;
+use tables::ROWS;
 
 // The payload that has a certificate, if one has, or that two have.
 pub struct Certified {
@@ -29,162 +32,115 @@ struct Acked {
     payload: u64,
 }
 
-// A test as it is kept.
-fn mark(yes: bool) -> u8
-    ensures { λ r. ⌜ eqb r 1 ≡ yes ⌝ }
+// How many groups there is room for: a proof that one was written asks for it.
+fn room(groups: &[u64; 512]) -> usize
+    ensures { λ r. ⌜ length (now (groups .entry)) ≡ 512 ⌝ }
 {
-    if yes {
-        return 1;
-    }
-    0
-}
-
-// How many marks there is room for: a proof that one was written asks for it.
-fn room(marks: &[u8; 512]) -> usize
-    ensures { λ r. ⌜ length (now (marks .entry)) ≡ 512 ⌝ }
-{
-    let s = &marks[..];
+    let s = &groups[..];
     s.len()
 }
 
-// Whether statement s, signed by `seen`, is an ack or a store by a quorum of a sealed top.
+// Puts a word without a tag after the n groups, if there is room: it ends them, so that their number need not travel with them.
+pub fn end(groups: &mut [u64; 512], n: usize)
+    ensures { λ _. ⌜ ((W ids : List ℕ) → GroupsIn W ids (now (groups .entry)) n → Ended W ids (now (groups .exit))) ⌝ }
+{
+    room(groups);
+    if n >= 512 {
+        return;
+    }
+    groups[n] = 0;
+}
+
+// Whether the group x is of acks or of stores by a quorum of a sealed top.
 fn is_backed(
     words: &[u64; POOL_WORDS],
-    ids: &[u16; 512],
-    len: usize,
-    init: u32,
-    chosen: &[u64; 512],
-    nc: usize,
-    agreed: &[u64; 512],
-    entry: &[u16; 512],
-    na: usize,
-    ai: &[u16; INDEX],
-    ma: &[u8; 512],
-    s: u16,
-    seen: u32,
+    ids: &[u16; RECORD],
+    init: u64,
+    keys: &[u64; KEYS],
+    rows: &[u16; ROWS],
+    memo: &[u8; MEMO],
+    x: u64,
 ) -> bool
-    requires { ⌜ Tables (now words) (now ids) len init (now chosen) nc (now agreed) (now entry) na × Agreements (now words) (now ids) len init (now agreed) (now entry) na (now ma) × Indexed (now agreed) 0 na (now ai) × IsSet seen (signs (alike (stmtAt (now words) s)) (recordOf (now words) (now ids) len)) ⌝ }
-    ensures { λ r. ⌜ r ≡ isBacked init (recordOf (now (words .entry)) (now (ids .entry)) len) (stmtAt (now (words .entry)) s) ⌝ }
+    requires { ⌜ Judged (now words) (recordIn (now words) (now ids)) init (now keys) (now rows) (now memo) × (placeOf x < recordLen (now ids)) × (tagOf x ≡ entry (now words) (now ids) (placeOf x) .kind) × IsSet (signersOf x) (signs (alike (entry (now words) (now ids) (placeOf x))) (recordIn (now words) (now ids))) ⌝ }
+    ensures { λ r. ⌜ r ≡ isBacked init (recordIn (now (words .entry)) (now (ids .entry))) (entry (now (words .entry)) (now (ids .entry)) (placeOf x)) ⌝ }
 {
-    let k = pool::kind(words, s);
+    let k = votes::tag_of(x);
     if k < 7 {
         return false;
     }
     if 8 < k {
         return false;
     }
-    let t = pool::at(words, s);
-    if !views::quorum_in(t, seen) {
+    let f = votes::place_of(x);
+    let t = pool::at(words, ids[f]);
+    if !views::quorum_in(t, votes::signers_of(x)) {
         return false;
     }
-    sealing::is_sealed_top(
-        words,
-        ids,
-        len,
-        init,
-        chosen,
-        nc,
-        agreed,
-        entry,
-        na,
-        ai,
-        ma,
-        t,
-    )
+    sealing::is_sealed_top(words, ids, init, keys, rows, memo, t)
 }
 
-// Marks the groups of acks and stores that are by a quorum of a sealed top.
-pub fn mark_backed(
+// Of the groups, those of acks and of stores by a quorum of a sealed top go to the front. Returns how many there are.
+pub fn keep_backed(
     words: &[u64; POOL_WORDS],
-    ids: &[u16; 512],
-    len: usize,
-    init: u32,
-    chosen: &[u64; 512],
-    nc: usize,
-    agreed: &[u64; 512],
-    entry: &[u16; 512],
-    na: usize,
-    ai: &[u16; INDEX],
-    ma: &[u8; 512],
-    first: &[u16; 512],
-    seen: &[u32; 512],
-    n: usize,
-    marks: &mut [u8; 512],
-)
-    requires { ⌜ Tables (now words) (now ids) len init (now chosen) nc (now agreed) (now entry) na × Agreements (now words) (now ids) len init (now agreed) (now entry) na (now ma) × Indexed (now agreed) 0 na (now ai) × Groups (now words) (now ids) len (now first) (now seen) n ⌝ }
-    ensures { λ r. ⌜ Backed (now (words .entry)) (now (ids .entry)) len init (now (first .entry)) n (now (marks .exit)) ⌝ }
+    ids: &[u16; RECORD],
+    init: u64,
+    keys: &[u64; KEYS],
+    rows: &[u16; ROWS],
+    memo: &[u8; MEMO],
+    groups: &mut [u64; 512],
+) -> usize
+    requires { ⌜ Judged (now words) (recordIn (now words) (now ids)) init (now keys) (now rows) (now memo) × Ended (now words) (now ids) (now groups) ⌝ }
+    ensures { λ r. ⌜ BackedIn (now (words .entry)) (now (ids .entry)) init (now (groups .exit)) r ⌝ }
 {
-    room(marks);
+    room(groups);
+    let mut n = 0usize;
     let mut g = 0usize;
-    while g < n {
-        let f = first[g] as usize;
-        let s = ids[f];
-        let yes = is_backed(
-            words,
-            ids,
-            len,
-            init,
-            chosen,
-            nc,
-            agreed,
-            entry,
-            na,
-            ai,
-            ma,
-            s,
-            seen[g],
-        );
-        marks[g] = mark(yes);
+    while g < 512 {
+        let x = groups[g];
+        if votes::tag_of(x) == 0 {
+            return n;
+        }
+        if !is_backed(words, ids, init, keys, rows, memo, x) {
+            g += 1;
+            continue;
+        }
+        groups[n] = x;
+        n += 1;
         g += 1;
     }
+    n
 }
 
-// Whether statement s is an ack of what the sender prepared.
-fn is_certifying(
-    words: &[u64; POOL_WORDS],
-    ids: &[u16; 512],
-    len: usize,
-    sender: u8,
-    prepared: &[u64; 512],
-    np: usize,
-    s: u16,
-) -> bool
-    requires { ⌜ PreparedList sender (recordOf (now words) (now ids) len) (now prepared) np ⌝ }
-    ensures { λ r. ⌜ r ≡ certifies sender (recordOf (now (words .entry)) (now (ids .entry)) len) (stmtAt (now (words .entry)) s) ⌝ }
+// Whether statement s is an ack of one of the payloads.
+fn is_certifying(words: &[u64; POOL_WORDS], prepared: &[u64; PAYLOADS], s: u16) -> bool
+    ensures { λ r. ⌜ r ≡ certifiesBy (now (prepared .entry)) (stmtAt (now (words .entry)) s) ⌝ }
 {
     if pool::kind(words, s) != 7 {
         return false;
     }
-    prepares::is_listed(prepared, np, pool::payload(words, s))
+    prepares::is_listed(prepared, pool::payload(words, s))
 }
 
 // The certificate, from the list of what the sender prepared.
 fn certify(
     words: &[u64; POOL_WORDS],
-    ids: &[u16; 512],
-    len: usize,
-    init: u32,
+    ids: &[u16; RECORD],
+    init: u64,
     sender: u8,
-    first: &[u16; 512],
+    groups: &[u64; 512],
     n: usize,
-    marks: &[u8; 512],
-    prepared: &[u64; 512],
-    np: usize,
+    prepared: &[u64; PAYLOADS],
 ) -> Certified
-    requires { ⌜ Backed (now words) (now ids) len init (now first) n (now marks) × PreparedList sender (recordOf (now words) (now ids) len) (now prepared) np ⌝ }
-    ensures { λ r. ⌜ CertificatesOf init sender (recordOf (now (words .entry)) (now (ids .entry)) len) r ⌝ }
+    requires { ⌜ BackedIn (now words) (now ids) init (now groups) n × PreparedList sender (recordIn (now words) (now ids)) (now prepared) ⌝ }
+    ensures { λ r. ⌜ CertificatesOf init sender (recordIn (now (words .entry)) (now (ids .entry))) r ⌝ }
 {
     let mut some = false;
     let mut payload = 0u64;
     let mut g = 0usize;
     while g < n {
-        if marks[g] != 1 {
-            g += 1;
-            continue;
-        }
-        let f = first[g] as usize;
+        let f = votes::place_of(groups[g]);
         let s = ids[f];
-        if !is_certifying(words, ids, len, sender, prepared, np, s) {
+        if !is_certifying(words, prepared, s) {
             g += 1;
             continue;
         }
@@ -214,55 +170,36 @@ fn certify(
 // The certificate, where quorums acked several payloads.
 fn certify_many(
     words: &[u64; POOL_WORDS],
-    ids: &[u16; 512],
-    len: usize,
-    init: u32,
+    ids: &[u16; RECORD],
+    init: u64,
     sender: u8,
-    first: &[u16; 512],
+    groups: &[u64; 512],
     n: usize,
-    marks: &[u8; 512],
 ) -> Certified
-    requires { ⌜ Backed (now words) (now ids) len init (now first) n (now marks) ⌝ }
-    ensures { λ r. ⌜ CertificatesOf init sender (recordOf (now (words .entry)) (now (ids .entry)) len) r ⌝ }
+    requires { ⌜ BackedIn (now words) (now ids) init (now groups) n ⌝ }
+    ensures { λ r. ⌜ CertificatesOf init sender (recordIn (now (words .entry)) (now (ids .entry))) r ⌝ }
 {
-    let mut prepared = [0u64; 512];
-    let np = prepares::list(words, ids, len, sender, &mut prepared);
-    certify(
-        words,
-        ids,
-        len,
-        init,
-        sender,
-        first,
-        n,
-        marks,
-        &prepared,
-        np,
-    )
+    let mut prepared = [0u64; PAYLOADS];
+    prepares::list(words, ids, sender, &mut prepared);
+    certify(words, ids, init, sender, groups, n, &prepared)
 }
 
 // The payload that quorums of sealed tops acked, if they acked one alone.
 fn only_acked(
     words: &[u64; POOL_WORDS],
-    ids: &[u16; 512],
-    len: usize,
-    init: u32,
-    first: &[u16; 512],
+    ids: &[u16; RECORD],
+    init: u64,
+    groups: &[u64; 512],
     n: usize,
-    marks: &[u8; 512],
 ) -> Acked
-    requires { ⌜ Backed (now words) (now ids) len init (now first) n (now marks) ⌝ }
-    ensures { λ r. ⌜ AckedOf (now (words .entry)) (now (ids .entry)) (now (first .entry)) n (now (marks .entry)) (r .many) (r .some) (r .payload) ⌝ }
+    requires { ⌜ BackedIn (now words) (now ids) init (now groups) n ⌝ }
+    ensures { λ r. ⌜ AckedOf (now (words .entry)) (now (ids .entry)) (now (groups .entry)) n (r .many) (r .some) (r .payload) ⌝ }
 {
     let mut some = false;
     let mut payload = 0u64;
     let mut g = 0usize;
     while g < n {
-        if marks[g] != 1 {
-            g += 1;
-            continue;
-        }
-        let f = first[g] as usize;
+        let f = votes::place_of(groups[g]);
         let s = ids[f];
         if pool::kind(words, s) != 7 {
             g += 1;
@@ -291,23 +228,21 @@ fn only_acked(
     }
 }
 
-// The certificate of a record, of whose groups `marks` has those by a quorum of a sealed top.
+// The certificate of a record, of which `groups` has the acks and stores by a quorum of a sealed top.
 pub fn certificate(
     words: &[u64; POOL_WORDS],
-    ids: &[u16; 512],
-    len: usize,
-    init: u32,
+    ids: &[u16; RECORD],
+    init: u64,
     sender: u8,
-    first: &[u16; 512],
+    groups: &[u64; 512],
     n: usize,
-    marks: &[u8; 512],
 ) -> Certified
-    requires { ⌜ Backed (now words) (now ids) len init (now first) n (now marks) ⌝ }
-    ensures { λ r. ⌜ CertificatesOf init sender (recordOf (now (words .entry)) (now (ids .entry)) len) r ⌝ }
+    requires { ⌜ BackedIn (now words) (now ids) init (now groups) n ⌝ }
+    ensures { λ r. ⌜ CertificatesOf init sender (recordIn (now (words .entry)) (now (ids .entry))) r ⌝ }
 {
-    let a = only_acked(words, ids, len, init, first, n, marks);
+    let a = only_acked(words, ids, init, groups, n);
     if a.many {
-        return certify_many(words, ids, len, init, sender, first, n, marks);
+        return certify_many(words, ids, init, sender, groups, n);
     }
     if !a.some {
         return Certified {
@@ -317,7 +252,7 @@ pub fn certificate(
         };
     }
     let m = a.payload;
-    let some = prepares::is_prepared(words, ids, len, sender, m);
+    let some = prepares::is_prepared(words, ids, sender, m);
     Certified {
         conflict: false,
         some,
@@ -338,24 +273,18 @@ fn stores_it(words: &[u64; POOL_WORDS], s: u16, m: u64) -> bool
 // Whether a quorum of a sealed top stored m.
 pub fn is_stored(
     words: &[u64; POOL_WORDS],
-    ids: &[u16; 512],
-    len: usize,
-    init: u32,
-    first: &[u16; 512],
+    ids: &[u16; RECORD],
+    init: u64,
+    groups: &[u64; 512],
     n: usize,
-    marks: &[u8; 512],
     m: u64,
 ) -> bool
-    requires { ⌜ Backed (now words) (now ids) len init (now first) n (now marks) ⌝ }
-    ensures { λ r. ⌜ r ≡ isStored (ring init) (recordOf (now (words .entry)) (now (ids .entry)) len) m ⌝ }
+    requires { ⌜ BackedIn (now words) (now ids) init (now groups) n ⌝ }
+    ensures { λ r. ⌜ r ≡ isStored (ring init) (recordIn (now (words .entry)) (now (ids .entry))) m ⌝ }
 {
     let mut g = 0usize;
     while g < n {
-        if marks[g] != 1 {
-            g += 1;
-            continue;
-        }
-        let f = first[g] as usize;
+        let f = votes::place_of(groups[g]);
         if stores_it(words, ids[f], m) {
             return true;
         }

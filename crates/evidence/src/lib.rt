@@ -5,24 +5,23 @@ mod prepares;
 mod reports;
 mod whole;
 
-pub use certificates::Certified;
-pub use certificates::certificate;
-pub use certificates::is_stored;
-pub use certificates::mark_backed;
 pub use reports::merged;
 pub use reports::reported;
-use views::View;
 pub use whole::of_record;
 
-// What a record shows, views as words: wished; whether there is a conflict; whether there are more than sixteen candidates, and else the first `count` of
-// `candidates`; the first `length` of `greatest`; the payload that has a certificate, and whether it is stored.
+// What of a ring never changes: its initial view, as a word, and who sends.
+pub struct Ring {
+    pub init: u64,
+    pub sender: u8,
+}
+
+// What a record shows, beside two lists of views as words: wished; whether there is a conflict; whether there are more than sixteen candidates, and else how
+// many of the list of candidates count; how many of that of the greatest history count; the payload that has a certificate, and whether it is stored.
 pub struct Evidence {
     pub conflict: bool,
     pub many: bool,
-    pub wished: u32,
-    pub candidates: [u32; View::LIMIT],
+    pub wished: u64,
     pub count: usize,
-    pub greatest: [u32; View::LIMIT],
     pub length: usize,
     pub certified: bool,
     pub payload: u64,

@@ -3,12 +3,16 @@ ghost use mathlib.Core.Path.{_≡_};
 ghost use Prim.Native.Nat.{_≤_};
 ghost use lib.ListN.{length};
 ghost use Rattle.protocol.specs.Evidence.{prepares, isPrepared};
-ghost use Rattle.pool.specs.Pool.{stmtAt, recordOf};
-ghost use Rattle.evidence.specs.Shown.{preparesIt, listed, twofold, PreparedList};
+ghost use Rattle.pool.specs.Pool.{stmtAt, recordIn};
+ghost use Rattle.evidence.specs.Shown.{preparesIt, payloadCount, listed, twofold, PreparedList};
 use pool::POOL_WORDS;
+use pool::RECORD;
+
+// Payloads in memory: 512 of them, and how many of them count. A count above 512 counts as 512.
+pub const PAYLOADS: usize = 513;
 
 // Whether statement s is a prepare of the sender.
-fn is_prepare(words: &[u64; POOL_WORDS], s: u16, sender: u8) -> bool
+pub fn is_prepare(words: &[u64; POOL_WORDS], s: u16, sender: u8) -> bool
     ensures { λ r. ⌜ r ≡ prepares sender (stmtAt (now (words .entry)) s) ⌝ }
 {
     if pool::kind(words, s) != 6 {
@@ -18,7 +22,7 @@ fn is_prepare(words: &[u64; POOL_WORDS], s: u16, sender: u8) -> bool
 }
 
 // Whether statement s is a prepare of m by the sender.
-fn prepares_it(words: &[u64; POOL_WORDS], s: u16, sender: u8, m: u64) -> bool
+pub fn prepares_it(words: &[u64; POOL_WORDS], s: u16, sender: u8, m: u64) -> bool
     ensures { λ r. ⌜ r ≡ preparesIt sender m (stmtAt (now (words .entry)) s) ⌝ }
 {
     if !is_prepare(words, s, sender) {
@@ -28,16 +32,10 @@ fn prepares_it(words: &[u64; POOL_WORDS], s: u16, sender: u8, m: u64) -> bool
 }
 
 // Whether the sender prepared m. Where this is asked of many payloads, the list below answers faster.
-pub fn is_prepared(
-    words: &[u64; POOL_WORDS],
-    ids: &[u16; 512],
-    len: usize,
-    sender: u8,
-    m: u64,
-) -> bool
-    ensures { λ r. ⌜ r ≡ isPrepared sender (recordOf (now (words .entry)) (now (ids .entry)) len) m ⌝ }
+pub fn is_prepared(words: &[u64; POOL_WORDS], ids: &[u16; RECORD], sender: u8, m: u64) -> bool
+    ensures { λ r. ⌜ r ≡ isPrepared sender (recordIn (now (words .entry)) (now (ids .entry))) m ⌝ }
 {
-    let end = pool::limit(len);
+    let end = pool::record_length(ids);
     let mut i = 0usize;
     while i < end {
         if prepares_it(words, ids[i], sender, m) {
@@ -48,26 +46,25 @@ pub fn is_prepared(
     false
 }
 
-// How many payloads there is room for: a proof that one was written asks for it.
-fn room(prepared: &[u64; 512]) -> usize
-    ensures { λ r. ⌜ length (now (prepared .entry)) ≡ 512 ⌝ }
+// How many words there are for payloads: a proof that one was written asks for it.
+fn room(prepared: &[u64; PAYLOADS]) -> usize
+    ensures { λ r. ⌜ length (now (prepared .entry)) ≡ 513 ⌝ }
 {
     let s = &prepared[..];
     s.len()
 }
 
-// Lists the payloads that the sender prepared. Returns how many there are. What the memory held before does not matter.
+// Lists the payloads that the sender prepared. What the memory held before does not matter.
 pub fn list(
     words: &[u64; POOL_WORDS],
-    ids: &[u16; 512],
-    len: usize,
+    ids: &[u16; RECORD],
     sender: u8,
-    prepared: &mut [u64; 512],
-) -> usize
-    ensures { λ r. ⌜ PreparedList sender (recordOf (now (words .entry)) (now (ids .entry)) len) (now (prepared .exit)) r ⌝ }
+    prepared: &mut [u64; PAYLOADS],
+)
+    ensures { λ _. ⌜ PreparedList sender (recordIn (now (words .entry)) (now (ids .entry))) (now (prepared .exit)) ⌝ }
 {
     room(prepared);
-    let end = pool::limit(len);
+    let end = pool::record_length(ids);
     let mut n = 0usize;
     let mut i = 0usize;
     while i < end {
@@ -81,14 +78,27 @@ pub fn list(
         n += 1;
         i += 1;
     }
-    n
+    prepared[512] = n as u64;
 }
 
-// Whether m is one of the n payloads.
-pub fn is_listed(prepared: &[u64; 512], n: usize, m: u64) -> bool
-    requires { ⌜ n ≤ 512 ⌝ }
-    ensures { λ r. ⌜ r ≡ listed (now (prepared .entry)) n m ⌝ }
+fn wide(x: u64) -> usize
+    ensures { λ r. ⌜ r ≡ x ⌝ }
 {
+    x as usize
+}
+
+// How many payloads are listed.
+fn payload_count(prepared: &[u64; PAYLOADS]) -> usize
+    ensures { λ r. ⌜ (r ≡ payloadCount (now (prepared .entry))) × (r ≤ 512) ⌝ }
+{
+    pool::limit(wide(prepared[512]))
+}
+
+// Whether m is one of the payloads.
+pub fn is_listed(prepared: &[u64; PAYLOADS], m: u64) -> bool
+    ensures { λ r. ⌜ r ≡ listed (now (prepared .entry)) (payloadCount (now (prepared .entry))) m ⌝ }
+{
+    let n = payload_count(prepared);
     let mut i = 0usize;
     while i < n {
         if prepared[i] == m {
@@ -99,11 +109,11 @@ pub fn is_listed(prepared: &[u64; 512], n: usize, m: u64) -> bool
     false
 }
 
-// Whether two of the n payloads differ.
-pub fn is_twofold(prepared: &[u64; 512], n: usize) -> bool
-    requires { ⌜ n ≤ 512 ⌝ }
-    ensures { λ r. ⌜ r ≡ twofold (now (prepared .entry)) n ⌝ }
+// Whether two of the payloads differ.
+pub fn is_twofold(prepared: &[u64; PAYLOADS]) -> bool
+    ensures { λ r. ⌜ r ≡ twofold (now (prepared .entry)) (payloadCount (now (prepared .entry))) ⌝ }
 {
+    let n = payload_count(prepared);
     let m = prepared[0];
     let mut i = 0usize;
     while i < n {

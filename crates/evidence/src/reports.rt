@@ -2,35 +2,40 @@
 ghost use mathlib.Core.Path.{_≡_};
 ghost use Prim.Native.Nat.{_≤_, _<_};
 ghost use lib.ListN.{length, getD};
-ghost use Rattle.protocol.specs.Lists.{any};
+ghost use Rattle.protocol.specs.Lists.{any, filter};
 ghost use Rattle.protocol.specs.View.{sameView, member};
 ghost use Rattle.protocol.specs.History.{holds, top};
-ghost use Rattle.protocol.specs.Evidence.{signs, isCounted, isCountedOn};
+ghost use Rattle.protocol.specs.Statement.{isKind};
+ghost use Rattle.protocol.specs.Evidence.{signs};
 ghost use Rattle.protocol.specs.Turn.{mergeAll};
+ghost use Rattle.protocol.proofs.Bits.{Fits};
 ghost use Rattle.views.specs.Sets.{IsSet};
 ghost use Rattle.views.specs.View.{viewOf, ring};
-ghost use Rattle.pool.specs.Pool.{stmtAt, recordOf};
+ghost use Rattle.pool.specs.Pool.{stmtAt, recordIn};
 ghost use Rattle.ranking.specs.Slots.{viewsOf};
 ghost use Rattle.statements.specs.Meaning.{bindingIs};
-ghost use Rattle.evidence.specs.Shown.{PreparedList};
-ghost use Rattle.evidence.specs.Evidence.{Settled, ReportList, bindingHolds, keptHolds, reportedOn, reportedAll, countsBelow, reportsBelow};
+ghost use Rattle.evidence.specs.Evidence.{ringOf, Settled, reportedAll, reportsBelow};
+ghost use Rattle.evidence.specs.Reports.{bindingHolds, keptHolds, countsBy, countsAt, hasReports, countsUnder};
 use crate::Evidence;
+use crate::Ring;
 use crate::binding;
 use crate::prepares;
+use crate::prepares::PAYLOADS;
 use pool::POOL_WORDS;
+use pool::RECORD;
 use statements::Binding;
 use views::View;
 
 // Whether k is a member of v.
-fn is_member(v: u32, k: u64) -> bool
-    requires { ⌜ k < 256 ⌝ }
+fn is_member(v: u64, k: u64) -> bool
+    requires { ⌜ (k < 256) × Fits 16 (viewOf v) ⌝ }
     ensures { λ r. ⌜ r ≡ member (viewOf v) k ⌝ }
 {
     View::of_word(v).has_member(k as u8)
 }
 
 // View i of a list.
-fn view_in(list: &[u32; View::LIMIT], i: usize) -> u32
+fn view_in(list: &[u64; View::LIMIT], i: usize) -> u64
     requires { ⌜ i < 16 ⌝ }
     ensures { λ r. ⌜ r ≡ getD (now (list .entry)) i 0 ⌝ }
 {
@@ -38,7 +43,7 @@ fn view_in(list: &[u32; View::LIMIT], i: usize) -> u32
 }
 
 // Whether v is one of the first n views.
-fn is_in(list: &[u32; View::LIMIT], n: usize, v: u32) -> bool
+fn is_in(list: &[u64; View::LIMIT], n: usize, v: u64) -> bool
     requires { ⌜ n ≤ 16 ⌝ }
     ensures { λ r. ⌜ r ≡ any (sameView (viewOf v)) (viewsOf (now (list .entry)) n) ⌝ }
 {
@@ -53,7 +58,7 @@ fn is_in(list: &[u32; View::LIMIT], n: usize, v: u32) -> bool
 }
 
 // The last of the first n views; the initial view, if there is none.
-fn top_of(list: &[u32; View::LIMIT], n: usize, init: u32) -> u32
+fn top_of(list: &[u64; View::LIMIT], n: usize, init: u64) -> u64
     requires { ⌜ n ≤ 16 ⌝ }
     ensures { λ r. ⌜ viewOf r ≡ top (ring init) (viewsOf (now (list .entry)) n) ⌝ }
 {
@@ -64,7 +69,7 @@ fn top_of(list: &[u32; View::LIMIT], n: usize, init: u32) -> u32
 }
 
 // Whether all views of statement s are among the first n.
-fn all_in(words: &[u64; POOL_WORDS], s: u16, list: &[u32; View::LIMIT], n: usize) -> bool
+fn all_in(words: &[u64; POOL_WORDS], s: u16, list: &[u64; View::LIMIT], n: usize) -> bool
     requires { ⌜ n ≤ 16 ⌝ }
     ensures { λ r. ⌜ r ≡ holds (viewsOf (now (list .entry)) n) (stmtAt (now (words .entry)) s .views) ⌝ }
 {
@@ -80,40 +85,22 @@ fn all_in(words: &[u64; POOL_WORDS], s: u16, list: &[u32; View::LIMIT], n: usize
 }
 
 // Whether the binding of report s is explained by what the sender prepared.
-fn binding_holds(
-    words: &[u64; POOL_WORDS],
-    ids: &[u16; 512],
-    len: usize,
-    sender: u8,
-    prepared: &[u64; 512],
-    np: usize,
-    s: u16,
-) -> bool
-    requires { ⌜ PreparedList sender (recordOf (now words) (now ids) len) (now prepared) np ⌝ }
-    ensures { λ r. ⌜ r ≡ bindingHolds sender (recordOf (now (words .entry)) (now (ids .entry)) len) (stmtAt (now (words .entry)) s) ⌝ }
+fn binding_holds(words: &[u64; POOL_WORDS], prepared: &[u64; PAYLOADS], s: u16) -> bool
+    ensures { λ r. ⌜ r ≡ bindingHolds (now (prepared .entry)) (stmtAt (now (words .entry)) s) ⌝ }
 {
     let b = pool::binding(words, s);
     if b == 1 {
-        return prepares::is_listed(prepared, np, pool::payload(words, s));
+        return prepares::is_listed(prepared, pool::payload(words, s));
     }
     if b == 2 {
-        return prepares::is_twofold(prepared, np);
+        return prepares::is_twofold(prepared);
     }
     true
 }
 
 // Whether the payload that report s kept, if it kept one, has a certificate.
-fn kept_holds(
-    words: &[u64; POOL_WORDS],
-    ids: &[u16; 512],
-    len: usize,
-    init: u32,
-    sender: u8,
-    e: Evidence,
-    s: u16,
-) -> bool
-    requires { ⌜ Settled (ring init) sender (recordOf (now words) (now ids) len) e ⌝ }
-    ensures { λ r. ⌜ r ≡ keptHolds (ring init) sender (recordOf (now (words .entry)) (now (ids .entry)) len) (stmtAt (now (words .entry)) s) ⌝ }
+fn kept_holds(words: &[u64; POOL_WORDS], e: Evidence, s: u16) -> bool
+    ensures { λ r. ⌜ r ≡ keptHolds e (stmtAt (now (words .entry)) s) ⌝ }
 {
     if pool::stored(words, s) != 1 {
         return true;
@@ -127,55 +114,44 @@ fn kept_holds(
 // Whether report s counts.
 fn counts(
     words: &[u64; POOL_WORDS],
-    ids: &[u16; 512],
-    len: usize,
-    init: u32,
-    sender: u8,
     e: Evidence,
-    prepared: &[u64; 512],
-    np: usize,
+    candidates: &[u64; View::LIMIT],
+    prepared: &[u64; PAYLOADS],
     s: u16,
 ) -> bool
-    requires { ⌜ Settled (ring init) sender (recordOf (now words) (now ids) len) e × PreparedList sender (recordOf (now words) (now ids) len) (now prepared) np ⌝ }
-    ensures { λ r. ⌜ r ≡ isCounted (ring init) sender (recordOf (now (words .entry)) (now (ids .entry)) len) (stmtAt (now (words .entry)) s) ⌝ }
+    requires { ⌜ e .count ≤ 16 ⌝ }
+    ensures { λ r. ⌜ r ≡ countsBy e (now (candidates .entry)) (now (prepared .entry)) (stmtAt (now (words .entry)) s) ⌝ }
 {
-    let list = e.candidates;
-    let n = e.count;
     if !is_member(pool::at(words, s), pool::origin(words, s)) {
         return false;
     }
     if !views::within_view(pool::view(words, s), e.wished) {
         return false;
     }
-    if !all_in(words, s, &list, n) {
+    if !all_in(words, s, candidates, e.count) {
         return false;
     }
-    if !binding_holds(words, ids, len, sender, prepared, np, s) {
+    if !binding_holds(words, prepared, s) {
         return false;
     }
-    kept_holds(words, ids, len, init, sender, e, s)
+    kept_holds(words, e, s)
 }
 
 // How many numbers there is room for: a proof that one was written asks for it.
-fn room(listed: &[u16; 512]) -> usize
-    ensures { λ r. ⌜ length (now (listed .entry)) ≡ 512 ⌝ }
+fn room(listed: &[u16; RECORD]) -> usize
+    ensures { λ r. ⌜ length (now (listed .entry)) ≡ 513 ⌝ }
 {
     let s = &listed[..];
     s.len()
 }
 
-// Lists the reports of the record, which are few, so that what asks for reports reads no others. Returns how many there are.
+// Lists the reports of the record, which are few, so that what asks for reports reads no others.
 // Every number is written, and stays only if it is that of a report, so that the loop has no branch.
-fn reports_in(
-    words: &[u64; POOL_WORDS],
-    ids: &[u16; 512],
-    len: usize,
-    listed: &mut [u16; 512],
-) -> usize
-    ensures { λ r. ⌜ ReportList (recordOf (now (words .entry)) (now (ids .entry)) len) (now (words .entry)) (now (listed .exit)) r ⌝ }
+fn reports_in(words: &[u64; POOL_WORDS], ids: &[u16; RECORD], listed: &mut [u16; RECORD])
+    ensures { λ _. ⌜ recordIn (now (words .entry)) (now (listed .exit)) ≡ filter (isKind 5) (recordIn (now (words .entry)) (now (ids .entry))) ⌝ }
 {
     room(listed);
-    let end = pool::limit(len);
+    let end = pool::record_length(ids);
     let mut count = 0usize;
     let mut i = 0usize;
     while i < end {
@@ -185,114 +161,79 @@ fn reports_in(
         count += hit as usize;
         i += 1;
     }
-    count
+    listed[512] = count as u16;
 }
 
-// Who signed a report on u that counts.
+// Who signed a report on u that counts, of those listed.
 fn reporters(
     words: &[u64; POOL_WORDS],
-    ids: &[u16; 512],
-    len: usize,
-    init: u32,
-    sender: u8,
     e: Evidence,
-    prepared: &[u64; 512],
-    np: usize,
-    listed: &[u16; 512],
-    count: usize,
-    u: u32,
+    candidates: &[u64; View::LIMIT],
+    prepared: &[u64; PAYLOADS],
+    listed: &[u16; RECORD],
+    u: u64,
 ) -> u32
-    requires { ⌜ Settled (ring init) sender (recordOf (now words) (now ids) len) e × PreparedList sender (recordOf (now words) (now ids) len) (now prepared) np × ReportList (recordOf (now words) (now ids) len) (now words) (now listed) count ⌝ }
-    ensures { λ r. ⌜ IsSet r (signs (isCountedOn (ring init) sender (recordOf (now (words .entry)) (now (ids .entry)) len) (viewOf u)) (recordOf (now (words .entry)) (now (ids .entry)) len)) ⌝ }
+    requires { ⌜ e .count ≤ 16 ⌝ }
+    ensures { λ r. ⌜ IsSet r (signs (countsAt e (now (candidates .entry)) (now (prepared .entry)) (viewOf u)) (recordIn (now (words .entry)) (now (listed .entry)))) ⌝ }
 {
+    let end = pool::record_length(listed);
     let mut seen: u32 = 0;
     let mut i = 0usize;
-    while i < count {
+    while i < end {
         let s = listed[i];
         if pool::at(words, s) != u {
             i += 1;
             continue;
         }
-        let hit = counts(words, ids, len, init, sender, e, prepared, np, s);
+        let hit = counts(words, e, candidates, prepared, s);
         seen = views::note(seen, hit, pool::origin(words, s));
         i += 1;
     }
     seen
 }
 
-// Whether u, if it lies below the top t of the greatest history, has a quorum of reports that count.
+// Whether u, if it lies below the top t of the greatest history, has a quorum of listed reports that count.
 fn is_reported_on(
     words: &[u64; POOL_WORDS],
-    ids: &[u16; 512],
-    len: usize,
-    init: u32,
-    sender: u8,
     e: Evidence,
-    prepared: &[u64; 512],
-    np: usize,
-    listed: &[u16; 512],
-    count: usize,
-    t: u32,
-    u: u32,
+    candidates: &[u64; View::LIMIT],
+    prepared: &[u64; PAYLOADS],
+    listed: &[u16; RECORD],
+    t: u64,
+    u: u64,
 ) -> bool
-    requires { ⌜ Settled (ring init) sender (recordOf (now words) (now ids) len) e × PreparedList sender (recordOf (now words) (now ids) len) (now prepared) np × ReportList (recordOf (now words) (now ids) len) (now words) (now listed) count × (viewOf t ≡ top (ring init) (viewsOf (e .greatest) (e .length))) ⌝ }
-    ensures { λ r. ⌜ r ≡ reportedOn (ring init) sender (recordOf (now (words .entry)) (now (ids .entry)) len) (viewOf u) ⌝ }
+    requires { ⌜ e .count ≤ 16 ⌝ }
+    ensures { λ r. ⌜ r ≡ hasReports e (now (candidates .entry)) (now (prepared .entry)) (recordIn (now (words .entry)) (now (listed .entry))) (viewOf t) (viewOf u) ⌝ }
 {
     if !views::below_view(u, t) {
         return true;
     }
-    let seen = reporters(
-        words,
-        ids,
-        len,
-        init,
-        sender,
-        e,
-        prepared,
-        np,
-        listed,
-        count,
-        u,
-    );
+    let seen = reporters(words, e, candidates, prepared, listed, u);
     views::quorum_in(u, seen)
 }
 
 // Whether each view of the greatest history below its top has a quorum of reports that count.
 pub fn reported(
     words: &[u64; POOL_WORDS],
-    ids: &[u16; 512],
-    len: usize,
-    init: u32,
-    sender: u8,
+    ids: &[u16; RECORD],
+    ring: Ring,
     e: Evidence,
+    candidates: &[u64; View::LIMIT],
+    greatest: &[u64; View::LIMIT],
 ) -> bool
-    requires { ⌜ Settled (ring init) sender (recordOf (now words) (now ids) len) e ⌝ }
-    ensures { λ r. ⌜ r ≡ reportedAll (ring init) sender (recordOf (now (words .entry)) (now (ids .entry)) len) ⌝ }
+    requires { ⌜ Settled (ringOf ring) (ring .sender) (recordIn (now words) (now ids)) (now candidates) (now greatest) e ⌝ }
+    ensures { λ r. ⌜ r ≡ reportedAll (ringOf ring) (ring .sender) (recordIn (now (words .entry)) (now (ids .entry))) ⌝ }
 {
-    let mut prepared = [0u64; 512];
-    let np = prepares::list(words, ids, len, sender, &mut prepared);
-    let mut listed = [0u16; 512];
-    let count = reports_in(words, ids, len, &mut listed);
-    let list = e.greatest;
+    let mut prepared = [0u64; PAYLOADS];
+    prepares::list(words, ids, ring.sender, &mut prepared);
+    let mut listed = [0u16; RECORD];
+    reports_in(words, ids, &mut listed);
     let n = e.length;
-    let t = top_of(&list, n, init);
+    let t = top_of(greatest, n, ring.init);
     let mut i = 0usize;
     while i < n {
-        let u = view_in(&list, i);
-        if !is_reported_on(
-            words,
-            ids,
-            len,
-            init,
-            sender,
-            e,
-            &prepared,
-            np,
-            &listed,
-            count,
-            t,
-            u,
-        ) {
+        let u = view_in(greatest, i);
+        if !is_reported_on(words, e, candidates, &prepared, &listed, t, u) {
             return false;
         }
         i += 1;
@@ -303,57 +244,51 @@ pub fn reported(
 // Whether statement s is a report that counts, on a view of the greatest history below its top t.
 fn counts_below(
     words: &[u64; POOL_WORDS],
-    ids: &[u16; 512],
-    len: usize,
-    init: u32,
-    sender: u8,
     e: Evidence,
-    prepared: &[u64; 512],
-    np: usize,
-    t: u32,
+    candidates: &[u64; View::LIMIT],
+    greatest: &[u64; View::LIMIT],
+    prepared: &[u64; PAYLOADS],
+    t: u64,
     s: u16,
 ) -> bool
-    requires { ⌜ Settled (ring init) sender (recordOf (now words) (now ids) len) e × PreparedList sender (recordOf (now words) (now ids) len) (now prepared) np × (viewOf t ≡ top (ring init) (viewsOf (e .greatest) (e .length))) ⌝ }
-    ensures { λ r. ⌜ r ≡ countsBelow (ring init) sender (recordOf (now (words .entry)) (now (ids .entry)) len) (stmtAt (now (words .entry)) s) ⌝ }
+    requires { ⌜ (e .count ≤ 16) × (e .length ≤ 16) ⌝ }
+    ensures { λ r. ⌜ r ≡ countsUnder e (now (candidates .entry)) (now (prepared .entry)) (viewsOf (now (greatest .entry)) (e .length)) (viewOf t) (stmtAt (now (words .entry)) s) ⌝ }
 {
-    let list = e.greatest;
-    let n = e.length;
-    let u = pool::at(words, s);
     if pool::kind(words, s) != 5 {
         return false;
     }
+    let u = pool::at(words, s);
     if !views::below_view(u, t) {
         return false;
     }
-    if !is_in(&list, n, u) {
+    if !is_in(greatest, e.length, u) {
         return false;
     }
-    counts(words, ids, len, init, sender, e, prepared, np, s)
+    counts(words, e, candidates, prepared, s)
 }
 
 // The binding `own`, merged with those of the reports that count on the views of the greatest history below its top.
 pub fn merged(
     words: &[u64; POOL_WORDS],
-    ids: &[u16; 512],
-    len: usize,
-    init: u32,
-    sender: u8,
+    ids: &[u16; RECORD],
+    ring: Ring,
     e: Evidence,
+    candidates: &[u64; View::LIMIT],
+    greatest: &[u64; View::LIMIT],
     own: Binding,
 ) -> Binding
-    requires { ⌜ Settled (ring init) sender (recordOf (now words) (now ids) len) e ⌝ }
-    ensures { λ r. ⌜ bindingIs r ≡ mergeAll (bindingIs own) (reportsBelow (ring init) sender (recordOf (now (words .entry)) (now (ids .entry)) len)) ⌝ }
+    requires { ⌜ Settled (ringOf ring) (ring .sender) (recordIn (now words) (now ids)) (now candidates) (now greatest) e ⌝ }
+    ensures { λ r. ⌜ bindingIs r ≡ mergeAll (bindingIs own) (reportsBelow (ringOf ring) (ring .sender) (recordIn (now (words .entry)) (now (ids .entry)))) ⌝ }
 {
-    let mut prepared = [0u64; 512];
-    let np = prepares::list(words, ids, len, sender, &mut prepared);
-    let list = e.greatest;
-    let t = top_of(&list, e.length, init);
+    let mut prepared = [0u64; PAYLOADS];
+    prepares::list(words, ids, ring.sender, &mut prepared);
+    let t = top_of(greatest, e.length, ring.init);
     let mut b = own;
-    let mut i = pool::limit(len);
+    let mut i = pool::record_length(ids);
     while 0 < i {
         i -= 1;
         let s = ids[i];
-        if !counts_below(words, ids, len, init, sender, e, &prepared, np, t, s) {
+        if !counts_below(words, e, candidates, greatest, &prepared, t, s) {
             continue;
         }
         let next = binding::both(binding::told(words, s), b);

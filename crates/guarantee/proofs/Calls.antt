@@ -4,7 +4,7 @@ use mathlib.Core.Path.{_≡_, refl, sym, ap, ap₂, subst, _∙_}
 use mathlib.Core.Bool.{Bool, true, false, not, _||_}
 use mathlib.Core.List.{List, [], _∷_, _++_}
 use mathlib.Core.Option.{some}
-use Prim.Native.Nat.{ℕ, zero, suc, _<_, min}
+use Prim.Native.Nat.{ℕ, zero, suc, _<_}
 use native.Mathlib.Omega.{arith}
 use lib.Dec.{T}
 use lib.ListN.{length, getD}
@@ -20,29 +20,30 @@ use Rattle.protocol.proofs.Promises.{promises, no-conflict}
 use Rattle.protocol.proofs.Carried.{carried, carried-no-conflict}
 use Rattle.views.specs.Table.{table}
 use Rattle.views.proofs.Tables.{table-length, table-cong}
-use Rattle.pool.specs.Pool.{stmtAt, poolLen, recordOf as recordAt}
+use Rattle.pool.specs.Pool.{stmtAt, poolLen, recordOf as recordAt, recordLen, recordIn}
+use Rattle.pool.specs.Changes.{Emptied}
 use Rattle.engine.specs.declared.Controller.{Controller}
 use Rattle.engine.specs.declared.Outcome.{Outcome}
 use Rattle.engine.specs.declared.Answer as held
 use Rattle.engine.specs.declared.Answer.the-variants.{Taken, Signed, Entered, Delivered, Left, Quiet, Refused}
-use Rattle.engine.specs.Meaning.{controllerIs, recordIs, poolIs, Whole, answerIs}
+use Rattle.engine.specs.Meaning.{controllerIs, poolIs, AllIn, answerIs}
 use Rattle.engine.specs.Promise.{PoolAfter, NumbersAfter, Meets, changeOf, signedOf, startedOf}
-use Rattle.guarantee.specs.Calls.{Grows, EngineRun, EngineRuns, EngineAnswers, engineCalls}
+use Rattle.guarantee.specs.Calls.{Grows, Engine, EngineRun, EngineRuns, EngineAnswers, engineCalls}
 
 -- ---- pools
 
 -- a pool that grows changes no record over it
-grown-record : {W W′ : List ℕ} → Grows W W′ → (c : Controller) → Whole W c → (recordIs W′ c ≡ recordIs W c) × Whole W′ c
-unfolding recordIs recordAt Whole
-grown-record {W} {W′} g c w = (
-  table-cong (min (c .statements .len) 512) (λ i. stmtAt W′ (getD (c .statements .ids) i 0)) (λ i. stmtAt W (getD (c .statements .ids) i 0)) (λ i l. g .same _ (w i l)),
+grown-record : {W W′ : List ℕ} → Grows W W′ → (R : List ℕ) → AllIn W R → (recordIn W′ R ≡ recordIn W R) × AllIn W′ R
+unfolding recordAt AllIn
+grown-record {W} {W′} g R w = (
+  table-cong (recordLen R) (λ i. stmtAt W′ (getD R i 0)) (λ i. stmtAt W (getD R i 0)) (λ i l. g .same _ (w i l)),
   λ i l. let a = w i l in let b = g .more in omega arith,
 )
 
 -- a record without numbers
-no-numbers : (W : List ℕ) (c : Controller) → c .statements .len ≡ 0 → (recordIs W c ≡ []) × Whole W c
-unfolding recordIs recordAt Whole table
-no-numbers W c e = (ap (λ l. recordAt W (c .statements .ids) l) e, λ i l. absurd (omega arith))
+no-numbers : (W R R′ : List ℕ) → Emptied R R′ → (recordIn W R′ ≡ []) × AllIn W R′
+unfolding AllIn
+no-numbers W R R′ e = (e .none W, λ i l. absurd (omega (arith, e .len)))
 
 -- the number of a statement is one of the pool that has it
 number-within : (s : Stmt) (P : List Stmt) → numberOf s P < length (pooled s P)
@@ -61,7 +62,7 @@ unfolding poolIs
 pool-length W = table-length (poolLen W) (stmtAt W)
 
 -- what a turn answered means the same over a pool that has grown
-module _ {W left W′ : List ℕ} {c : Controller} {o : controller.Outcome} {r : Outcome} (m : Meets W c o (signedOf (o .answer)) r left) (g : Grows left W′) where
+module _ {W R left R′ W′ : List ℕ} {c : Controller} {o : controller.Outcome} {r : Outcome} (m : Meets W R c o (signedOf (o .answer)) r left R′) (g : Grows left W′) where
   signed-same : (i : ℕ) → r .answer ≡ Signed i → answerIs W′ (Signed i) ≡ answerIs left (Signed i)
   unfolding answerIs
   signed-same i e =
@@ -93,10 +94,10 @@ module _ {W left W′ : List ℕ} {c : Controller} {o : controller.Outcome} {r :
 -- ---- one controller
 
 -- The run's state of controller k before event n is that of the engine.
-pub record Agrees (run : Run) (k : ℕ) (W : ℕ → List ℕ) (r : ℕ → Outcome) (n : ℕ) : Type 0 where
-  pub controller : controllerIs (r n .controller) ≡ controllerOf run k n
-  pub statements : recordIs (W n) (r n .controller) ≡ recordOf run k n
-  pub whole : Whole (W n) (r n .controller)
+pub record Agrees (run : Run) (k : ℕ) (e : ℕ → Engine) (n : ℕ) : Type 0 where
+  pub controller : controllerIs (e n .last .controller) ≡ controllerOf run k n
+  pub statements : recordIn (e n .pool) (e n .ids) ≡ recordOf run k n
+  pub whole : AllIn (e n .pool) (e n .ids)
 
 -- a setup that is taken leaves nothing of what was before
 setup-anew : (k members sender : ℕ) (X : List Stmt) → Start k members sender → setup controller.notSetUp X k members sender ≡ setup controller.notSetUp [] k members sender
@@ -109,72 +110,73 @@ setup-anew k members sender X (starts t e) = go (setupAllowed k members sender) 
     go : (b : Bool) → T b → result b X ≡ result b []
     go true t = refl
 
-module _ {run : Run} (is : IsRun run) {k : ℕ} (ok : T (run .follows k)) {W : ℕ → List ℕ} {r : ℕ → Outcome} (engine : EngineRun run k W r) where
+module _ {run : Run} (is : IsRun run) {k : ℕ} (ok : T (run .follows k)) {e : ℕ → Engine} (engine : EngineRun run k e) where
   -- the call of event n, as the run has it
-  engine-outcome : (n : ℕ) (c : Call) → event run n ≡ some (call k c) → Agrees run k W r n
-      → outcome (hasRoom (poolIs (W n))) (controllerIs (r n .controller)) (recordIs (W n) (r n .controller)) c ≡ returned run k (suc n)
-  engine-outcome n c e a =
-      ap (λ f. outcome f (controllerIs (r n .controller)) (recordIs (W n) (r n .controller)) c) (sym (engine .room n c e))
-      ∙ ap₂ (λ d X. outcome (run .room n) d X c) (a .controller) (a .statements) ∙ sym (called is k n c e)
+  engine-outcome : (n : ℕ) (c : Call) → event run n ≡ some (call k c) → Agrees run k e n
+      → outcome (hasRoom (poolIs (e n .pool))) (controllerIs (e n .last .controller)) (recordIn (e n .pool) (e n .ids)) c ≡ returned run k (suc n)
+  engine-outcome n c h a =
+      ap (λ f. outcome f (controllerIs (e n .last .controller)) (recordIn (e n .pool) (e n .ids)) c) (sym (engine .room n c h))
+      ∙ ap₂ (λ d X. outcome (run .room n) d X c) (a .controller) (a .statements) ∙ sym (called is k n c h)
 
   -- the setup
-  first : Agrees run k W r 0
+  first : Agrees run k e 0
   unfolding returned outcome changeOf
   first =
       let s = engine .started in
+      let f = engine .fresh in
       let b = begun is k (is .numbered k ok) in
-      let o : setup (controllerIs (engine .fresh)) (recordIs (engine .pool) (engine .fresh)) k (run .members) (run .sender) ≡ returned run k 0
-      = ap (λ d. setup d (recordIs (engine .pool) (engine .fresh)) k (run .members) (run .sender)) (engine .unset) ∙ setup-anew k (run .members) (run .sender) _ b in
+      let o : setup (controllerIs (f .last .controller)) (recordIn (f .pool) (f .ids)) k (run .members) (run .sender) ≡ returned run k 0
+      = ap (λ d. setup d (recordIn (f .pool) (f .ids)) k (run .members) (run .sender)) (engine .unset) ∙ setup-anew k (run .members) (run .sender) _ b in
       let t : returned run k 0 .answer ≡ controller.taken = is .started k (is .numbered k ok) in
-      let n = subst (λ p. NumbersAfter (engine .pool) (engine .fresh .statements) (startedOf p) (r 0 .controller .statements)) (ap (λ x. x .answer) o ∙ t) (s .called .numbers) in
-      let (x, w) = no-numbers (W 0) (r 0 .controller) n in
+      let n = subst (λ p. NumbersAfter (f .pool) (f .ids) (startedOf p) (e 0 .ids)) (ap (λ x. x .answer) o ∙ t) (s .called .numbers) in
+      let (x, w) = no-numbers (e 0 .pool) (f .ids) (e 0 .ids) n in
       record { controller = s .called .controller ∙ ap (λ x. x .controller) o; statements = x ∙ sym (started-empty b); whole = w }
     where
       started-empty : Start k (run .members) (run .sender) → returned run k 0 .statements ≡ []
       started-empty (starts t e) = ap (λ x. x .statements) e
 
   -- THE ENGINE RUNS THE PROTOCOL: after any number of events its controller and record are the run's
-  pub agrees : (n : ℕ) → Agrees run k W r n
+  pub agrees : (n : ℕ) → Agrees run k e n
   agrees zero = first
   agrees (suc n) = go (agrees n) (next is k ok n)
     where
-      go : Agrees run k W r n → Next is k n → Agrees run k W r (suc n)
-      go a (acts c e _) =
-          let s = engine .called n c e in
-          let o = engine-outcome n c e a in
+      go : Agrees run k e n → Next is k n → Agrees run k e (suc n)
+      go a (acts c h _) =
+          let s = engine .called n c h in
+          let o = engine-outcome n c h a in
           let (x, w) = s .called .statements (a .whole) in
-          let (y, v) = grown-record (s .grows) (r (suc n) .controller) w in
+          let (y, v) = grown-record (s .grows) (e (suc n) .ids) w in
           record { controller = s .called .controller ∙ ap (λ x. x .controller) o; statements = y ∙ x ∙ ap (λ x. x .statements) o; whole = v }
       go a (waits q f) =
-          let (e, g) = engine .others n f in
-          let (s, w) = grown-record g (r n .controller) (a .whole) in
+          let w = engine .others n f in
+          let (s, v) = grown-record (w .grows) (e n .ids) (a .whole) in
           record {
-            controller = ap (λ x. controllerIs (x .controller)) e ∙ a .controller ∙ ap (λ x. x .controller) (sym q);
-            statements = ap (λ x. recordIs (W (suc n)) (x .controller)) e ∙ s ∙ a .statements ∙ ap (λ x. x .statements) (sym q);
-            whole = subst (λ (x : Outcome). Whole (W (suc n)) (x .controller)) (sym e) w;
+            controller = ap (λ x. controllerIs (x .controller)) (w .last) ∙ a .controller ∙ ap (λ x. x .controller) (sym q);
+            statements = ap (recordIn (e (suc n) .pool)) (w .ids) ∙ s ∙ a .statements ∙ ap (λ x. x .statements) (sym q);
+            whole = subst (AllIn (e (suc n) .pool)) (sym (w .ids)) v;
           }
 
   -- and each turn answers what the run's turn answers
-  pub answers : (n : ℕ) → event run n ≡ some (call k turnCall) → answerIs (W (suc n)) (r (suc n) .answer) ≡ returned run k (suc n) .answer
+  pub answers : (n : ℕ) → event run n ≡ some (call k turnCall) → answerIs (e (suc n) .pool) (e (suc n) .last .answer) ≡ returned run k (suc n) .answer
   unfolding changeOf
-  answers n e = let s = engine .called n turnCall e in same-answer (s .called) (s .grows) ∙ ap (λ x. x .answer) (engine-outcome n turnCall e (agrees n))
+  answers n h = let s = engine .called n turnCall h in same-answer (s .called) (s .grows) ∙ ap (λ x. x .answer) (engine-outcome n turnCall h (agrees n))
 
 -- ---- the promises
 
-module _ {run : Run} (is : IsRun run) (W : ℕ → ℕ → List ℕ) (r : ℕ → ℕ → Outcome) (engines : EngineRuns run W r) where
-  there : (n k : ℕ) (a : controller.Answer) → T (run .follows k) → EngineAnswers run W r n k a → TurnAnswers run n k a
+module _ {run : Run} (is : IsRun run) (e : ℕ → ℕ → Engine) (engines : EngineRuns run e) where
+  there : (n k : ℕ) (a : controller.Answer) → T (run .follows k) → EngineAnswers run e n k a → TurnAnswers run n k a
   there n k a ok t = record { isTurn = t .isTurn; answers = sym (answers is ok (engines k ok) n (t .isTurn)) ∙ t .answers }
 
-  back : (n k : ℕ) (s : Stmt) → T (run .follows k) → TurnAnswers run n k (controller.signed s) → EngineAnswers run W r n k (controller.signed s)
+  back : (n k : ℕ) (s : Stmt) → T (run .follows k) → TurnAnswers run n k (controller.signed s) → EngineAnswers run e n k (controller.signed s)
   back n k s ok t = record { isTurn = t .isTurn; answers = answers is ok (engines k ok) n (t .isTurn) ∙ t .answers }
 
-  same : (k n : ℕ) → T (run .follows k) → recordOf run k n ≡ recordIs (W k n) (r k n .controller)
+  same : (k n : ℕ) → T (run .follows k) → recordOf run k n ≡ recordIn (e k n .pool) (e k n .ids)
   same k n ok = sym (agrees is ok (engines k ok) n .statements)
 
   -- WHAT THE ENGINE ANSWERS KEEPS THE PROMISES
-  pub calls-keep : Promises (engineCalls run W r)
-  calls-keep = carried (observed run) (EngineAnswers run W r) (λ k n. recordIs (W k n) (r k n .controller)) there back same (promises is)
+  pub calls-keep : Promises (engineCalls run e)
+  calls-keep = carried (observed run) (EngineAnswers run e) (λ k n. recordIn (e k n .pool) (e k n .ids)) there back same (promises is)
 
   -- and no turn is refused with 7
-  pub calls-no-conflict : NoConflict (engineCalls run W r)
-  calls-no-conflict = carried-no-conflict (observed run) (EngineAnswers run W r) (λ k n. recordIs (W k n) (r k n .controller)) there back same (no-conflict is)
+  pub calls-no-conflict : NoConflict (engineCalls run e)
+  calls-no-conflict = carried-no-conflict (observed run) (EngineAnswers run e) (λ k n. recordIn (e k n .pool) (e k n .ids)) there back same (no-conflict is)

@@ -21,14 +21,14 @@ use Rattle.engine.specs.declared.Outcome.{Outcome}
 use Rattle.engine.specs.declared.Answer.{Answer}
 use Rattle.engine.specs.declared.Answer.the-variants.{Taken, Signed, Entered, Delivered, Left, Quiet, Refused}
 use Rattle.views.specs.Held.{viewIs}
-use Rattle.pool.specs.Changes.{Pushed}
-use Rattle.engine.specs.Meaning.{controllerIs, withStatements, recordIs, poolIs, Whole, refusalIs, answerIs}
+use Rattle.pool.specs.Changes.{PushedTo, Emptied}
+use Rattle.engine.specs.Meaning.{controllerIs, poolIs, refusalIs, answerIs}
 use Rattle.engine.specs.Promise.{Change, unchanged, emptied, grown, PoolAfter, NumbersAfter, IsRefused, Meets, changeOf}
-use Rattle.guarantee.specs.Calls.{Grows, Calls, EngineRun}
-use Rattle.guarantee.proofs.Memory.{at, memory, fits, numbers, within, short, stmt-at, pool-is, memory-more, grows, pushed, few, record-is, all-in}
+use Rattle.guarantee.specs.Calls.{Grows, Engine, EngineCalls, EngineRun}
+use Rattle.guarantee.proofs.Memory.{at, memory, fits, numbers, within, short, stmt-at, pool-is, memory-more, grows, pushed, empty-again, few, record-is, all-in}
 
--- What there is of one controller after an event: the pool that the event left, what its host then put into it, what the last call on the controller answered, and the controller
--- that this returned, with a record of these numbers in place of its own.
+-- What there is of one controller after an event: the pool that the event left, what its host then put into it, what the last call on the controller answered, the controller
+-- that this returned, and the numbers of its record.
 pub record State : Type 0 where
   pub left : List Stmt
   pub more : List Stmt
@@ -39,8 +39,9 @@ pub record State : Type 0 where
 abbrev pub poolIn : State → List Stmt
 poolIn s = s .left ++ s .more
 
-abbrev pub returnedIn : State → Outcome
-returnedIn s = record { answer = s .answer; controller = withStatements (s .controller) (numbers (s .ids)) }
+-- The engine of the state.
+abbrev pub engineIn : State → Engine
+engineIn s = record { pool = memory (poolIn s); ids = numbers (s .ids); last = record { answer = s .answer; controller = s .controller } }
 
 -- What an answer means over the pool P.
 abbrev answerIn : List Stmt → Answer → controller.Answer
@@ -74,6 +75,12 @@ poolAfter P unchanged = P
 poolAfter P emptied = P
 poolAfter P (grown s) = pooled s P
 
+-- A record that is emptied had no numbers: its memory is then that of none.
+abbrev begins : Change → List ℕ → Bool
+begins unchanged l = true
+begins emptied l = eqb (length l) 0
+begins (grown s) l = true
+
 -- The pool's statements and the record's numbers are allowed.
 unfoldable pub allowed : List Stmt → List ℕ → Bool
 allowed P l = fits P && within P l
@@ -94,7 +101,7 @@ computed s k t =
       outcome = o;
       ids = numbersAfter (poolIn s) (s .ids) (changeOf k (o .answer));
       left = poolAfter (poolIn s) (changeOf k (o .answer));
-      right = numbered (poolIn s) (t .left) (t .answer) && allowed (t .left) (t .ids);
+      right = (numbered (poolIn s) (t .left) (t .answer) && begins (changeOf k (o .answer)) (s .ids)) && allowed (t .left) (t .ids);
     }
 
 unfoldable pub claimed : State → Result
@@ -111,7 +118,7 @@ Acts s k t = computed s k t ≡ claimed t
 
 -- Nothing was called: the pool alone may have grown.
 abbrev pub Waits : State → State → Type 0
-Waits s t = _≡_ {A = Outcome × List Stmt} (returnedIn t, t .left) (returnedIn s, poolIn s)
+Waits s t = _≡_ {A = Outcome × List ℕ × List Stmt} (engineIn t .last, t .ids, t .left) (engineIn s .last, s .ids, poolIn s)
 
 -- ---- a call
 
@@ -146,11 +153,11 @@ module _ (P P′ : List Stmt) (f : T (fits P)) (f′ : T (fits P′)) where
     words = ap memory e ∙ memory-more P f s;
   }
 
-  numbers-after : (l l′ : List ℕ) → length l < 512 → (p : Change) → l′ ≡ numbersAfter P l p → NumbersAfter (memory P) (numbers l) p (numbers l′)
-  numbers-after l l′ h unchanged e = ap numbers e
-  numbers-after l l′ h emptied e = ap length e
-  numbers-after l l′ h (grown s) e =
-      subst (λ k. Pushed (numbers l) (numberOf s (poolIs (memory P))) (numbers k)) (ap (λ Q. l ++ (numberOf s Q ∷ [])) (pool-is P f) ∙ sym e) (pushed l (numberOf s (poolIs (memory P))) h)
+  numbers-after : (l l′ : List ℕ) → length l < 512 → (p : Change) → T (begins p l) → l′ ≡ numbersAfter P l p → NumbersAfter (memory P) (numbers l) p (numbers l′)
+  numbers-after l l′ h unchanged t e = ap numbers e
+  numbers-after l l′ h emptied t e = subst (λ k. Emptied (numbers l) (numbers k)) (sym e) (empty-again l (says-eqb {m = length l} {n = 0} .sound t))
+  numbers-after l l′ h (grown s) t e =
+      subst (λ k. PushedTo (numbers l) (numberOf s (poolIs (memory P))) (numbers k)) (ap (λ Q. l ++ (numberOf s Q ∷ [])) (pool-is P f) ∙ sym e) (pushed l (numberOf s (poolIs (memory P))) h)
 
 allowed-parts : (P : List Stmt) (l : List ℕ) → T (allowed P l) → T (fits P) × T (within P l)
 unfolding allowed
@@ -160,33 +167,33 @@ module _ (s t : State) (k : Call) (e : Acts s k t) (from : T (allowed (poolIn s)
   abbrev o : controller.Outcome
   o = outcome (hasRoom (poolIn s)) (controllerIs (s .controller)) (map (at (poolIn s)) (s .ids)) k
 
-  right : T (numbered (poolIn s) (t .left) (t .answer)) × T (allowed (t .left) (t .ids))
+  right : (T (numbered (poolIn s) (t .left) (t .answer)) × T (begins (changeOf k (o .answer)) (s .ids))) × T (allowed (t .left) (t .ids))
   unfolding computed claimed
-  right = says-and (says-self (numbered (poolIn s) (t .left) (t .answer))) (says-self (allowed (t .left) (t .ids))) .sound (subst T (sym (ap (λ d. d .right) e)) tt)
+  right = says-and (says-and (says-self (numbered (poolIn s) (t .left) (t .answer))) (says-self (begins (changeOf k (o .answer)) (s .ids)))) (says-self (allowed (t .left) (t .ids))) .sound (subst T (sym (ap (λ d. d .right) e)) tt)
 
-  meets : Meets (memory (poolIn s)) (returnedIn s .controller) o (changeOf k (o .answer)) (returnedIn t) (memory (t .left))
-  unfolding controllerIs recordIs Whole computed claimed
+  meets : Meets (memory (poolIn s)) (numbers (s .ids)) (s .controller) o (changeOf k (o .answer)) (engineIn t .last) (memory (t .left)) (numbers (t .ids))
+  unfolding controllerIs computed claimed
   meets =
       let (f, w) = allowed-parts (poolIn s) (s .ids) from in
-      let (n, u) = right in
+      let ((n, b), u) = right in
       let (f′, w′) = allowed-parts (t .left) (t .ids) u in
       record {
         answer = answer-in (poolIn s) (t .left) f f′ (t .answer) n ∙ ap (λ d. d .outcome .answer) (sym e);
         number = λ x h. number-in (poolIn s) (t .left) f f′ (t .answer) n x (ap (λ d. d .outcome .answer) (sym e) ∙ h);
         controller = ap (λ d. d .outcome .controller) (sym e);
-        numbers = numbers-after (poolIn s) (t .left) f f′ (s .ids) (t .ids) (few (poolIn s) (s .ids) f w) (changeOf k (o .answer)) (ap (λ d. d .ids) (sym e));
+        numbers = numbers-after (poolIn s) (t .left) f f′ (s .ids) (t .ids) (few (poolIn s) (s .ids) f w) (changeOf k (o .answer)) b (ap (λ d. d .ids) (sym e));
         statements = λ _. (record-is (t .left) (t .ids) f′ w′ ∙ ap (λ d. d .outcome .statements) (sym e), all-in (t .left) (t .ids) f′ w′);
         pool = pool-after (poolIn s) (t .left) f f′ (changeOf k (o .answer)) (ap (λ d. d .left) (sym e));
         refused = λ i. absurd (not-refused (poolIn s) (t .left) f f′ (t .answer) n (subst IsRefused (ap (λ d. d .outcome .answer) e) i));
       }
 
-  pub calls : Calls (memory (poolIn s)) (returnedIn s .controller) k (returnedIn t) (memory (poolIn t))
-  unfolding controllerIs recordIs
+  pub calls : EngineCalls (engineIn s) k (engineIn t)
+  unfolding controllerIs
   calls =
       let (f, w) = allowed-parts (poolIn s) (s .ids) from in
       record {
         left = memory (t .left);
-        called = subst (λ o. Meets (memory (poolIn s)) (returnedIn s .controller) o (changeOf k (o .answer)) (returnedIn t) (memory (t .left)))
+        called = subst (λ o. Meets (memory (poolIn s)) (numbers (s .ids)) (s .controller) o (changeOf k (o .answer)) (engineIn t .last) (memory (t .left)) (numbers (t .ids)))
             (sym (ap₂ (λ Q X. outcome (hasRoom Q) (controllerIs (s .controller)) X k) (pool-is (poolIn s) f) (record-is (poolIn s) (s .ids) f w))) meets;
         grows = grows (t .left) (t .more) (allowed-parts (t .left) (t .ids) (right .1) .0) (allowed-parts (poolIn t) (t .ids) to .0);
       }
@@ -235,13 +242,13 @@ path-acts k (e ∷ es) s (t ∷ ts) (p, q) (suc n) c h = path-acts k es t ts q n
 
 -- what an event leaves that is no call on k; past the end all stays as it is
 abbrev Leaves : State → State → Type 0
-Leaves s t = (returnedIn t ≡ returnedIn s) × ((more : List Stmt) × (poolIn t ≡ poolIn s ++ more))
+Leaves s t = (engineIn t .last ≡ engineIn s .last) × (numbers (t .ids) ≡ numbers (s .ids)) × ((more : List Stmt) × (poolIn t ≡ poolIn s ++ more))
 
 path-waits : (k : ℕ) (es : List Event) (s : State) (ts : List State) → Path k es s ts → (n : ℕ) → ((c : Call) → ¬ (getElem? es n ≡ some (call k c))) → Leaves (stateAt s ts n) (stateAt s ts (suc n))
-path-waits k [] s [] p zero f = (refl, ([], sym (append-nil (poolIn s))))
-path-waits k [] s [] p (suc n) f = (refl, ([], sym (append-nil (poolIn s))))
+path-waits k [] s [] p zero f = (refl, refl, ([], sym (append-nil (poolIn s))))
+path-waits k [] s [] p (suc n) f = (refl, refl, ([], sym (append-nil (poolIn s))))
 path-waits k [] s (t ∷ ts) p n f = absurd (let z : _≡_ {A = ℕ} 0 1 = cc in omega arith)
-path-waits k (e ∷ es) s (t ∷ ts) (p, q) zero f = let w = waited k e s t p (λ c h. f c (ap some h)) in (ap (λ x. x .0) w, (t .more, ap (λ x. x .1 ++ t .more) w))
+path-waits k (e ∷ es) s (t ∷ ts) (p, q) zero f = let w = waited k e s t p (λ c h. f c (ap some h)) in (ap (λ x. x .0) w, ap (λ x. numbers (x .1)) w, (t .more, ap (λ x. x .2 ++ t .more) w))
 path-waits k (e ∷ es) s (t ∷ ts) (p, q) (suc n) f = path-waits k es t ts q n f
 
 -- Every state is of allowed statements and numbers.
@@ -263,25 +270,28 @@ has-room P f x = ap (λ b. any (sameStmt x) P || b) (lt-ltb (length P) 512 (shor
 module _ (run : Run) (k : ℕ) (fresh s : State) (ts : List State) where
   -- THE CALLS ON CONTROLLER k ARE THE ENGINE'S: its setup and then the run's events, over states that are written out
   pub engine-run : controllerIs (fresh .controller) ≡ controller.notSetUp → Path k (call k (setupCall k (run .members) (run .sender)) ∷ run .events) fresh (s ∷ ts)
-      → T (allAllowed fresh (s ∷ ts)) → ((n : ℕ) (x : Stmt) → run .room n x ≡ true) → EngineRun run k (λ n. memory (poolIn (stateAt s ts n))) (λ n. returnedIn (stateAt s ts n))
+      → T (allAllowed fresh (s ∷ ts)) → ((n : ℕ) (x : Stmt) → run .room n x ≡ true) → EngineRun run k (λ n. engineIn (stateAt s ts n))
   unfolding controllerIs
   engine-run e p u room = record {
-    fresh = returnedIn fresh .controller;
-    pool = memory (poolIn fresh);
+    fresh = engineIn fresh;
     unset = e;
     started = called 0 (setupCall k (run .members) (run .sender)) refl;
     room = λ n c _ i x. (room n x ∙ sym (has-room _ (fit n) x) ∙ ap (λ P. hasRoom P x) (sym (pool-is _ (fit n)))) i;
     called = λ n c h. called (suc n) c h;
     others = λ n h.
-        let (same, (more, q)) = path-waits k all-events fresh (s ∷ ts) p (suc n) h in
-        (same, subst (λ P. Grows (memory (poolIn (stateAt s ts n))) (memory P)) (sym q) (grows (poolIn (stateAt s ts n)) more (fit n) (subst (λ P. T (fits P)) q (fit (suc n)))));
+        let (same, ids, (more, q)) = path-waits k all-events fresh (s ∷ ts) p (suc n) h in
+        record {
+          last = same;
+          ids = ids;
+          grows = subst (λ P. Grows (memory (poolIn (stateAt s ts n))) (memory P)) (sym q) (grows (poolIn (stateAt s ts n)) more (fit n) (subst (λ P. T (fits P)) q (fit (suc n))));
+        };
   }
     where
       all-events : List Event
       all-events = call k (setupCall k (run .members) (run .sender)) ∷ run .events
 
       called : (n : ℕ) (c : Call) → getElem? all-events n ≡ some (call k c)
-          → Calls (memory (poolIn (stateAt fresh (s ∷ ts) n))) (returnedIn (stateAt fresh (s ∷ ts) n) .controller) c (returnedIn (stateAt fresh (s ∷ ts) (suc n))) (memory (poolIn (stateAt fresh (s ∷ ts) (suc n))))
+          → EngineCalls (engineIn (stateAt fresh (s ∷ ts) n)) c (engineIn (stateAt fresh (s ∷ ts) (suc n)))
       called n c h = calls (stateAt fresh (s ∷ ts) n) (stateAt fresh (s ∷ ts) (suc n)) c (path-acts k all-events fresh (s ∷ ts) p n c h) (allowed-at fresh (s ∷ ts) u n) (allowed-at fresh (s ∷ ts) u (suc n))
 
       fit : (n : ℕ) → T (fits (poolIn (stateAt s ts n)))

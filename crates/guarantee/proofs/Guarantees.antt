@@ -2,13 +2,11 @@
 -- Each promises the same: `Promises`, demand 3 of document 01, and `NoConflict`, no refusal with 7; both are said in crates/protocol/specs/Promises.antt.
 -- Assumes nothing.
 use Prim.Native.Nat.{ℕ}
-use mathlib.Core.List.{List}
 use Rattle.protocol.specs.Run.{Run, IsRun}
 use Rattle.protocol.specs.Promises.{observed, Promises, NoConflict, NeverBarred}
 use Rattle.protocol.proofs.Promises.{promises, no-conflict}
 use Rattle.protocol.proofs.Sender.{never-barred}
-use Rattle.engine.specs.declared.Outcome.{Outcome}
-use Rattle.guarantee.specs.Calls.{EngineRuns, engineCalls, Host, HostRuns, hostCalls}
+use Rattle.guarantee.specs.Calls.{Engine, EngineRuns, engineCalls, Host, HostRuns, hostCalls}
 use Rattle.guarantee.specs.Rows.{Guarantee, InMemory}
 use Rattle.guarantee.proofs.Calls.{calls-keep, calls-no-conflict}
 use Rattle.guarantee.proofs.Hosts.{hosts-keep, hosts-no-conflict}
@@ -27,8 +25,8 @@ pub of-hosts : {run : Run} → IsRun run → (h : ℕ → ℕ → Host) → Host
 of-hosts is h hosts = (hosts-keep is h hosts, hosts-no-conflict is h hosts)
 
 -- What the engine answers, where the calls on each rule-follower meet its contracts and the premises of a run hold.
-pub of-calls : {run : Run} → IsRun run → (W : ℕ → ℕ → List ℕ) (r : ℕ → ℕ → Outcome) → EngineRuns run W r → Promises (engineCalls run W r) × NoConflict (engineCalls run W r)
-of-calls is W r engines = (calls-keep is W r engines, calls-no-conflict is W r engines)
+pub of-calls : {run : Run} → IsRun run → (e : ℕ → ℕ → Engine) → EngineRuns run e → Promises (engineCalls run e) × NoConflict (engineCalls run e)
+of-calls is e engines = (calls-keep is e engines, calls-no-conflict is e engines)
 
 -- Any list of calls and lies in which nothing is forged and few break the rules.
 pub of-runs : {run : Run} → IsRun run → Promises (observed run) × NoConflict (observed run)

@@ -18,29 +18,29 @@ use Rattle.protocol.proofs.Promises.{promises, no-conflict}
 use Rattle.protocol.proofs.Carried.{carried, carried-no-conflict}
 use Rattle.views.specs.View.{viewOf}
 use Rattle.views.specs.Held.{viewIs}
-use Rattle.engine.specs.declared.Outcome.{Outcome}
 use Rattle.engine.specs.declared.Answer.{Answer}
 use Rattle.engine.specs.declared.Answer.the-variants.{Taken, Signed, Entered, Delivered, Left, Quiet, Refused}
-use Rattle.engine.specs.Meaning.{recordIs, answerIs, refusalIs}
+use Rattle.engine.specs.Meaning.{answerIs, refusalIs}
+use Rattle.pool.specs.Pool.{recordIn}
 use Rattle.host.specs.Memory.{controllerAt}
 use Rattle.host.specs.Host.{answerNumber, valueNumber}
-use Rattle.guarantee.specs.Calls.{Grows, Calls, EngineRun, Host, HostRun, HostRuns, said, HostAnswers, hostCalls}
+use Rattle.guarantee.specs.Calls.{Engine, EngineCalls, EngineWaits, EngineRun, Host, HostRun, HostRuns, said, HostAnswers, hostCalls}
 use Rattle.guarantee.proofs.Laws.{refusal-at}
 use Rattle.guarantee.proofs.Calls.{agrees, answers}
 
 -- ---- what the numbers say is what the engine answered
 
 -- a view of the ring is that of its word
-view-of-word : (v : View) → T (isView controllers v) → viewOf (v .joined + v .left * 65536) ≡ v
+view-of-word : (v : View) → T (isView controllers v) → viewOf (v .joined + v .left * 4294967296) ≡ v
 unfolding viewOf
 view-of-word v t = go (fits t .joined) (fits t .left)
   where
-    go : v .joined < 65536 → v .left < 65536 → viewOf (v .joined + v .left * 65536) ≡ v
+    go : v .joined < 65536 → v .left < 65536 → viewOf (v .joined + v .left * 4294967296) ≡ v
     go p q =
-        let x : (v .joined + v .left * 65536) % 65536 ≡ v .joined = omega arith in
-        let z : (v .joined + v .left * 65536) / 65536 ≡ v .left = omega arith in
-        let w : v .left % 65536 ≡ v .left = omega arith in
-        let y : (v .joined + v .left * 65536) / 65536 % 65536 ≡ v .left = ap (λ n. n % 65536) z ∙ w in
+        let x : (v .joined + v .left * 4294967296) % 4294967296 ≡ v .joined = omega arith in
+        let z : (v .joined + v .left * 4294967296) / 4294967296 ≡ v .left = omega arith in
+        let w : v .left % 4294967296 ≡ v .left = omega arith in
+        let y : (v .joined + v .left * 4294967296) / 4294967296 % 4294967296 ≡ v .left = ap (λ n. n % 4294967296) z ∙ w in
         ap₂ (λ j l. record { joined = j; left = l }) x y
 
 -- (a view that is entered is one of the ring)
@@ -69,14 +69,13 @@ module _ {run : Run} (is : IsRun run) {k : ℕ} (ok : T (run .follows k)) {h : �
   told zero = host .started .called .told
   told (suc n) = toldBy n (next is k ok n) (told n)
 
-  abbrev pub returns : ℕ → Outcome
-  returns n = record { answer = told n; controller = controllerAt (h n .fields) (h n .ids) }
+  abbrev pub engineAt : ℕ → Engine
+  engineAt n = record { pool = h n .pool; ids = h n .ids; last = record { answer = told n; controller = controllerAt (h n .fields) } }
 
-  pub engine-run : EngineRun run k (λ n. h n .pool) returns
+  pub engine-run : EngineRun run k engineAt
   unfolding toldBy told
   engine-run = record {
-    fresh = controllerAt (host .fresh .fields) (host .fresh .ids);
-    pool = host .fresh .pool;
+    fresh = record { pool = host .fresh .pool; ids = host .fresh .ids; last = record { answer = Quiet; controller = controllerAt (host .fresh .fields) } };
     unset = host .unset .controller;
     started = let s = host .started in record { left = s .left; called = s .called .called; grows = s .grows };
     room = host .room;
@@ -84,20 +83,20 @@ module _ {run : Run} (is : IsRun run) {k : ℕ} (ok : T (run .follows k)) {h : �
     others = λ n f. waiting n f (next is k ok n);
   }
     where
-      after : (n : ℕ) → Next is k n → Outcome
-      after n x = record { answer = toldBy n x (told n); controller = controllerAt (h (suc n) .fields) (h (suc n) .ids) }
+      after : (n : ℕ) → Next is k n → Engine
+      after n x = record { pool = h (suc n) .pool; ids = h (suc n) .ids; last = record { answer = toldBy n x (told n); controller = controllerAt (h (suc n) .fields) } }
 
-      by-call : (n : ℕ) (c : Call) → event run n ≡ some (call k c) → (x : Next is k n) → Calls (h n .pool) (controllerAt (h n .fields) (h n .ids)) c (after n x) (h (suc n) .pool)
+      by-call : (n : ℕ) (c : Call) → event run n ≡ some (call k c) → (x : Next is k n) → EngineCalls (engineAt n) c (after n x)
       by-call n c e (acts d f y) =
           let s = host .called n d f in
-          subst (λ b. Calls (h n .pool) (controllerAt (h n .fields) (h n .ids)) b (after n (acts d f y)) (h (suc n) .pool)) (same-call f e) (record { left = s .left; called = s .called .called; grows = s .grows })
+          subst (λ b. EngineCalls (engineAt n) b (after n (acts d f y))) (same-call f e) (record { left = s .left; called = s .called .called; grows = s .grows })
       by-call n c e (waits _ f) = absurd (f c e)
 
-      waiting : (n : ℕ) → ((c : Call) → ¬ (event run n ≡ some (call k c))) → (x : Next is k n) → (after n x ≡ returns n) × Grows (h n .pool) (h (suc n) .pool)
+      waiting : (n : ℕ) → ((c : Call) → ¬ (event run n ≡ some (call k c))) → (x : Next is k n) → EngineWaits (engineAt n) (after n x)
       waiting n f (acts c e _) = absurd (f c e)
       waiting n f (waits _ _) =
           let w = host .others n f in
-          (ap₂ (λ F I. record { answer = told n; controller = controllerAt F I }) (w .fields) (w .ids), w .grows)
+          record { last = ap (λ F. record { answer = told n; controller = controllerAt F }) (w .fields); ids = w .ids; grows = w .grows }
 
   -- the host got the numbers of what the engine answered
   numbers : (n : ℕ) (c : Call) → event run n ≡ some (call k c) → (h (suc n) .answer ≡ answerNumber (told (suc n))) × (h (suc n) .value ≡ valueNumber (told (suc n)))
@@ -130,13 +129,13 @@ module _ {run : Run} (is : IsRun run) (h : ℕ → ℕ → Host) (hosts : HostRu
   back : (n k : ℕ) (s : Stmt) → T (run .follows k) → TurnAnswers run n k (controller.signed s) → HostAnswers run h n k (controller.signed s)
   back n k s ok t = record { isTurn = t .isTurn; says = said-so is ok (hosts k ok) n (t .isTurn) ∙ t .answers }
 
-  same : (k n : ℕ) → T (run .follows k) → recordOf run k n ≡ recordIs (h k n .pool) (controllerAt (h k n .fields) (h k n .ids))
+  same : (k n : ℕ) → T (run .follows k) → recordOf run k n ≡ recordIn (h k n .pool) (h k n .ids)
   same k n ok = sym (agrees is ok (engine-run is ok (hosts k ok)) n .statements)
 
   -- WHAT A HOST IS TOLD KEEPS THE PROMISES
   pub hosts-keep : Promises (hostCalls run h)
-  hosts-keep = carried (observed run) (HostAnswers run h) (λ k n. recordIs (h k n .pool) (controllerAt (h k n .fields) (h k n .ids))) there back same (promises is)
+  hosts-keep = carried (observed run) (HostAnswers run h) (λ k n. recordIn (h k n .pool) (h k n .ids)) there back same (promises is)
 
   -- and no turn is refused with 7
   pub hosts-no-conflict : NoConflict (hostCalls run h)
-  hosts-no-conflict = carried-no-conflict (observed run) (HostAnswers run h) (λ k n. recordIs (h k n .pool) (controllerAt (h k n .fields) (h k n .ids))) there back same (no-conflict is)
+  hosts-no-conflict = carried-no-conflict (observed run) (HostAnswers run h) (λ k n. recordIn (h k n .pool) (h k n .ids)) there back same (no-conflict is)

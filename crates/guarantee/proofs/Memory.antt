@@ -1,13 +1,13 @@
 -- The memory of a pool whose statements went into it one after another, and a record of given numbers.
 -- Assumes nothing.
-use mathlib.Core.Path.{_≡_, refl, sym, ap, subst, _∙_}
+use mathlib.Core.Path.{_≡_, refl, sym, ap, ap₂, subst, _∙_}
 use mathlib.Core.Bool.{Bool, true, false, not, _&&_}
 use mathlib.Core.List.{List, [], _∷_, _++_, map, foldl, foldl-append, append-nil, append-assoc}
-use Prim.Native.Nat.{ℕ, zero, suc, _+_, _-_, _≤_, _<_, min}
+use Prim.Native.Nat.{ℕ, zero, suc, _+_, _-_, _/_, _%_, _≤_, _<_, min}
 use native.Mathlib.Omega.{arith}
 use lib.Dec.{T, eqb, ltb}
 use lib.ListN.{length, getD, set, replicate, length-append, length-map, length-replicate, getD-replicate, List·getD-append, List·getD-map}
-use lib.Seq.{set-append-seam, ext-getD}
+use lib.Seq.{set-append-seam, ext-getD, getD-set-same}
 use Rattle.protocol.specs.Lists.{if_then_else_, any, all, isSome}
 use Rattle.protocol.specs.View.{View}
 use Rattle.protocol.specs.Statement.{Stmt, noStmt, sameStmt, fieldRules}
@@ -16,8 +16,7 @@ use Rattle.protocol.proofs.Says.{says-self, says-and, says-leb}
 use Rattle.views.specs.declared.View as held
 use Rattle.views.specs.Table.{table}
 use Rattle.views.specs.View.{viewOf}
-use Rattle.views.specs.Held.{viewIs, heldAt}
-use Rattle.views.proofs.Held.{word-is}
+use Rattle.views.specs.Held.{viewIs}
 use Rattle.views.proofs.Tables.{table-length, table-at}
 use Rattle.statements.specs.declared.Binding.{Binding}
 use Rattle.statements.specs.declared.Binding.the-variants.{Unbound, Bound, Barred}
@@ -25,13 +24,13 @@ use Rattle.statements.specs.declared.Statement.{Statement}
 use Rattle.statements.specs.Meaning.{firstViews, bindingNumber, payloadOf, stmtOf, FitsView, EachFits, Fits}
 use Rattle.statements.proofs.FieldLaws.{views-length}
 use Rattle.statements.proofs.Fits.{keeps-fits}
-use Rattle.pool.specs.declared.Record.{Record}
-use Rattle.pool.specs.Pool.{wordOf, stmtAt, poolLen, recordOf}
-use Rattle.pool.specs.Changes.{headOf, headWord, Put, foundOf, pooledIn, Pushed}
+use Rattle.pool.specs.Pool.{wordOf, stmtAt, poolWords, poolLen, poolOf, recordOf, recordLen, recordIn}
+use Rattle.pool.specs.Changes.{headOf, headWord, Put, foundOf, pooledIn, PushedTo, Emptied}
 use Rattle.pool.specs.Changes as memories
 use Rattle.pool.proofs.Parts.{head-back}
 use Rattle.pool.proofs.Writes.{stmts, flag-is, put-is}
-use Rattle.pool.proofs.Searches.{append-new, pooled-beside, push-room}
+use Rattle.pool.proofs.Searches.{append-new, pooled-beside, fresh}
+use Rattle.pool.proofs.Lists.{push-room-in, emptied}
 use Rattle.engine.specs.Meaning.{poolIs, AllIn}
 use Rattle.engine.proofs.Pools.{there, absent, in-pool, grown-pool}
 use Rattle.guarantee.specs.Calls.{Grows}
@@ -53,10 +52,17 @@ all-at p (a ∷ l) d t (suc i) h = all-at p l d (says-and (says-self (p a)) (say
 abbrev heldOf : View → held.View
 heldOf v = record { joined = v .joined; left = v .left }
 
-views-back : (l : List View) → firstViews (length l) (map heldOf l) ≡ l
+-- the struct of a view that fits means the view
+held-back : (v : View) → FitsView v → viewIs (heldOf v) ≡ v
+held-back v f =
+    let x : v .joined % 65536 ≡ v .joined = omega (arith, f .joined) in
+    let y : v .left % 65536 ≡ v .left = omega (arith, f .left) in
+    ap₂ (λ j l. record { joined = j; left = l }) x y
+
+views-back : (l : List View) → EachFits l → firstViews (length l) (map heldOf l) ≡ l
 unfolding firstViews
-views-back [] = refl
-views-back (v ∷ l) = ap (λ k. v ∷ k) (views-back l)
+views-back [] f = refl
+views-back (v ∷ l) f = ap₂ (λ u k. u ∷ k) (held-back v (f .0)) (views-back l (f .1))
 
 binding-back : (n m : ℕ) → n ≤ 2 → (b : Binding) × (bindingNumber b ≡ n) × (payloadOf b m ≡ m)
 binding-back zero m h = (Unbound, refl, refl)
@@ -79,23 +85,21 @@ struct-of s f =
         kept = s .kept;
         history = record { views = map heldOf (s .views); len = length (s .views) };
       },
-      stmts refl refl refl refl n p (flag-is (s .stored) (f .stored)) refl (views-back (s .views)),
+      stmts refl refl (held-back (s .at) (f .at)) (held-back (s .view) (f .view)) n p (flag-is (s .stored) (f .stored)) refl (views-back (s .views) (f .views)),
     )
 
 -- ---- it comes back from its words
 
 view-back : (v : View) → FitsView v → viewOf (wordOf v) ≡ v
-view-back v f = word-is (heldOf v) (v .joined) (v .left) refl (f .joined) refl (f .left)
+unfolding viewOf
+view-back v f =
+    let x : wordOf v % 4294967296 ≡ v .joined = omega (arith, f .joined) in
+    let z : wordOf v / 4294967296 ≡ v .left = omega (arith, f .joined) in
+    let w : v .left % 4294967296 ≡ v .left = omega (arith, f .left) in
+    let y : wordOf v / 4294967296 % 4294967296 ≡ v .left = ap (λ n. n % 4294967296) z ∙ w in
+    ap₂ (λ j l. record { joined = j; left = l }) x y
 
-each-fits : (n : ℕ) (l : List held.View) → EachFits (firstViews n l) → (p : ℕ) → p < n → FitsView (heldAt l p)
-unfolding firstViews
-each-fits zero l f p h = absurd (omega arith)
-each-fits (suc n) [] f zero h = f .0
-each-fits (suc n) [] f (suc p) h = each-fits n [] (f .1) p (omega arith)
-each-fits (suc n) (v ∷ l) f zero h = f .0
-each-fits (suc n) (v ∷ l) f (suc p) h = each-fits n l (f .1) p (omega arith)
-
-module _ (W : List ℕ) (st : Statement) (long : length W ≡ 10241) (room : poolLen W < 512) (f : Fits (stmtOf st)) where
+module _ (W : List ℕ) (st : Statement) (long : length W ≡ poolWords) (room : poolLen W < 512) (f : Fits (stmtOf st)) where
   count : length (stmtOf st .views) ≡ st .history .len
   unfolding stmtOf
   count = views-length (st .history .len) (st .history .views)
@@ -104,10 +108,9 @@ module _ (W : List ℕ) (st : Statement) (long : length W ≡ 10241) (room : poo
   unfolding stmtOf headWord headOf
   put = (
     _,
-    put-is W _ (poolLen W) (poolLen W) st (headWord (stmtOf st)) (wordOf (viewIs (st .view))) (stmtOf st .payload) (st .kept) long (omega arith)
-        (record { is = refl; back = λ p l. view-back (heldAt (st .history .views) p) (each-fits (st .history .len) (st .history .views) (f .views) p (omega arith)) })
-        (refl, head-back (stmtOf st) _ _ _ _ _ refl (omega (arith, f .kind, f .origin, f .at .joined, f .at .left)) (ap (λ n. min n 16) count) (omega arith) refl (f .binding) refl (f .stored) (f .kind) (f .origin) (f .at .joined) (f .at .left))
-        (omega (arith, f .view .joined, f .view .left)) (view-back (viewIs (st .view)) (f .view)) refl refl,
+    put-is W _ (poolLen W) (poolLen W) st (headWord (stmtOf st)) (wordOf (viewIs (st .at))) (wordOf (viewIs (st .view))) (stmtOf st .payload) (st .kept) long (omega arith) refl
+        (refl, head-back (stmtOf st) _ _ _ _ _ refl (omega (arith, f .kind, f .origin)) (ap (λ n. min n 16) count) (omega arith) refl (f .binding) refl (f .stored) (f .kind) (f .origin))
+        (omega (arith, f .at .joined, f .at .left)) (view-back (viewIs (st .at)) (f .at)) (omega (arith, f .view .joined, f .view .left)) (view-back (viewIs (st .view)) (f .view)) refl refl,
   )
 
   -- one statement more, where the pool does not have it
@@ -127,7 +130,7 @@ abbrev pub at : List Stmt → ℕ → Stmt
 at P n = getD P n noStmt
 
 zeros : List ℕ
-zeros = replicate 10241 0
+zeros = replicate poolWords 0
 
 -- Its statements went one after another into a memory of zeros.
 pub memory : List Stmt → List ℕ
@@ -142,7 +145,7 @@ newAfter Q (s ∷ P) = (fieldRules 16 s && not (any (sameStmt s) Q)) && newAfter
 unfoldable pub fits : List Stmt → Bool
 fits P = ltb (length P) 512 && newAfter [] P
 
-all-in-pool : (P Q : List Stmt) (W : List ℕ) → length W ≡ 10241 → poolIs W ≡ Q → length Q + length P < 512 → T (newAfter Q P) → poolIs (foldl pooledIn W P) ≡ Q ++ P
+all-in-pool : (P Q : List Stmt) (W : List ℕ) → length W ≡ poolWords → poolIs W ≡ Q → length Q + length P < 512 → T (newAfter Q P) → poolIs (foldl pooledIn W P) ≡ Q ++ P
 all-in-pool [] Q W l e h t = e ∙ sym (append-nil Q)
 all-in-pool (s ∷ P) Q W l e h t =
     let ((r, n), u) = says-and (says-and (says-self (fieldRules 16 s)) (says-self (not (any (sameStmt s) Q)))) (says-self (newAfter (Q ++ (s ∷ [])) P)) .sound t in
@@ -151,11 +154,9 @@ all-in-pool (s ∷ P) Q W l e h t =
     all-in-pool P (Q ++ (s ∷ [])) (pooledIn W s) (pooled-beside W s .long ∙ l) (more (subst (λ X. T (not (any (sameStmt s) X))) (sym e) n) ∙ ap (λ X. X ++ (s ∷ [])) e) (omega (arith, length-append Q (s ∷ []))) u
     ∙ append-assoc Q (s ∷ []) P
 
-no-pool : (length zeros ≡ 10241) × (poolIs zeros ≡ [])
-unfolding zeros poolIs poolLen table
-no-pool =
-    let e : min (getD zeros 10240 0) 512 ≡ 0 = omega (arith, getD-replicate {A = ℕ} 10241 10240 0 0 (omega arith)) in
-    (length-replicate {A = ℕ} 10241 0, ap (λ n. table n (stmtAt zeros)) e)
+no-pool : (length zeros ≡ poolWords) × (poolIs zeros ≡ [])
+unfolding zeros poolIs poolOf
+no-pool = (length-replicate {A = ℕ} poolWords 0, fresh poolWords .1)
 
 -- a statement is found where the pool has it
 there-is : (W : List ℕ) (s : Stmt) → isSome (memories.numberOf W s) ≡ any (sameStmt s) (poolIs W)
@@ -201,23 +202,60 @@ grows P more t u = record {
 
 -- ---- the record
 
--- A record of these numbers, in an array of 512.
-abbrev pub numbers : List ℕ → Record
-numbers l = record { ids = l ++ replicate (512 - length l) 0; len = length l }
+-- The memory of a record of these numbers.
+abbrev pub numbers : List ℕ → List ℕ
+numbers l = l ++ (replicate (512 - length l) 0 ++ (length l ∷ []))
 
 -- The numbers are of statements of the pool, and there is room for one more.
 unfoldable pub within : List Stmt → List ℕ → Bool
 within P l = ltb (length l) 512 && all (λ i. ltb i (length P)) l
 
-number-at : (l : List ℕ) (i : ℕ) → i < length l → getD (numbers l .ids) i 0 ≡ getD l i 0
-number-at l i h = List·getD-append l (replicate (512 - length l) 0) 0 i h
+number-at : (l : List ℕ) (i : ℕ) → i < length l → getD (numbers l) i 0 ≡ getD l i 0
+number-at l i h = List·getD-append l (replicate (512 - length l) 0 ++ (length l ∷ [])) 0 i h
 
-pub pushed : (l : List ℕ) (id : ℕ) → length l < 512 → Pushed (numbers l) id (numbers (l ++ (id ∷ [])))
+module _ (l : List ℕ) (h : length l < 512) where
+  zeros-long : length (l ++ replicate (512 - length l) 0) ≡ 512
+  zeros-long = omega (arith, length-append l (replicate (512 - length l) 0), length-replicate {A = ℕ} (512 - length l) 0)
+
+  all-zeros : numbers l ≡ (l ++ replicate (512 - length l) 0) ++ (length l ∷ [])
+  all-zeros = sym (append-assoc l (replicate (512 - length l) 0) (length l ∷ []))
+
+  numbers-long : length (numbers l) ≡ 513
+  numbers-long = ap length all-zeros ∙ omega (arith, length-append (l ++ replicate (512 - length l) 0) (length l ∷ []), zeros-long)
+
+  set-count : (n : ℕ) → set (numbers l) 512 n ≡ (l ++ replicate (512 - length l) 0) ++ (n ∷ [])
+  set-count n = ap (λ k. set k 512 n) all-zeros ∙ ap (λ i. set ((l ++ replicate (512 - length l) 0) ++ (length l ∷ [])) i n) (sym zeros-long) ∙ set-append-seam (l ++ replicate (512 - length l) 0) (length l) [] n
+
+  pub count-is : getD (numbers l) 512 0 ≡ length l
+  count-is = ap (λ k. getD k 512 0) (set-same) ∙ getD-set-same (numbers l) 512 (length l) 0 (omega (arith, numbers-long))
+    where
+      set-same : numbers l ≡ set (numbers l) 512 (length l)
+      set-same = all-zeros ∙ sym (set-count (length l))
+
+  pub record-len : recordLen (numbers l) ≡ length l
+  record-len = ap (λ k. min k 512) count-is ∙ omega arith
+
+pub pushed : (l : List ℕ) (id : ℕ) → length l < 512 → PushedTo (numbers l) id (numbers (l ++ (id ∷ [])))
 pushed l id h =
     let more = length-append l (id ∷ []) in
     let rest : 512 - length l ≡ suc (512 - length (l ++ (id ∷ []))) = omega arith in
-    push-room (numbers l) (numbers (l ++ (id ∷ []))) id (length l) (omega arith) h (omega (arith, length-append l (replicate (512 - length l) 0), length-replicate {A = ℕ} (512 - length l) 0))
-    (append-assoc l (id ∷ []) _ ∙ sym (ap (λ n. set (l ++ replicate n 0) (length l) id) rest ∙ set-append-seam l 0 _ id)) more
+    let one : set (numbers l) (length l) id ≡ l ++ (id ∷ (replicate (512 - length (l ++ (id ∷ []))) 0 ++ (length l ∷ [])))
+    = ap (λ n. set (l ++ (replicate n 0 ++ (length l ∷ []))) (length l) id) rest ∙ set-append-seam l 0 _ id in
+    subst (PushedTo (numbers l) id) (after one) (push-room-in (numbers l) id (numbers-long l h) (length l) (sym (record-len l h)) h)
+  where
+    after : set (numbers l) (length l) id ≡ l ++ (id ∷ (replicate (512 - length (l ++ (id ∷ []))) 0 ++ (length l ∷ []))) → set (set (numbers l) (length l) id) 512 (length l + 1) ≡ numbers (l ++ (id ∷ []))
+    after one =
+        let k : List ℕ = l ++ (id ∷ []) in
+        let z : List ℕ = replicate (512 - length k) 0 in
+        let long : length (k ++ z) ≡ 512 = omega (arith, length-append k z, length-replicate {A = ℕ} (512 - length k) 0, length-append l (id ∷ [])) in
+        let n : length k ≡ length l + 1 = length-append l (id ∷ []) in
+        ap (λ m. set m 512 (length l + 1)) (one ∙ sym (append-assoc l (id ∷ []) (z ++ (length l ∷ []))) ∙ sym (append-assoc k z (length l ∷ [])))
+        ∙ ap (λ i. set ((k ++ z) ++ (length l ∷ [])) i (length l + 1)) (sym long) ∙ set-append-seam (k ++ z) (length l) [] (length l + 1)
+        ∙ append-assoc k z ((length l + 1) ∷ []) ∙ ap (λ m. k ++ (z ++ (m ∷ []))) (sym n)
+
+pub empty-again : (l : List ℕ) → length l ≡ 0 → Emptied (numbers l) (numbers [])
+empty-again [] e = subst (Emptied (numbers [])) (set-count [] (omega arith) 0 ∙ sym (all-zeros [] (omega arith))) (emptied (numbers []) (numbers-long [] (omega arith)))
+empty-again (i ∷ l) e = absurd (omega arith)
 
 module _ (P : List Stmt) (l : List ℕ) (t : T (fits P)) (u : T (within P l)) where
   pub few : length l < 512
@@ -228,12 +266,13 @@ module _ (P : List Stmt) (l : List ℕ) (t : T (fits P)) (u : T (within P l)) wh
   unfolding within
   below i h = says-leb {m = suc (getD l i 0)} {n = length P} .sound (all-at (λ i. ltb i (length P)) l 0 (says-and (says-self (ltb (length l) 512)) (says-self (all (λ i. ltb i (length P)) l)) .sound u .1) i h)
 
-  pub record-is : recordOf (memory P) (numbers l .ids) (numbers l .len) ≡ map (at P) l
+  pub record-is : recordIn (memory P) (numbers l) ≡ map (at P) l
   unfolding recordOf
   record-is =
-      table-is (min (length l) 512) (λ i. stmtAt (memory P) (getD (numbers l .ids) i 0)) (map (at P) l) (at P 0) (omega (arith, length-map l (at P), few)) (λ i h.
-      let k : i < length l = omega arith in
+      table-is (recordLen (numbers l)) (λ i. stmtAt (memory P) (getD (numbers l) i 0)) (map (at P) l) (at P 0) (record-len l few ∙ sym (length-map l (at P))) (λ i h.
+      let k : i < length l = omega (arith, record-len l few) in
       ap (stmtAt (memory P)) (number-at l i k) ∙ stmt-at P t (getD l i 0) (below i k) ∙ sym (List·getD-map (at P) l i 0))
 
   pub all-in : AllIn (memory P) (numbers l)
-  all-in i h = let k : i < length l = omega arith in omega (arith, number-at l i k, len-is P t, below i k)
+  unfolding AllIn
+  all-in i h = let k : i < length l = omega (arith, record-len l few) in omega (arith, number-at l i k, len-is P t, below i k)

@@ -32,15 +32,14 @@ use Rattle.rules.specs.declared.Send.{Send}
 use Rattle.rules.specs.declared.Send.the-variants.{Nothing, Payload}
 use Rattle.pool.specs.Pool.{stmtAt}
 use Rattle.engine.specs.declared.Controller.{Controller}
-use Rattle.engine.specs.declared.Outcome.{Outcome}
 use Rattle.engine.specs.declared.Answer.{Answer}
 use Rattle.engine.specs.declared.Answer.the-variants.{Taken, Signed, Delivered, Quiet}
 use Rattle.engine.specs.Meaning.{controllerIs, answerIs}
 use Rattle.engine.specs.Promise.{changeOf}
-use Rattle.guarantee.specs.Calls.{EngineRuns, EngineAnswers, engineCalls}
+use Rattle.guarantee.specs.Calls.{Engine, EngineRuns, EngineAnswers, engineCalls}
 use Rattle.guarantee.proofs.Calls.{calls-keep}
-use Rattle.guarantee.proofs.Memory.{memory, fits, numbers, within, stmt-at}
-use Rattle.guarantee.proofs.Computed.{State, poolIn, returnedIn, allowed, computed, claimed, Path, stateAt, allAllowed, engine-run}
+use Rattle.guarantee.proofs.Memory.{fits, within, stmt-at}
+use Rattle.guarantee.proofs.Computed.{State, engineIn, allowed, computed, claimed, Path, stateAt, allAllowed, engine-run}
 
 -- The first and only view.
 abbrev two : View
@@ -90,7 +89,6 @@ controllerWith ready k init n sending binding done = record {
   joining = false;
   leaving = false;
   sending = sending;
-  statements = numbers [];
 }
 
 -- Before the setup.
@@ -182,14 +180,11 @@ abbrev states : ℕ → ℕ → State
 states zero n = stateAt zero0 zeros n
 states (suc k) n = stateAt one0 ones n
 
--- the pools, and what the calls returned
-abbrev pub W : ℕ → ℕ → List ℕ
-W k n = memory (poolIn (states k n))
+-- the engines
+abbrev pub e : ℕ → ℕ → Engine
+e k n = engineIn (states k n)
 
-abbrev pub r : ℕ → ℕ → Outcome
-r k n = returnedIn (states k n)
-
-pub own-engines : EngineRuns run W r
+pub own-engines : EngineRuns run e
 unfolding opened controllerIs viewsIs table fits within allowed allAllowed
 own-engines zero t = engine-run run 0 fresh zero0 zeros refl zero-path tt (λ n x. refl)
 own-engines (suc zero) t = engine-run run 1 fresh one0 ones refl one-path tt (λ n x. refl)
@@ -227,24 +222,24 @@ own-run = tested run source (λ k t. omega (arith, follows-two k t)) tt tt (λ n
 
 -- ---- WHAT IS PROMISED OF THE ENGINE'S CALLS HOLDS OF IT
 
-pub own-promises : Promises (engineCalls run W r)
-own-promises = calls-keep own-run W r own-engines
+pub own-promises : Promises (engineCalls run e)
+own-promises = calls-keep own-run e own-engines
 
 -- and it says something: both engines answer that they deliver
 
-pub zero-delivers : EngineAnswers run W r 10 0 (delivered 7)
+pub zero-delivers : EngineAnswers run e 10 0 (delivered 7)
 unfolding answerIs
 zero-delivers = record { isTurn = refl; answers = refl }
 
-pub one-delivers : EngineAnswers run W r 12 1 (delivered 7)
+pub one-delivers : EngineAnswers run e 12 1 (delivered 7)
 unfolding answerIs
 one-delivers = record { isTurn = refl; answers = refl }
 
 -- what an engine prepared earlier, over the pool of 0, as the promise has it of the delivery over the pool of 1
-pub own-integrity : (i : ℕ) × (i < 12) × EngineAnswers run W r i 0 (signed prepared)
+pub own-integrity : (i : ℕ) × (i < 12) × EngineAnswers run e i 0 (signed prepared)
 own-integrity = own-promises .integrity 12 1 7 tt (tt, one-delivers)
 
 -- the acks have other numbers in the two pools
-pub own-numbers : (stmtAt (W 0 13) 1 ≡ acked 0) × (stmtAt (W 0 13) 2 ≡ acked 1) × (stmtAt (W 1 13) 1 ≡ acked 1) × (stmtAt (W 1 13) 2 ≡ acked 0)
+pub own-numbers : (stmtAt (e 0 13 .pool) 1 ≡ acked 0) × (stmtAt (e 0 13 .pool) 2 ≡ acked 1) × (stmtAt (e 1 13 .pool) 1 ≡ acked 1) × (stmtAt (e 1 13 .pool) 2 ≡ acked 0)
 unfolding opened fits
 own-numbers = (stmt-at poolZero tt 1 (omega arith), stmt-at poolZero tt 2 (omega arith), stmt-at poolOne tt 1 (omega arith), stmt-at poolOne tt 2 (omega arith))

@@ -12,12 +12,10 @@ use Rattle.protocol.specs.Pool.{hasRoom}
 use Rattle.protocol.specs.Run.{Call, setupCall, turnCall, call, Run, ring, event, statements}
 use Rattle.protocol.specs.Promises.{Observed}
 use Rattle.views.specs.View.{viewOf}
-use Rattle.pool.specs.Pool.{stmtAt, poolLen}
-use Rattle.engine.specs.declared.Controller.{Controller}
+use Rattle.pool.specs.Pool.{stmtAt, poolLen, recordIn}
 use Rattle.engine.specs.declared.Outcome.{Outcome}
-use Rattle.engine.specs.Meaning.{controllerIs, recordIs, poolIs, answerIs}
+use Rattle.engine.specs.Meaning.{controllerIs, poolIs, answerIs}
 use Rattle.engine.specs.Promise.{Called}
-use Rattle.host.specs.Memory.{controllerAt}
 use Rattle.host.specs.Host.{Fresh, CalledAt}
 
 -- The pool has all that it had, under the same numbers.
@@ -25,49 +23,60 @@ pub record Grows (W W′ : List ℕ) : Type 0 where
   pub more : poolLen W ≤ poolLen W′
   pub same : (n : ℕ) → n < poolLen W → stmtAt W′ n ≡ stmtAt W n
 
--- The engine was called so on c over the pool W, and returned r. Before the next event the pool is W′: the host may put statements into it after the call.
-pub record Calls (W : List ℕ) (c : Controller) (k : Call) (r : Outcome) (W′ : List ℕ) : Type 0 where
-  pub left : List ℕ
-  pub called : Called W c k r left
-  pub grows : Grows left W′
-
--- The calls on controller k. W n is its pool before event n, and r n what the last call of the engine on it returned before that.
-pub record EngineRun (run : Run) (k : ℕ) (W : ℕ → List ℕ) (r : ℕ → Outcome) : Type 0 where
-  -- "One taken setup starts every rule-follower": the first call, on a controller that is not set up, over any pool.
-  pub fresh : Controller
+-- What there is of one engine: the words of its pool, the numbers of its record, and what the last call on it returned.
+pub record Engine : Type 0 where
   pub pool : List ℕ
-  pub unset : controllerIs fresh ≡ notSetUp
-  pub started : Calls pool fresh (setupCall k (run .members) (run .sender)) (r 0) (W 0)
+  pub ids : List ℕ
+  pub last : Outcome
+
+-- A call took the engine from e to e′. After it the host may have put statements into the pool.
+pub record EngineCalls (e : Engine) (k : Call) (e′ : Engine) : Type 0 where
+  pub left : List ℕ
+  pub called : Called (e .pool) (e .ids) (e .last .controller) k (e′ .last) left (e′ .ids)
+  pub grows : Grows left (e′ .pool)
+
+-- No call took place: the pool alone may have grown.
+pub record EngineWaits (e e′ : Engine) : Type 0 where
+  pub last : e′ .last ≡ e .last
+  pub ids : e′ .ids ≡ e .ids
+  pub grows : Grows (e .pool) (e′ .pool)
+
+-- The calls on controller k, where e n is its engine before event n.
+pub record EngineRun (run : Run) (k : ℕ) (e : ℕ → Engine) : Type 0 where
+  -- "One taken setup starts every rule-follower": the first call, on a controller that is not set up, over any pool and record.
+  pub fresh : Engine
+  pub unset : controllerIs (fresh .last .controller) ≡ notSetUp
+  pub started : EngineCalls fresh (setupCall k (run .members) (run .sender)) (e 0)
   -- What the run says of the pool's room is asked at the calls on k alone: controllers may share a pool or have one each.
-  pub room : (n : ℕ) (c : Call) → event run n ≡ some (call k c) → run .room n ≡ hasRoom (poolIs (W n))
+  pub room : (n : ℕ) (c : Call) → event run n ≡ some (call k c) → run .room n ≡ hasRoom (poolIs (e n .pool))
   -- "Each call gets the controller and record that the last call on that rule-follower returned".
-  pub called : (n : ℕ) (c : Call) → event run n ≡ some (call k c) → Calls (W n) (r n .controller) c (r (suc n)) (W (suc n))
+  pub called : (n : ℕ) (c : Call) → event run n ≡ some (call k c) → EngineCalls (e n) c (e (suc n))
   -- "nobody else writes them meanwhile": another event may put statements into the pool.
-  pub others : (n : ℕ) → ((c : Call) → ¬ (event run n ≡ some (call k c))) → (r (suc n) ≡ r n) × Grows (W n) (W (suc n))
+  pub others : (n : ℕ) → ((c : Call) → ¬ (event run n ≡ some (call k c))) → EngineWaits (e n) (e (suc n))
 
 -- The calls on every rule-follower.
-abbrev pub EngineRuns : Run → (ℕ → ℕ → List ℕ) → (ℕ → ℕ → Outcome) → Type 0
-EngineRuns run W r = (k : ℕ) → T (run .follows k) → EngineRun run k (W k) (r k)
+abbrev pub EngineRuns : Run → (ℕ → ℕ → Engine) → Type 0
+EngineRuns run e = (k : ℕ) → T (run .follows k) → EngineRun run k (e k)
 
 -- Event n is a turn of controller k, and the engine answered a. A signed statement is answered by its number in the pool.
-pub record EngineAnswers (run : Run) (W : ℕ → ℕ → List ℕ) (r : ℕ → ℕ → Outcome) (n k : ℕ) (a : Answer) : Type 0 where
+pub record EngineAnswers (run : Run) (e : ℕ → ℕ → Engine) (n k : ℕ) (a : Answer) : Type 0 where
   pub isTurn : event run n ≡ some (call k turnCall)
-  pub answers : answerIs (W k (suc n)) (r k (suc n) .answer) ≡ a
+  pub answers : answerIs (e k (suc n) .pool) (e k (suc n) .last .answer) ≡ a
 
 -- The run as it is seen in what the engine answers and returns.
-abbrev pub engineCalls : Run → (ℕ → ℕ → List ℕ) → (ℕ → ℕ → Outcome) → Observed
-engineCalls run W r = record {
+abbrev pub engineCalls : Run → (ℕ → ℕ → Engine) → Observed
+engineCalls run e = record {
   follows = run .follows;
   ring = ring run;
   sender = run .sender;
   statements = statements run;
-  Answers = EngineAnswers run W r;
-  recordOf = λ k n. recordIs (W k n) (r k n .controller);
+  Answers = EngineAnswers run e;
+  recordOf = λ k n. recordIn (e k n .pool) (e k n .ids);
 }
 
 -- ---- a host's calls
 
--- What a host has of one controller: the words of its pool, the controller's words and numbers, and the answer and the value of the last call on it.
+-- What a host has of one controller: the words of its pool, the controller's words and the numbers of its record, and the answer and the value of the last call on it.
 pub record Host : Type 0 where
   pub pool : List ℕ
   pub fields : List ℕ
@@ -123,5 +132,5 @@ hostCalls run h = record {
   sender = run .sender;
   statements = statements run;
   Answers = HostAnswers run h;
-  recordOf = λ k n. recordIs (h k n .pool) (controllerAt (h k n .fields) (h k n .ids));
+  recordOf = λ k n. recordIn (h k n .pool) (h k n .ids);
 }

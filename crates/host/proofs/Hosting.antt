@@ -20,13 +20,14 @@ use Rattle.engine.specs.declared.Outcome.{Outcome}
 use Rattle.engine.specs.declared.Answer.{Answer}
 use Rattle.engine.specs.declared.Answer.the-variants.{Taken, Signed, Entered, Delivered, Left, Quiet, Refused}
 use Rattle.engine.specs.declared.Refusal.the-variants.{BadStatement, OutOfPlace}
-use Rattle.engine.specs.Meaning.{controllerIs, recordIs, poolIs, answerIs}
+use Rattle.pool.specs.Pool.{recordLen, recordIn}
+use Rattle.engine.specs.Meaning.{controllerIs, poolIs, answerIs}
 use Rattle.engine.specs.Promise.{Change, unchanged, Meets, Calls, Starts, IsRefused, addedOf}
 use Rattle.engine.proofs.Requests.{refused}
 use Rattle.host.specs.Statement.{IsStatement}
 use Rattle.host.proofs.Written.{not-read, is-statement}
 use Rattle.host.specs.Memory.{controllerAt}
-use Rattle.host.specs.Host.{answerNumber, valueNumber, Finished, Hosted, Fresh, SetUpOn, CallOn, TurnOn, AddOn, NoneOn, noStatement, AddsText}
+use Rattle.host.specs.Host.{answerNumber, valueNumber, Finished, Hosted, Fresh, SetUpOn, SetsUp, CallOn, TurnOn, TakesTurn, AddOn, NoneOn, noStatement, AddsText}
 
 -- ---- a refusal
 
@@ -51,56 +52,50 @@ is-six W Left t = absurd t
 is-six W Quiet t = absurd t
 is-six W (Refused r) t = refl
 
--- after it the controller is as it was
-pub as-before : {W : List ℕ} {c : Controller} {o : controller.Outcome} {p : Change} {r : Outcome} {W′ : List ℕ} → Meets W c o p r W′ → answerNumber (r .answer) ≡ 6 → r .controller ≡ c
-as-before {W} {c} {o} {p} {r} {W′} m e = m .refused (subst IsRefused (m .answer) (six W′ (r .answer) e)) .0
+-- after it controller and record are as they were
+pub as-before : {W R : List ℕ} {c : Controller} {o : controller.Outcome} {p : Change} {r : Outcome} {W′ R′ : List ℕ} → Meets W R c o p r W′ R′ → answerNumber (r .answer) ≡ 6 → (r .controller ≡ c) × (R′ ≡ R)
+as-before {W} {R} {c} {o} {p} {r} {W′} {R′} m e = let q = m .refused (subst IsRefused (m .answer) (six W′ (r .answer) e)) in (q .0, q .1)
 
 -- ---- the two ways in which a call ends
 
-module _ (o : Outcome) (F I : List ℕ) (v : ℕ) (n : ℕ) (e : n ≡ answerNumber (o .answer)) (q : v ≡ valueNumber (o .answer)) where
-  pub was-refused : n ≡ 6 → Finished o F I n F I (v ∷ [])
-  was-refused s = record { answered = e; valued = ap (λ x. x ∷ []) q; held = λ f. absurd (f s); refused = λ _. (refl, refl) }
+module _ (o : Outcome) (F : List ℕ) (v : ℕ) (n : ℕ) (e : n ≡ answerNumber (o .answer)) (q : v ≡ valueNumber (o .answer)) where
+  pub was-refused : n ≡ 6 → Finished o F n F (v ∷ [])
+  was-refused s = record { answered = e; valued = ap (λ x. x ∷ []) q; held = λ f. absurd (f s); refused = λ _. refl }
 
-  pub was-kept : (n ≡ 6 → ⊥) → (F′ I′ : List ℕ) → controllerAt F′ I′ ≡ o .controller → Finished o F I n F′ I′ (v ∷ [])
-  was-kept f F′ I′ h = record { answered = e; valued = ap (λ x. x ∷ []) q; held = λ _. h; refused = λ s. absurd (f s) }
+  pub was-kept : (n ≡ 6 → ⊥) → (F′ : List ℕ) → controllerAt F′ ≡ o .controller → Finished o F n F′ (v ∷ [])
+  was-kept f F′ h = record { answered = e; valued = ap (λ x. x ∷ []) q; held = λ _. h; refused = λ s. absurd (f s) }
 
 -- ---- the calls
 
--- what the engine promised of the loaded controller holds of the memory
-pub hosted : {o : Outcome} {F I : List ℕ} {n : ℕ} {F′ I′ value : List ℕ} (Met : Controller → Outcome → Type 0) (c : Controller) → c ≡ controllerAt F I → Met c o → (answerNumber (o .answer) ≡ 6 → o .controller ≡ c)
-    → Finished o F I n F′ I′ value → Hosted (Met (controllerAt F I)) F I n F′ I′ value
-hosted {o} {F} {I} {n} {F′} {I′} {value} Met c e m b f = record {
-  outcome = o;
-  met = subst (λ x. Met x o) e m;
-  answered = f .answered;
-  valued = f .valued;
-  held = elim (ℕ-discrete n 6) [
-    | yes s ↦ kept s (f .refused s)
-    | no s ↦ f .held s
-  ];
-  refused = f .refused;
-}
-  where
-    kept : n ≡ 6 → (F′ ≡ F) × (I′ ≡ I) → controllerAt F′ I′ ≡ o .controller
-    kept s h = ap (λ G. controllerAt G I′) (h .0) ∙ ap (controllerAt F) (h .1) ∙ sym e ∙ sym (b (sym (f .answered) ∙ s))
+module _ {o : Outcome} {F : List ℕ} {n : ℕ} {F′ value : List ℕ} (c : Controller) (e : c ≡ controllerAt F) (f : Finished o F n F′ value) where
+  -- what the engine promised of the loaded controller holds of the memory
+  pub hosted : (Met : Controller → Outcome → Type 0) (R R′ : List ℕ) → Met c o → (answerNumber (o .answer) ≡ 6 → (o .controller ≡ c) × (R′ ≡ R)) → Hosted (Met (controllerAt F)) F R n F′ R′ value
+  hosted Met R R′ m b = record {
+    outcome = o;
+    met = subst (λ x. Met x o) e m;
+    answered = f .answered;
+    valued = f .valued;
+    held = elim (ℕ-discrete n 6) [
+      | yes s ↦ ap controllerAt (f .refused s) ∙ sym e ∙ sym (b (sym (f .answered) ∙ s) .0)
+      | no s ↦ f .held s
+    ];
+    refused = λ s. (f .refused s, b (sym (f .answered) ∙ s) .1);
+  }
 
-pub setup-hosted : {o : Outcome} {F I : List ℕ} {n : ℕ} {F′ I′ value : List ℕ} (number members sender : ℕ) (c : Controller) → c ≡ controllerAt F I → SetUpOn number members sender c o
-    → Finished o F I n F′ I′ value → Hosted (SetUpOn number members sender (controllerAt F I)) F I n F′ I′ value
-unfolding Starts
-setup-hosted number members sender c e m h = hosted (SetUpOn number members sender) c e m (as-before (m [])) h
+  pub setup-hosted : {R R′ : List ℕ} (number members sender : ℕ) → SetUpOn number members sender R R′ c o → SetsUp F R number members sender n F′ R′ value
+  unfolding Starts
+  setup-hosted {R} {R′} number members sender m = hosted (SetUpOn number members sender R R′) R R′ m (as-before (m []))
 
--- the requests
-pub call-hosted : {o : Outcome} {F I : List ℕ} {n : ℕ} {F′ I′ value : List ℕ} (f : controller.Controller → List Stmt → controller.Outcome) (c : Controller) → c ≡ controllerAt F I → Calls (f (controllerIs c)) c o
-    → Finished o F I n F′ I′ value → Hosted (CallOn f (controllerAt F I)) F I n F′ I′ value
-unfolding Calls
-call-hosted f c e m h = hosted (CallOn f) c e m (as-before (m [])) h
+  -- the requests, which have no use for a record
+  pub call-hosted : (R : List ℕ) (g : controller.Controller → List Stmt → controller.Outcome) → Calls (g (controllerIs c)) c o → Hosted (CallOn g R R (controllerAt F)) F R n F′ R value
+  unfolding Calls
+  call-hosted R g m = hosted (CallOn g R R) R R (λ W. m W R) (as-before (m [] R))
 
-pub turn-hosted : {o : Outcome} {F I : List ℕ} {n : ℕ} {F′ I′ value : List ℕ} (W W′ : List ℕ) (c : Controller) → c ≡ controllerAt F I → TurnOn W W′ c o
-    → Finished o F I n F′ I′ value → Hosted (TurnOn W W′ (controllerAt F I)) F I n F′ I′ value
-turn-hosted W W′ c e m h = hosted (TurnOn W W′) c e m (as-before m) h
+  pub turn-hosted : {W R W′ R′ : List ℕ} → TurnOn W R W′ R′ c o → TakesTurn W W′ F R n F′ R′ value
+  turn-hosted {W} {R} {W′} {R′} m = hosted (TurnOn W R W′ R′) R R′ m (as-before m)
 
-pub fresh : (F I : List ℕ) (c : Controller) → (controllerIs c ≡ controller.notSetUp) × (c .statements .len ≡ 0) → controllerAt F I ≡ c → Fresh F I
-fresh F I c p e = record { controller = ap controllerIs e ∙ p .0; statements = ap (λ (x : Controller). x .statements .len) e ∙ p .1 }
+pub fresh : (F R : List ℕ) (c : Controller) → controllerIs c ≡ controller.notSetUp → controllerAt F ≡ c → recordLen R ≡ 0 → Fresh F R
+fresh F R c p e l = record { controller = ap controllerIs e ∙ p; statements = l }
 
 -- ---- an addition by text
 
@@ -132,17 +127,17 @@ none-before c p e = refused c OutOfPlace (p .0) (p .1) (λ X. none-unready c X e
 pub none-after : (c : Controller) {r : Outcome} → (r .answer ≡ Refused BadStatement) × (r .controller ≡ c) → c .ready ≡ true → Calls (noStatement (controllerIs c)) c r
 none-after c p e = refused c BadStatement (p .0) (p .1) (λ X. none-ready c X e)
 
-module _ (S : List ℕ) (r : ReadStatement) (p : ReadOf S r) {o : Outcome} {F I : List ℕ} {n : ℕ} {F′ I′ value : List ℕ} (W : List ℕ) (c : Controller) (e : c ≡ controllerAt F I) (h : Finished o F I n F′ I′ value) where
+module _ (S : List ℕ) (r : ReadStatement) (p : ReadOf S r) {o : Outcome} {F : List ℕ} {n : ℕ} {F′ value : List ℕ} (W R : List ℕ) (c : Controller) (e : c ≡ controllerAt F) (h : Finished o F n F′ value) where
   -- S is no text of a statement
-  pub unread-hosted : r .ok ≡ false → Calls (noStatement (controllerIs c)) c o → AddsText S W W F I n F′ I′ value
+  pub unread-hosted : r .ok ≡ false → Calls (noStatement (controllerIs c)) c o → AddsText S W W F R n F′ R value
   unfolding Calls
   unread-hosted k m = record {
     statement = λ s. absurd (not-read S r p k s);
-    none = λ f. hosted (NoneOn W W) c e (m W) (as-before (m W)) h;
+    none = λ f. hosted c e h (NoneOn W R W R) R R (m W R) (as-before (m W R));
   }
 
   -- S was read
-  module _ (W′ : List ℕ) (k : r .ok ≡ true) (m : AddOn W W′ (stmtOf (r .statement)) c o) where
+  module _ (W′ R′ : List ℕ) (k : r .ok ≡ true) (m : AddOn W R W′ R′ (stmtOf (r .statement)) c o) where
     same : (s : IsStatement S) → stmtOf (r .statement) ≡ s .statement
     same s = p .back (s .statement) (keeps-fits (s .statement) (s .rules)) (s .is) .1
 
@@ -150,13 +145,13 @@ module _ (S : List ℕ) (r : ReadStatement) (p : ReadOf S r) {o : Outcome} {F I 
     broken true q f = absurd (f (is-statement S r p k q))
     broken false q f = q
 
-    nothing-met : fieldRules 16 (stmtOf (r .statement)) ≡ false → NoneOn W W′ c o
+    nothing-met : fieldRules 16 (stmtOf (r .statement)) ≡ false → NoneOn W R W′ R′ c o
     nothing-met q =
-        subst (λ x. Meets W c (noStatement (controllerIs c) (recordIs W c)) x o W′) (nothing-added c (recordIs W c) (stmtOf (r .statement)))
-        (subst (λ z. Meets W c z (addedOf (z .answer) (stmtOf (r .statement))) o W′) (add-none c (recordIs W c) (hasRoom (poolIs W)) (stmtOf (r .statement)) q) m)
+        subst (λ x. Meets W R c (noStatement (controllerIs c) (recordIn W R)) x o W′ R′) (nothing-added c (recordIn W R) (stmtOf (r .statement)))
+        (subst (λ z. Meets W R c z (addedOf (z .answer) (stmtOf (r .statement))) o W′ R′) (add-none c (recordIn W R) (hasRoom (poolIs W)) (stmtOf (r .statement)) q) m)
 
-    pub add-hosted : AddsText S W W′ F I n F′ I′ value
+    pub add-hosted : AddsText S W W′ F R n F′ R′ value
     add-hosted = record {
-      statement = λ s. hosted (AddOn W W′ (s .statement)) c e (subst (λ x. AddOn W W′ x c o) (same s) m) (as-before m) h;
-      none = λ f. hosted (NoneOn W W′) c e (nothing-met (broken (fieldRules 16 (stmtOf (r .statement))) refl f)) (as-before m) h;
+      statement = λ s. hosted c e h (AddOn W R W′ R′ (s .statement)) R R′ (subst (λ x. AddOn W R W′ R′ x c o) (same s) m) (as-before m);
+      none = λ f. hosted c e h (NoneOn W R W′ R′) R R′ (nothing-met (broken (fieldRules 16 (stmtOf (r .statement))) refl f)) (as-before m);
     }

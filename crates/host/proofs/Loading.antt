@@ -19,18 +19,18 @@ use Rattle.statements.specs.Meaning.{bindingNumber}
 use Rattle.rules.specs.declared.Send.{Send}
 use Rattle.rules.specs.declared.Send.the-variants.{Nothing, Payload}
 use Rattle.engine.specs.declared.Controller.{Controller}
-use Rattle.host.specs.Memory.{noView, viewIn, wordOf, says, bindingIn, bindingPayload, sendIn, sendNumber, sendPayload, enteredIn, controllerAt, Worded}
+use Rattle.host.specs.Memory.{noView, heldIn, says, bindingIn, bindingPayload, sendIn, sendNumber, sendPayload, enteredIn, controllerAt, Worded}
 
 -- a view is its word's
-pub word-back : (v : View) (a b : ℕ) → a ≡ v .joined → a < 65536 → b ≡ v .left → b < 65536 → (a + b * 65536 ≡ wordOf v) × (viewIn (a + b * 65536) ≡ v)
-word-back v a b e k f l = (rw (e, f), same (a + b * 65536) (omega arith) (omega arith))
+pub word-back : (v : View) (a b : ℕ) → a ≡ v .joined → a < 4294967296 → b ≡ v .left → b < 4294967296 → heldIn (a + b * 4294967296) ≡ v
+word-back v a b e k f l = same (a + b * 4294967296) (omega arith) (omega arith)
   where
-    same : (w : ℕ) → w % 65536 ≡ v .joined → w / 65536 % 65536 ≡ v .left → viewIn w ≡ v
+    same : (w : ℕ) → w % 4294967296 ≡ v .joined → w / 4294967296 % 4294967296 ≡ v .left → heldIn w ≡ v
     same w p q i = record { joined = p i; left = q i }
 
 -- View i of the words from word 16 on.
 abbrev storedAt : List ℕ → ℕ → View
-storedAt W i = viewIn (getD W (16 + i) 0)
+storedAt W i = heldIn (getD W (16 + i) 0)
 
 -- ---- views that are loaded one after the other
 
@@ -44,7 +44,7 @@ pub load-first : (F : List ℕ) → Loads F (replicate 16 noView) 0
 unfolding table
 load-first F = record { small = omega arith; long = refl; are = refl }
 
-pub load-next : {F : List ℕ} {l : List View} {i : ℕ} (v : View) → Loads F l i → i < 16 → v ≡ viewIn (getD F (16 + i) 0) → Loads F (set l i v) (i + 1)
+pub load-next : {F : List ℕ} {l : List View} {i : ℕ} (v : View) → Loads F l i → i < 16 → v ≡ heldIn (getD F (16 + i) 0) → Loads F (set l i v) (i + 1)
 unfolding table
 load-next {F} {l} {i} v h m q = record {
   small = omega arith;
@@ -61,38 +61,40 @@ load-last {F} {l} {i} h m n e = ap₂ (λ (k : List View) (b : ℕ). record { vi
 
 -- ---- and stored
 
--- The first i views of l are those of the words F.
-pub record Stores (l : List View) (F : List ℕ) (i : ℕ) : Type 0 where
+-- The words F tell how many views h has, and its first i views.
+pub record Stores (h : History) (F : List ℕ) (i : ℕ) : Type 0 where
   pub small : i ≤ 16
   pub long : length F ≡ 32
-  pub are : table i (storedAt F) ≡ take i l
+  pub count : getD F 12 0 ≡ h .len
+  pub are : table i (storedAt F) ≡ take i (h .views)
 
-pub store-first : (l : List View) → Stores l (replicate 32 0) 0
+pub store-first : (h : History) → Stores h (set (replicate 32 0) 12 (h .len)) 0
 unfolding table
-store-first l = record { small = omega arith; long = refl; are = refl }
+store-first h = record { small = omega arith; long = refl; count = refl; are = refl }
 
-pub store-next : {l : List View} {F : List ℕ} {i : ℕ} (w : ℕ) → Stores l F i → length l ≡ 16 → i < 16 → viewIn w ≡ getD l i noView → Stores l (set F (16 + i) w) (i + 1)
+pub store-next : {h : History} {F : List ℕ} {i : ℕ} (w : ℕ) → Stores h F i → length (h .views) ≡ 16 → i < 16 → heldIn w ≡ getD (h .views) i noView → Stores h (set F (16 + i) w) (i + 1)
 unfolding table
-store-next {l} {F} {i} w s k h q = record {
+store-next {h} {F} {i} w s k m q = record {
   small = omega arith;
   long = length-set F (16 + i) w ∙ s .long;
+  count = getD-set-other F (16 + i) 12 w 0 (λ z. omega arith) ∙ s .count;
   are =
       rw add-one
       (ap₂ (λ t a. t ++ (a ∷ []))
-      (table-cong i (storedAt (set F (16 + i) w)) (storedAt F) (λ p o. ap viewIn (getD-set-other F (16 + i) (16 + p) w 0 (λ z. omega arith))) ∙ s .are)
-      (ap viewIn (getD-set-same F (16 + i) w 0 (omega (arith, s .long))) ∙ q)
-      ∙ sym (take-suc l i noView (omega arith)));
+      (table-cong i (storedAt (set F (16 + i) w)) (storedAt F) (λ p o. ap heldIn (getD-set-other F (16 + i) (16 + p) w 0 (λ z. omega arith))) ∙ s .are)
+      (ap heldIn (getD-set-same F (16 + i) w 0 (omega (arith, s .long))) ∙ q)
+      ∙ sym (take-suc (h .views) i noView (omega arith)));
 }
 
-pub store-last : {l : List View} {F : List ℕ} {i : ℕ} → Stores l F i → length l ≡ 16 → 16 ≤ i → Worded l F
-store-last {l} {F} {i} s k h = record { long = s .long; back = all i (omega arith) (s .are) ∙ take-all 16 l (omega arith) }
+pub store-last : {h : History} {F : List ℕ} {i : ℕ} → Stores h F i → length (h .views) ≡ 16 → 16 ≤ i → Worded h F
+store-last {h} {F} {i} s k m = record { long = s .long; count = s .count; back = all i (omega arith) (s .are) ∙ take-all 16 (h .views) (omega arith) }
   where
-    all : (j : ℕ) → j ≡ 16 → table j (storedAt F) ≡ take j l → table 16 (storedAt F) ≡ take 16 l
+    all : (j : ℕ) → j ≡ 16 → table j (storedAt F) ≡ take j (h .views) → table 16 (storedAt F) ≡ take 16 (h .views)
     all j e a = rw e at a
 
 -- ---- a controller
 
-pub loaded : (F I : List ℕ) {init : View} {entered : History} {binding : Binding} {sending : Send} → entered ≡ enteredIn F → init ≡ viewIn (getD F 2 0) → binding ≡ bindingIn (getD F 4 0) (getD F 5 0) → sending ≡ sendIn (getD F 9 0) (getD F 10 0)
+pub loaded : (F : List ℕ) {init : View} {entered : History} {binding : Binding} {sending : Send} → entered ≡ enteredIn F → init ≡ heldIn (getD F 2 0) → binding ≡ bindingIn (getD F 4 0) (getD F 5 0) → sending ≡ sendIn (getD F 9 0) (getD F 10 0)
     → record {
       ready = says (getD F 0 0);
       number = getD F 1 0 % 256;
@@ -104,10 +106,9 @@ pub loaded : (F I : List ℕ) {init : View} {entered : History} {binding : Bindi
       joining = says (getD F 7 0);
       leaving = says (getD F 8 0);
       sending = sending;
-      statements = record { ids = I; len = getD F 11 0 };
-    } ≡ controllerAt F I
+    } ≡ controllerAt F
 unfolding controllerAt
-loaded F I e v b s i = record {
+loaded F e v b s i = record {
   ready = says (getD F 0 0);
   number = getD F 1 0 % 256;
   init = v i;
@@ -118,7 +119,6 @@ loaded F I e v b s i = record {
   joining = says (getD F 7 0);
   leaving = says (getD F 8 0);
   sending = s i;
-  statements = record { ids = I; len = getD F 11 0 };
 }
 
 says-back : (b : Bool) → says (boolByte b) ≡ b
@@ -137,23 +137,27 @@ send-back (Payload m) = refl
 number-back : (k a : ℕ) → a ≡ k → a < 256 → a % 256 ≡ k
 number-back k a e l = omega arith
 
--- what lies after thirteen words
-after-thirteen : (xs F : List ℕ) (i : ℕ) → length xs ≡ 13 → getD (xs ++ drop 13 F) (16 + i) 0 ≡ getD F (16 + i) 0
-after-thirteen xs F i e =
-    ap (λ n. getD (xs ++ drop 13 F) n 0) (let q : 16 + i ≡ length xs + (3 + i) = omega arith in q) ∙ getD-append-add xs (drop 13 F) (3 + i) 0 ∙ getD-drop 13 F (3 + i) 0
-    ∙ ap (λ n. getD F n 0) (let q : 13 + (3 + i) ≡ 16 + i = omega arith in q)
+-- what lies after eleven words
+after-eleven : (xs F : List ℕ) (i : ℕ) → length xs ≡ 11 → getD (xs ++ drop 11 F) (11 + i) 0 ≡ getD F (11 + i) 0
+after-eleven xs F i e = ap (λ n. getD (xs ++ drop 11 F) (n + i) 0) (sym e) ∙ getD-append-add xs (drop 11 F) i 0 ∙ getD-drop 11 F i 0
 
 module _ (c : Controller) (F : List ℕ) (number init sender bound payload sends send : ℕ) where
   abbrev pub words : List ℕ
-  words = boolByte (c .ready) ∷ number ∷ init ∷ sender ∷ bound ∷ payload ∷ boolByte (c .delivered) ∷ boolByte (c .joining) ∷ boolByte (c .leaving) ∷ sends ∷ send ∷ c .statements .len ∷ c .entered .len ∷ []
+  words = boolByte (c .ready) ∷ number ∷ init ∷ sender ∷ bound ∷ payload ∷ boolByte (c .delivered) ∷ boolByte (c .joining) ∷ boolByte (c .leaving) ∷ sends ∷ send ∷ []
 
-  pub stored : Worded (c .entered .views) F → (number ≡ c .number) × (number < 256) → viewIn init ≡ c .init → (sender ≡ c .sender) × (sender < 256) → bound ≡ bindingNumber (c .binding) → payload ≡ bindingPayload (c .binding)
-      → sends ≡ sendNumber (c .sending) → send ≡ sendPayload (c .sending) → controllerAt (sets F 0 words) (c .statements .ids) ≡ c
+  pub stored : Worded (c .entered) F → (number ≡ c .number) × (number < 256) → heldIn init ≡ c .init → (sender ≡ c .sender) × (sender < 256) → bound ≡ bindingNumber (c .binding) → payload ≡ bindingPayload (c .binding)
+      → sends ≡ sendNumber (c .sending) → send ≡ sendPayload (c .sending) → controllerAt (sets F 0 words) ≡ c
   unfolding controllerAt enteredIn
-  stored w n v s b m d l = ap (λ G. controllerAt G (c .statements .ids)) (sets-eq words F 0 (omega (arith, w .long))) ∙ same
+  stored w n v s b m d l = ap controllerAt (sets-eq words F 0 (omega (arith, w .long))) ∙ same
     where
-      views : table 16 (λ i. viewIn (getD (words ++ drop 13 F) (16 + i) 0)) ≡ c .entered .views
-      views = table-cong 16 (λ i. viewIn (getD (words ++ drop 13 F) (16 + i) 0)) (storedAt F) (λ i o. ap viewIn (after-thirteen words F i refl)) ∙ w .back
+      view : (i : ℕ) → getD (words ++ drop 11 F) (16 + i) 0 ≡ getD F (16 + i) 0
+      view i = let q : 16 + i ≡ 11 + (5 + i) = omega arith in ap (λ n. getD (words ++ drop 11 F) n 0) q ∙ after-eleven words F (5 + i) refl ∙ ap (λ n. getD F n 0) (sym q)
+
+      views : table 16 (storedAt (words ++ drop 11 F)) ≡ c .entered .views
+      views = table-cong 16 (storedAt (words ++ drop 11 F)) (storedAt F) (λ i o. ap heldIn (view i)) ∙ w .back
+
+      count : getD (words ++ drop 11 F) 12 0 ≡ c .entered .len
+      count = after-eleven words F 1 refl ∙ w .count
 
       binding : bindingIn bound payload ≡ c .binding
       binding = ap₂ bindingIn b m ∙ binding-back (c .binding)
@@ -161,17 +165,16 @@ module _ (c : Controller) (F : List ℕ) (number init sender bound payload sends
       sending : sendIn sends send ≡ c .sending
       sending = ap₂ sendIn d l ∙ send-back (c .sending)
 
-      same : controllerAt (words ++ drop 13 F) (c .statements .ids) ≡ c
+      same : controllerAt (words ++ drop 11 F) ≡ c
       same i = record {
         ready = says-back (c .ready) i;
         number = number-back (c .number) number (n .0) (n .1) i;
         init = v i;
         sender = number-back (c .sender) sender (s .0) (s .1) i;
-        entered = record { views = views i; len = c .entered .len };
+        entered = record { views = views i; len = count i };
         binding = binding i;
         delivered = says-back (c .delivered) i;
         joining = says-back (c .joining) i;
         leaving = says-back (c .leaving) i;
         sending = sending i;
-        statements = c .statements;
       }

@@ -2,7 +2,7 @@
 -- Assumes nothing.
 use mathlib.Core.Path.{_≡_}
 use mathlib.Core.List.{List, [], _∷_}
-use Prim.Native.Nat.{ℕ, _+_, _*_}
+use Prim.Native.Nat.{ℕ}
 use Rattle.protocol.specs.Statement.{Stmt}
 use Rattle.protocol.specs.Controller as controller
 use Rattle.protocol.specs.Call as call
@@ -13,17 +13,18 @@ use Rattle.engine.specs.declared.Controller.{Controller}
 use Rattle.engine.specs.declared.Outcome.{Outcome}
 use Rattle.engine.specs.declared.Answer.{Answer}
 use Rattle.engine.specs.declared.Answer.the-variants.{Taken, Signed, Entered, Delivered, Left, Quiet, Refused}
-use Rattle.engine.specs.Meaning.{controllerIs, recordIs, poolIs, answerIs}
-use Rattle.engine.specs.Promise.{unchanged, Meets, Calls, Starts, Turns, Adds, Called}
+use Rattle.pool.specs.Pool.{wordOf, recordLen, recordIn}
+use Rattle.engine.specs.Meaning.{controllerIs, poolIs, answerIs}
+use Rattle.engine.specs.Promise.{unchanged, Meets, Starts, Turns, Adds, Called}
 use Rattle.host.specs.Statement.{IsStatement}
 use Rattle.host.specs.Memory.{controllerAt}
 
 -- ---- answers in numbers
 
--- A value in one word, a view as its joined set and 65536 times its left set.
+-- A value in one word, a view as its word in the pool: who joined, and 32 bits above who left.
 abbrev pub valueWord : controller.Value → ℕ
 valueWord (controller.number n) = n
-valueWord (controller.view v) = v .joined + v .left * 65536
+valueWord (controller.view v) = wordOf v
 
 -- The pool number of what was signed.
 abbrev pub signedNumber : Answer → ℕ
@@ -44,76 +45,76 @@ valueNumber a = valueWord (controller.answerValue (signedNumber a) (answerIs [] 
 
 -- ---- calls
 
--- The engine returned o on the controller of the words F and the numbers I: its answer and value were told, and the memory means its controller, or is as it was after a refusal.
-pub record Finished (o : Outcome) (F I : List ℕ) (answer : ℕ) (F′ I′ value : List ℕ) : Type 0 where
+-- The engine returned o on the controller of the words F: its answer and value were told, and the words mean its controller, or are as they were after a refusal.
+pub record Finished (o : Outcome) (F : List ℕ) (answer : ℕ) (F′ value : List ℕ) : Type 0 where
   pub answered : answer ≡ answerNumber (o .answer)
   pub valued : value ≡ valueNumber (o .answer) ∷ []
-  pub held : (answer ≡ 6 → ⊥) → controllerAt F′ I′ ≡ o .controller
-  pub refused : answer ≡ 6 → (F′ ≡ F) × (I′ ≡ I)
+  pub held : (answer ≡ 6 → ⊥) → controllerAt F′ ≡ o .controller
+  pub refused : answer ≡ 6 → F′ ≡ F
 
--- A call on the controller of F and I has the answer and the value, and leaves F′ and I′: they are those of an outcome that the engine's promise `Met` allows.
-pub record Hosted (Met : Outcome → Type 0) (F I : List ℕ) (answer : ℕ) (F′ I′ value : List ℕ) : Type 0 where
+-- A call on the controller of F with the record R has the answer and the value, and leaves F′ and R′: they are those of an outcome that the engine's promise `Met` allows.
+pub record Hosted (Met : Outcome → Type 0) (F R : List ℕ) (answer : ℕ) (F′ R′ value : List ℕ) : Type 0 where
   pub outcome : Outcome
   pub met : Met outcome
   pub answered : answer ≡ answerNumber (outcome .answer)
   pub valued : value ≡ valueNumber (outcome .answer) ∷ []
-  pub held : controllerAt F′ I′ ≡ outcome .controller
+  pub held : controllerAt F′ ≡ outcome .controller
   -- "as before", to the last word.
-  pub refused : answer ≡ 6 → (F′ ≡ F) × (I′ ≡ I)
+  pub refused : answer ≡ 6 → (F′ ≡ F) × (R′ ≡ R)
 
--- The memory means a controller before setup.
-pub record Fresh (F I : List ℕ) : Type 0 where
-  pub controller : controllerIs (controllerAt F I) ≡ controller.notSetUp
-  pub statements : controllerAt F I .statements .len ≡ 0
+-- The memory means a controller before setup, with an empty record.
+pub record Fresh (F R : List ℕ) : Type 0 where
+  pub controller : controllerIs (controllerAt F) ≡ controller.notSetUp
+  pub statements : recordLen R ≡ 0
 
-abbrev pub SetUpOn : ℕ → ℕ → ℕ → Controller → Outcome → Type 0
-SetUpOn number members sender c = Starts (λ X. call.setup (controllerIs c) X number members sender) c
+abbrev pub SetUpOn : ℕ → ℕ → ℕ → List ℕ → List ℕ → Controller → Outcome → Type 0
+SetUpOn number members sender R R′ c r = Starts (λ X. call.setup (controllerIs c) X number members sender) R c r R′
 
 abbrev pub SetsUp : List ℕ → List ℕ → ℕ → ℕ → ℕ → ℕ → List ℕ → List ℕ → List ℕ → Type 0
-SetsUp F I number members sender = Hosted (SetUpOn number members sender (controllerAt F I)) F I
+SetsUp F R number members sender answer F′ R′ = Hosted (SetUpOn number members sender R R′ (controllerAt F)) F R answer F′ R′
 
--- The requests: f is what the protocol says of the controller and its record.
-abbrev pub CallOn : (controller.Controller → List Stmt → controller.Outcome) → Controller → Outcome → Type 0
-CallOn f c = Calls (f (controllerIs c)) c
+-- The requests, over any pool: f is what the protocol says of the controller and its record.
+abbrev pub CallOn : (controller.Controller → List Stmt → controller.Outcome) → List ℕ → List ℕ → Controller → Outcome → Type 0
+CallOn f R R′ c r = (W : List ℕ) → Meets W R c (f (controllerIs c) (recordIn W R)) unchanged r W R′
 
 abbrev pub Joins : List ℕ → List ℕ → ℕ → List ℕ → List ℕ → List ℕ → Type 0
-Joins F I = Hosted (CallOn call.requestJoin (controllerAt F I)) F I
+Joins F R answer F′ R′ = Hosted (CallOn call.requestJoin R R′ (controllerAt F)) F R answer F′ R′
 
 abbrev pub Leaves : List ℕ → List ℕ → ℕ → List ℕ → List ℕ → List ℕ → Type 0
-Leaves F I = Hosted (CallOn call.requestLeave (controllerAt F I)) F I
+Leaves F R answer F′ R′ = Hosted (CallOn call.requestLeave R R′ (controllerAt F)) F R answer F′ R′
 
 abbrev pub Sends : List ℕ → List ℕ → ℕ → ℕ → List ℕ → List ℕ → List ℕ → Type 0
-Sends F I payload = Hosted (CallOn (λ d X. call.requestSend d X payload) (controllerAt F I)) F I
+Sends F R payload answer F′ R′ = Hosted (CallOn (λ d X. call.requestSend d X payload) R R′ (controllerAt F)) F R answer F′ R′
 
--- A turn over the pool W, which leaves the pool W′.
-abbrev pub TurnOn : List ℕ → List ℕ → Controller → Outcome → Type 0
-TurnOn W W′ c r = Turns W c (turn (controllerIs c) (recordIs W c) (hasRoom (poolIs W))) r W′
+-- A turn over the pool W and the record R, which leaves W′ and R′.
+abbrev pub TurnOn : List ℕ → List ℕ → List ℕ → List ℕ → Controller → Outcome → Type 0
+TurnOn W R W′ R′ c r = Turns W R c (turn (controllerIs c) (recordIn W R) (hasRoom (poolIs W))) r W′ R′
 
 abbrev pub TakesTurn : List ℕ → List ℕ → List ℕ → List ℕ → ℕ → List ℕ → List ℕ → List ℕ → Type 0
-TakesTurn W W′ F I = Hosted (TurnOn W W′ (controllerAt F I)) F I
+TakesTurn W W′ F R answer F′ R′ = Hosted (TurnOn W R W′ R′ (controllerAt F)) F R answer F′ R′
 
 -- An addition of s.
-abbrev pub AddOn : List ℕ → List ℕ → Stmt → Controller → Outcome → Type 0
-AddOn W W′ s c r = Adds W c s (call.add (controllerIs c) (recordIs W c) (hasRoom (poolIs W)) s) r W′
+abbrev pub AddOn : List ℕ → List ℕ → List ℕ → List ℕ → Stmt → Controller → Outcome → Type 0
+AddOn W R W′ R′ s c r = Adds W R c s (call.add (controllerIs c) (recordIn W R) (hasRoom (poolIs W)) s) r W′ R′
 
 -- An addition of what is no statement: before setup 8, else 2.
 unfoldable pub noStatement : controller.Controller → List Stmt → controller.Outcome
 noStatement d X = call.afterSetup d X (call.refuse d X controller.badStatement)
 
-abbrev pub NoneOn : List ℕ → List ℕ → Controller → Outcome → Type 0
-NoneOn W W′ c r = Meets W c (noStatement (controllerIs c) (recordIs W c)) unchanged r W′
+abbrev pub NoneOn : List ℕ → List ℕ → List ℕ → List ℕ → Controller → Outcome → Type 0
+NoneOn W R W′ R′ c r = Meets W R c (noStatement (controllerIs c) (recordIn W R)) unchanged r W′ R′
 
 -- An addition by the text S: of the statement whose text it is, if that keeps the field rules.
-pub record AddsText (S W W′ F I : List ℕ) (answer : ℕ) (F′ I′ value : List ℕ) : Type 0 where
-  pub statement : (s : IsStatement S) → Hosted (AddOn W W′ (s .statement) (controllerAt F I)) F I answer F′ I′ value
-  pub none : (IsStatement S → ⊥) → Hosted (NoneOn W W′ (controllerAt F I)) F I answer F′ I′ value
+pub record AddsText (S W W′ F R : List ℕ) (answer : ℕ) (F′ R′ value : List ℕ) : Type 0 where
+  pub statement : (s : IsStatement S) → Hosted (AddOn W R W′ R′ (s .statement) (controllerAt F)) F R answer F′ R′ value
+  pub none : (IsStatement S → ⊥) → Hosted (NoneOn W R W′ R′ (controllerAt F)) F R answer F′ R′ value
 
 -- ---- calls of a run
 
--- The call k of a run took place over the pool W, on the controller of F and I: the host got the answer and the value, and W′, F′ and I′ are what was left.
+-- The call k of a run took place over the pool W, on the controller of F with the record R: the host got the answer and the value, and W′, F′ and R′ are what was left.
 -- With this a host's calls make up a `HostRun` of crates/guarantee/specs/Calls.antt.
-pub record CalledAt (W F I : List ℕ) (k : Call) (answer : ℕ) (value W′ F′ I′ : List ℕ) : Type 0 where
+pub record CalledAt (W F R : List ℕ) (k : Call) (answer : ℕ) (value W′ F′ R′ : List ℕ) : Type 0 where
   pub told : Answer
   pub answered : answer ≡ answerNumber told
   pub valued : value ≡ valueNumber told ∷ []
-  pub called : Called W (controllerAt F I) k (record { answer = told; controller = controllerAt F′ I′ }) W′
+  pub called : Called W R (controllerAt F) k (record { answer = told; controller = controllerAt F′ }) W′ R′

@@ -1,13 +1,13 @@
--- What the memory of a controller means. It is 32 words, and the 512 pool numbers of the controller's record.
+-- What the memory of a controller means. It is 32 words; the controller's record is lent beside them, as crates/pool/specs/Pool.antt has it.
 -- Word 0 says whether it is set up, 1 is its number, 2 its initial view, 3 the sender, 4 its binding (0 unbound, 1 bound, else barred) and 5 the bound payload, 6 to 9
--- whether it delivered, whether join, leave and send were requested, 10 is the payload to send, 11 the length of its record and 12 how many views it entered; words
--- 16 to 31 are those views; the others mean nothing.
+-- whether it delivered, whether join, leave and send were requested, 10 is the payload to send and 12 how many views it entered; words 16 to 31 are those views; the
+-- others mean nothing.
 -- Every memory means some controller: each word is read as the value that it can stand for, and nothing has to hold of it.
 -- Assumes nothing.
 use mathlib.Core.Path.{_≡_}
 use mathlib.Core.Bool.{Bool, not}
 use mathlib.Core.List.{List}
-use Prim.Native.Nat.{ℕ, _+_, _*_, _/_, _%_}
+use Prim.Native.Nat.{ℕ, _+_, _/_, _%_}
 use lib.Dec.{eqb}
 use lib.ListN.{getD, length}
 use Rattle.protocol.specs.Lists.{if_then_else_}
@@ -23,13 +23,9 @@ use Rattle.engine.specs.declared.Controller.{Controller}
 abbrev pub noView : View
 noView = record { joined = 0; left = 0 }
 
--- The view of a word: 16 bits of who joined, and above them 16 of who left.
-abbrev pub viewIn : ℕ → View
-viewIn w = record { joined = w % 65536; left = w / 65536 % 65536 }
-
--- The word of a view.
-abbrev pub wordOf : View → ℕ
-wordOf v = v .joined + v .left * 65536
+-- The view that a word holds: 32 bits of who joined, and above them 32 of who left. Of each the lowest 16 stand for controllers (`viewIs` of crates/views/specs/Held.antt).
+abbrev pub heldIn : ℕ → View
+heldIn w = record { joined = w % 4294967296; left = w / 4294967296 % 4294967296 }
 
 -- Any word but 0 says yes.
 abbrev pub says : ℕ → Bool
@@ -43,14 +39,14 @@ sendIn n m = if eqb n 0 then Nothing else Payload m
 
 -- The views that were entered.
 unfoldable pub enteredIn : List ℕ → History
-enteredIn F = record { views = table 16 (λ i. viewIn (getD F (16 + i) 0)); len = getD F 12 0 }
+enteredIn F = record { views = table 16 (λ i. heldIn (getD F (16 + i) 0)); len = getD F 12 0 }
 
--- The controller that the words F and the numbers I mean.
-unfoldable pub controllerAt : List ℕ → List ℕ → Controller
-controllerAt F I = record {
+-- The controller that the words F mean.
+unfoldable pub controllerAt : List ℕ → Controller
+controllerAt F = record {
   ready = says (getD F 0 0);
   number = getD F 1 0 % 256;
-  init = viewIn (getD F 2 0);
+  init = heldIn (getD F 2 0);
   sender = getD F 3 0 % 256;
   entered = enteredIn F;
   binding = bindingIn (getD F 4 0) (getD F 5 0);
@@ -58,7 +54,6 @@ controllerAt F I = record {
   joining = says (getD F 7 0);
   leaving = says (getD F 8 0);
   sending = sendIn (getD F 9 0) (getD F 10 0);
-  statements = record { ids = I; len = getD F 11 0 };
 }
 
 -- ---- what is stored
@@ -76,7 +71,8 @@ abbrev pub sendPayload : Send → ℕ
 sendPayload Nothing = 0
 sendPayload (Payload m) = m
 
--- r has the words of sixteen views, from word 16 on.
-pub record Worded (views : List View) (r : List ℕ) : Type 0 where
+-- r has the words of the views that were entered.
+pub record Worded (h : History) (r : List ℕ) : Type 0 where
   pub long : length r ≡ 32
-  pub back : table 16 (λ i. viewIn (getD r (16 + i) 0)) ≡ views
+  pub count : getD r 12 0 ≡ h .len
+  pub back : table 16 (λ i. heldIn (getD r (16 + i) 0)) ≡ h .views

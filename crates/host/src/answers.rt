@@ -43,7 +43,7 @@ fn value_number(a: Answer) -> u64
     match a {
         Answer::Taken => 0,
         Answer::Signed(n) => n as u64,
-        Answer::Entered(v) => held::word_of(v),
+        Answer::Entered(v) => v.word(),
         Answer::Delivered(m) => m,
         Answer::Left => 0,
         Answer::Quiet => 0,
@@ -52,8 +52,8 @@ fn value_number(a: Answer) -> u64
 }
 
 // Tells the answer of o, and keeps its controller; a refusal leaves the memory as it was.
-pub fn finish(fields: &mut [u64; 32], ids: &mut [u16; 512], o: Outcome, value: &mut [u64; 1]) -> u8
-    ensures { λ r. ⌜ Finished o (now (fields .entry)) (now (ids .entry)) r (now (fields .exit)) (now (ids .exit)) (now (value .exit)) ⌝ }
+pub fn finish(fields: &mut [u64; 32], o: Outcome, value: &mut [u64; 1]) -> u8
+    ensures { λ r. ⌜ Finished o (now (fields .entry)) r (now (fields .exit)) (now (value .exit)) ⌝ }
 {
     let a = o.answer;
     let told = [value_number(a)];
@@ -63,6 +63,6 @@ pub fn finish(fields: &mut [u64; 32], ids: &mut [u16; 512], o: Outcome, value: &
         return n;
     }
     let c = o.controller;
-    held::store(fields, ids, c);
+    held::store(fields, c);
     n
 }

@@ -2,20 +2,19 @@
 ghost use mathlib.Core.Path.{_≡_};
 ghost use Prim.Native.Nat.{_<_};
 ghost use Rattle.statements.specs.Meaning.{bindingNumber};
-ghost use Rattle.host.specs.Memory.{viewIn, wordOf, bindingIn, bindingPayload, sendIn, sendNumber, sendPayload, enteredIn, controllerAt, Worded};
+ghost use Rattle.host.specs.Memory.{heldIn, bindingIn, bindingPayload, sendIn, sendNumber, sendPayload, enteredIn, controllerAt, Worded};
 use engine::Controller;
-use pool::Record;
 use rules::Send;
 use statements::Binding;
 use views::History;
 use views::View;
 
 fn view_in(w: u64) -> View
-    ensures { λ r. ⌜ r ≡ viewIn w ⌝ }
+    ensures { λ r. ⌜ r ≡ heldIn w ⌝ }
 {
     View {
-        joined: (w % 65536) as u16,
-        left: (w / 65536 % 65536) as u16,
+        joined: (w % 4294967296) as u32,
+        left: (w / 4294967296 % 4294967296) as u32,
     }
 }
 
@@ -58,15 +57,10 @@ fn entered_in(fields: &[u64; 32]) -> History
 }
 
 // The controller that the memory means.
-pub fn load(fields: &[u64; 32], ids: &[u16; 512]) -> Controller
-    ensures { λ r. ⌜ r ≡ controllerAt (now (fields .entry)) (now (ids .entry)) ⌝ }
+pub fn load(fields: &[u64; 32]) -> Controller
+    ensures { λ r. ⌜ r ≡ controllerAt (now (fields .entry)) ⌝ }
 {
     let entered = entered_in(fields);
-    let numbers = *ids;
-    let statements = Record {
-        ids: numbers,
-        len: fields[11] as usize,
-    };
     Controller {
         ready: fields[0] != 0,
         number: (fields[1] % 256) as u8,
@@ -78,13 +72,12 @@ pub fn load(fields: &[u64; 32], ids: &[u16; 512]) -> Controller
         joining: fields[7] != 0,
         leaving: fields[8] != 0,
         sending: send_in(fields[9], fields[10]),
-        statements: statements,
     }
 }
 
 // A set as a word: it brings the range of its type.
-fn wide(set: u16) -> u64
-    ensures { λ r. ⌜ (r ≡ set) × (r < 65536) ⌝ }
+fn wide(set: u32) -> u64
+    ensures { λ r. ⌜ (r ≡ set) × (r < 4294967296) ⌝ }
 {
     set as u64
 }
@@ -96,18 +89,20 @@ fn wide_number(k: u8) -> u64
     k as u64
 }
 
-// The word of a view.
-pub fn word_of(v: View) -> u64
-    ensures { λ r. ⌜ (r ≡ wordOf v) × (viewIn r ≡ v) ⌝ }
+// The word that holds v, whatever its bits.
+fn word_of(v: View) -> u64
+    ensures { λ r. ⌜ heldIn r ≡ v ⌝ }
 {
-    wide(v.joined) + wide(v.left) * 65536
+    wide(v.joined) + wide(v.left) * 4294967296
 }
 
-// The words of the views that were entered, from word 16 on.
-fn words_of(views: [View; View::LIMIT]) -> [u64; 32]
-    ensures { λ r. ⌜ Worded views r ⌝ }
+// The words of the views that were entered: how many in word 12, and those from word 16 on.
+fn words_of(entered: History) -> [u64; 32]
+    ensures { λ r. ⌜ Worded entered r ⌝ }
 {
+    let views = entered.views;
     let mut words = [0u64; 32];
+    words[12] = entered.len as u64;
     let mut i = 0usize;
     while i < View::LIMIT {
         let v = views[i];
@@ -155,17 +150,15 @@ fn send_payload(s: Send) -> u64
     }
 }
 
-// The words that mean c, beside the numbers of its record.
+// The words that mean c.
 fn fields_of(c: Controller) -> [u64; 32]
-    ensures { λ r. ⌜ controllerAt r (c .statements .ids) ≡ c ⌝ }
+    ensures { λ r. ⌜ controllerAt r ≡ c ⌝ }
 {
     let init = c.init;
     let entered = c.entered;
-    let views = entered.views;
     let binding = c.binding;
     let sending = c.sending;
-    let statements = c.statements;
-    let mut words = words_of(views);
+    let mut words = words_of(entered);
     words[0] = c.ready as u64;
     words[1] = wide_number(c.number);
     words[2] = word_of(init);
@@ -177,18 +170,13 @@ fn fields_of(c: Controller) -> [u64; 32]
     words[8] = c.leaving as u64;
     words[9] = send_number(sending);
     words[10] = send_payload(sending);
-    words[11] = statements.len as u64;
-    words[12] = entered.len as u64;
     words
 }
 
 // The memory means c from now on.
-pub fn store(fields: &mut [u64; 32], ids: &mut [u16; 512], c: Controller)
-    ensures { λ _. ⌜ controllerAt (now (fields .exit)) (now (ids .exit)) ≡ c ⌝ }
+pub fn store(fields: &mut [u64; 32], c: Controller)
+    ensures { λ _. ⌜ controllerAt (now (fields .exit)) ≡ c ⌝ }
 {
-    let statements = c.statements;
-    let numbers = statements.ids;
     let words = fields_of(c);
     *fields = words;
-    *ids = numbers;
 }

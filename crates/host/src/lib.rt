@@ -1,4 +1,4 @@
-// A controller in memory that a host lends: read before a call, written after it, and the answer told in numbers.
+// A controller in memory that a host lends: read before a call, written after it, and the answer told in numbers. Its record is lent to the call itself.
 mod answers;
 mod held;
 

@@ -6,9 +6,10 @@ use Rattle.protocol.specs.Pool.{hasRoom}
 use Rattle.protocol.specs.Turn.{turn as turnOf}
 use Rattle.engine.specs.declared.Controller.{Controller}
 use Rattle.engine.specs.declared.Answer.{Answer}
-use Rattle.engine.specs.Meaning.{controllerIs, recordIs, poolIs}
+use Rattle.pool.specs.Pool.{recordIn}
+use Rattle.engine.specs.Meaning.{controllerIs, poolIs}
 use Rattle.engine.specs.Promise.{Turns}
 
--- A turn of c over the pool W answered a and left d and W′.
-abbrev pub TurnedTo : List ℕ → Controller → Answer → Controller → List ℕ → Type 0
-TurnedTo W c a d W′ = Turns W c (turnOf (controllerIs c) (recordIs W c) (hasRoom (poolIs W))) (record { answer = a; controller = d }) W′
+-- A turn of c over the pool W and the record R answered a and left d, W′ and R′.
+abbrev pub TurnedTo : List ℕ → List ℕ → Controller → Answer → Controller → List ℕ → List ℕ → Type 0
+TurnedTo W R c a d W′ R′ = Turns W R c (turnOf (controllerIs c) (recordIn W R) (hasRoom (poolIs W))) (record { answer = a; controller = d }) W′ R′

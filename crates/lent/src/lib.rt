@@ -4,22 +4,23 @@ use engine::Answer;
 use engine::Controller;
 use engine::Outcome;
 use pool::POOL_WORDS;
+use pool::RECORD;
 
 // The turn goes by value; what it leaves is stored where the controller was.
-fn turn_one(c: &mut Controller, words: &mut [u64; POOL_WORDS]) -> Answer
-    ensures { λ a. ⌜ TurnedTo (now (words .entry)) (now (c .entry)) a (now (c .exit)) (now (words .exit)) ⌝ }
+fn turn_one(c: &mut Controller, ids: &mut [u16; RECORD], words: &mut [u64; POOL_WORDS]) -> Answer
+    ensures { λ a. ⌜ TurnedTo (now (words .entry)) (now (ids .entry)) (now (c .entry)) a (now (c .exit)) (now (words .exit)) (now (ids .exit)) ⌝ }
 {
-    let t = Controller::turn(*c, words);
+    let t = Controller::turn(*c, ids, words);
     *c = t.controller;
     t.answer
 }
 
 // The reference is made here, to a local, so that every caller has the controller by value.
-pub fn lend_turn(c: Controller, words: &mut [u64; POOL_WORDS]) -> Outcome
-    ensures { λ r. ⌜ TurnedTo (now (words .entry)) c (r .answer) (r .controller) (now (words .exit)) ⌝ }
+pub fn lend_turn(c: Controller, ids: &mut [u16; RECORD], words: &mut [u64; POOL_WORDS]) -> Outcome
+    ensures { λ r. ⌜ TurnedTo (now (words .entry)) (now (ids .entry)) c (r .answer) (r .controller) (now (words .exit)) (now (ids .exit)) ⌝ }
 {
     let mut own = c;
-    let a = turn_one(&mut own, words);
+    let a = turn_one(&mut own, ids, words);
     Outcome {
         answer: a,
         controller: own,

@@ -14,11 +14,12 @@ use Rattle.protocol.specs.Pool.{hasRoom}
 use Rattle.protocol.specs.Run as run
 use Rattle.engine.specs.declared.Controller.{Controller}
 use Rattle.engine.specs.declared.Outcome.{Outcome}
-use Rattle.engine.specs.Meaning.{controllerIs, recordIs, poolIs}
-use Rattle.engine.specs.Promise.{Calls, Starts, IsRefused, changeOf, Called}
+use Rattle.engine.specs.Meaning.{controllerIs}
+use Rattle.engine.specs.Promise.{Starts, IsRefused, changeOf, Called}
 use Rattle.host.specs.Statement.{IsStatement}
+use Rattle.pool.specs.Pool.{recordIn}
 use Rattle.host.specs.Memory.{controllerAt}
-use Rattle.host.specs.Host.{Hosted, CallOn, SetsUp, Joins, Leaves, Sends, TakesTurn, AddsText, noStatement, CalledAt}
+use Rattle.host.specs.Host.{Hosted, SetsUp, Joins, Leaves, Sends, TakesTurn, AddsText, noStatement, CalledAt}
 use Rattle.host.proofs.Hosting.{is-six}
 
 barred : (c : Controller) (X : List Stmt) → IsRefused (noStatement (controllerIs c) X .answer)
@@ -29,46 +30,46 @@ barred c X = go (c .ready)
     go true = tt
     go false = tt
 
-module _ {F I F′ I′ : List ℕ} {n : ℕ} {value : List ℕ} where
+module _ {F R F′ R′ : List ℕ} {n : ℕ} {value : List ℕ} where
   -- the engine's controller is the memory's
-  at-memory : {W W′ : List ℕ} {k : run.Call} {Met : Outcome → Type 0} (h : Hosted Met F I n F′ I′ value) → Called W (controllerAt F I) k (h .outcome) W′ → CalledAt W F I k n value W′ F′ I′
+  at-memory : {W W′ : List ℕ} {k : run.Call} {Met : Outcome → Type 0} (h : Hosted Met F R n F′ R′ value) → Called W R (controllerAt F) k (h .outcome) W′ R′ → CalledAt W F R k n value W′ F′ R′
   at-memory {W} {W′} {k} h c = record {
     told = h .outcome .answer;
     answered = h .answered;
     valued = h .valued;
-    called = subst (λ x. Called W (controllerAt F I) k (record { answer = h .outcome .answer; controller = x }) W′) (sym (h .held)) c;
+    called = subst (λ x. Called W R (controllerAt F) k (record { answer = h .outcome .answer; controller = x }) W′ R′) (sym (h .held)) c;
   }
 
-  pub setup-called : (number members sender : ℕ) → SetsUp F I number members sender n F′ I′ value → (W : List ℕ) → CalledAt W F I (run.setupCall number members sender) n value W F′ I′
+  pub setup-called : (number members sender : ℕ) → SetsUp F R number members sender n F′ R′ value → (W : List ℕ) → CalledAt W F R (run.setupCall number members sender) n value W F′ R′
   unfolding run.outcome changeOf Starts
   setup-called number members sender h W = at-memory h (h .met W)
 
-  pub join-called : Joins F I n F′ I′ value → (W : List ℕ) → CalledAt W F I run.joinCall n value W F′ I′
-  unfolding run.outcome changeOf Calls
+  pub join-called : Joins F R n F′ R′ value → (W : List ℕ) → CalledAt W F R run.joinCall n value W F′ R′
+  unfolding run.outcome changeOf
   join-called h W = at-memory h (h .met W)
 
-  pub leave-called : Leaves F I n F′ I′ value → (W : List ℕ) → CalledAt W F I run.leaveCall n value W F′ I′
-  unfolding run.outcome changeOf Calls
+  pub leave-called : Leaves F R n F′ R′ value → (W : List ℕ) → CalledAt W F R run.leaveCall n value W F′ R′
+  unfolding run.outcome changeOf
   leave-called h W = at-memory h (h .met W)
 
-  pub send-called : (payload : ℕ) → Sends F I payload n F′ I′ value → (W : List ℕ) → CalledAt W F I (run.sendCall payload) n value W F′ I′
-  unfolding run.outcome changeOf Calls
+  pub send-called : (payload : ℕ) → Sends F R payload n F′ R′ value → (W : List ℕ) → CalledAt W F R (run.sendCall payload) n value W F′ R′
+  unfolding run.outcome changeOf
   send-called payload h W = at-memory h (h .met W)
 
   module _ {W W′ : List ℕ} where
-    pub turn-called : TakesTurn W W′ F I n F′ I′ value → CalledAt W F I run.turnCall n value W′ F′ I′
+    pub turn-called : TakesTurn W W′ F R n F′ R′ value → CalledAt W F R run.turnCall n value W′ F′ R′
     unfolding run.outcome changeOf
     turn-called h = at-memory h (h .met)
 
     module _ {S : List ℕ} where
-      pub add-called : AddsText S W W′ F I n F′ I′ value → (s : IsStatement S) → CalledAt W F I (run.addCall (s .statement)) n value W′ F′ I′
+      pub add-called : AddsText S W W′ F R n F′ R′ value → (s : IsStatement S) → CalledAt W F R (run.addCall (s .statement)) n value W′ F′ R′
       unfolding run.outcome changeOf
       add-called a s = let h = a .statement s in at-memory h (h .met)
 
       -- a text that is no statement is refused, and all is as before
-      pub unread-nothing : AddsText S W W′ F I n F′ I′ value → (IsStatement S → ⊥) → (F′ ≡ F) × (I′ ≡ I) × (W′ ≡ W)
+      pub unread-nothing : AddsText S W W′ F R n F′ R′ value → (IsStatement S → ⊥) → (F′ ≡ F) × (R′ ≡ R) × (W′ ≡ W)
       unread-nothing a f =
           let h = a .none f in
-          let t = barred (controllerAt F I) (recordIs W (controllerAt F I)) in
+          let t = barred (controllerAt F) (recordIn W R) in
           let (p, q) = h .refused (h .answered ∙ is-six W′ (h .outcome .answer) (subst IsRefused (sym (h .met .answer)) t)) in
-          (p, q, h .met .refused t .1)
+          (p, q, h .met .refused t .2)

@@ -1,12 +1,12 @@
 -- Statements that go into a pool and come out of it by their text.
 -- Assumes nothing.
-use Prim.Native.Nat.{ℕ, _≤_, _<_, min}
+use Prim.Native.Nat.{ℕ, _≤_, _<_}
 use native.Mathlib.Omega.{arith}
 use mathlib.Core.Path.{_≡_, refl, ap, ap₂, _∙_}
 use mathlib.Core.Bool.{true, cond}
 use mathlib.Core.List.{List}
-use lib.ListN.{length, set}
-use lib.Seq.{sets, getD-set-same}
+use lib.ListN.{length}
+use lib.Seq.{sets}
 use borrow.Author.Tests.{lt-ltb, le-ltb, le-leb}
 use Rattle.protocol.specs.Statement.{Stmt, fieldRules}
 use Rattle.views.specs.Table.{table}
@@ -19,10 +19,10 @@ use Rattle.statements.specs.Promise.{ReadOf, hasRoom, writtenCount, written}
 use Rattle.statements.specs.Text.{text}
 use Rattle.statements.proofs.FieldLaws.{views-table}
 use Rattle.pool.specs.declared.Placed.{Placed}
-use Rattle.pool.specs.Pool.{stmtAt, countOf, viewAt, poolLen, poolOf}
+use Rattle.pool.specs.Pool.{stmtAt, countOf, viewAt, poolLen}
 use Rattle.pool.specs.Changes.{Appended}
 use Rattle.host.specs.Statement.{IsStatement}
-use Rattle.pekdrav.specs.Pooled.{placeNumber, Put, Cleared, textFits, Texted}
+use Rattle.pekdrav.specs.Pooled.{placeNumber, Put, textFits, Texted}
 use Rattle.host.proofs.Written.{is-statement}
 
 pub stayed : (S W : List ℕ) → (IsStatement S → ⊥) → Put S W 513 W
@@ -37,10 +37,6 @@ went-in S r p ok k W W′ placed a n e =
       went = λ _. record { statement = r .statement; rules = s .rules; is = s .is; placed = placed; appended = a; answer = e };
       refused = λ f. absurd (f s);
     }
-
-pub emptied : (W : List ℕ) → length W ≡ 10241 → Cleared W (set W 10240 0)
-unfolding poolOf poolLen table
-emptied W e = record { is = refl; empty = ap (λ n. table (min n 512) (stmtAt (set W 10240 0))) (getD-set-same W 10240 0 0 (omega arith)) }
 
 -- ---- a statement of the pool, written
 

@@ -94,7 +94,7 @@ module _ (R : Ring) (sender : ℕ) (X : List Stmt) where
   count-told C n e = sym (words-count C n) ∙ ap length e
 
   all-told : (conflict many : Bool) (w : ℕ) (C : List ℕ) (n : ℕ) (G : List ℕ) (m : ℕ) (certified : Bool) (payload : ℕ) (stored : Bool)
-      → EvidenceOf R sender X (record { conflict = conflict; many = many; wished = w; candidates = C; count = n; greatest = G; length = m; certified = certified; payload = payload; stored = stored })
+      → EvidenceOf R sender X C G (record { conflict = conflict; many = many; wished = w; count = n; length = m; certified = certified; payload = payload; stored = stored })
       → numbers conflict many w n m certified payload stored ++ (sixteen (viewsOf C (cond (not conflict && not many) n 0)) ++ sixteen (viewsOf G (cond (not conflict) m 0)))
       ≡ (if conflict then conflictWords R X else agreedWords R sender X)
   unfolding conflictWords agreedWords viewsOf table sixteen
@@ -105,16 +105,16 @@ module _ (R : Ring) (sender : ℕ) (X : List Stmt) where
       (certificate-told certified stored payload (of .certificate refl) (of .stored refl))
 
   -- THE WORDS THAT ARE TOLD ARE THE RECORD'S
-  pub tells : (l one two : List ℕ) (e : Evidence) (w n m p : ℕ) → EvidenceOf R sender X e → length l ≡ 40
+  pub tells : (l one two C G : List ℕ) (e : Evidence) (w n m p : ℕ) → EvidenceOf R sender X C G e → length l ≡ 40
       → w ≡ wordOf (viewOf (e .wished)) → n ≡ cond (not (e .conflict) && not (e .many)) (e .count) 0 → m ≡ cond (not (e .conflict)) (e .length) 0
       → p ≡ cond (not (e .conflict) && e .certified) (e .payload) 0
       → one
       ≡ sets (sets l 0 (boolByte (e .conflict) ∷ boolByte (not (e .conflict) && e .many) ∷ w ∷ n ∷ m ∷ boolByte (not (e .conflict) && e .certified) ∷ p ∷ boolByte ((not (e .conflict) && e .certified) && e .stored) ∷ []))
-      8 (sixteen (viewsOf (e .candidates) n))
-      → two ≡ sets one 24 (sixteen (viewsOf (e .greatest) m)) → two ≡ toldOf R sender X
+      8 (sixteen (viewsOf C n))
+      → two ≡ sets one 24 (sixteen (viewsOf G m)) → two ≡ toldOf R sender X
   unfolding toldOf
-  tells l one two e w n m p of long a b c d f g =
+  tells l one two C G e w n m p of long a b c d f g =
       rw (g, f, a, b, c, d)
       (over l (numbers (e .conflict) (e .many) (e .wished) (e .count) (e .length) (e .certified) (e .payload) (e .stored)) _ _ long refl
-      ∙ all-told (e .conflict) (e .many) (e .wished) (e .candidates) (e .count) (e .greatest) (e .length) (e .certified) (e .payload) (e .stored) of
+      ∙ all-told (e .conflict) (e .many) (e .wished) C (e .count) G (e .length) (e .certified) (e .payload) (e .stored) of
       ∙ ap (λ x. if x then conflictWords R X else agreedWords R sender X) (of .conflict))

@@ -6,14 +6,14 @@ use mathlib.Core.Bool.{Bool, cond, _&&_}
 use mathlib.Core.List.{List, []}
 use Rattle.pool.specs.declared.Placed.{Placed}
 use Rattle.pool.specs.declared.Placed.the-variants.{At, Full}
-use Rattle.pool.specs.Pool.{stmtAt, poolLen, poolOf}
+use Rattle.pool.specs.Pool.{stmtAt, poolLen}
 use Rattle.pool.specs.Changes.{Appended}
 use Rattle.statements.specs.declared.Statement.{Statement}
 use Rattle.statements.specs.Meaning.{stmtOf}
 use Rattle.statements.specs.Text.{text}
 use Rattle.protocol.specs.Statement.{fieldRules}
 use lib.Dec.{T, ltb, leb}
-use lib.ListN.{length, set}
+use lib.ListN.{length}
 use lib.Seq.{sets}
 use Rattle.host.specs.Statement.{IsStatement}
 
@@ -35,11 +35,6 @@ pub record Went (S W W′ : List ℕ) (r : ℕ) : Type 0 where
 pub record Put (S W : List ℕ) (r : ℕ) (W′ : List ℕ) : Type 0 where
   pub went : IsStatement S → Went S W W′ r
   pub refused : (IsStatement S → ⊥) → (r ≡ 513) × (W′ ≡ W)
-
--- The pool is empty now: the number of its statements was set to 0.
-pub record Cleared (W W′ : List ℕ) : Type 0 where
-  pub is : W′ ≡ set W 10240 0
-  pub empty : poolOf W′ ≡ []
 
 -- The pool has a statement n, and `out` has room for its text.
 unfoldable pub textFits : List ℕ → ℕ → List ℕ → Bool

@@ -1,5 +1,7 @@
-// The engine's calls, one at a time, on a controller in lent memory. Each answers 0 taken, 1 signed, 2 entered, 3 delivered, 4 left, 5 quiet or
+// The engine's calls, one at a time, on a controller in lent memory. A call that has no use for its record is not lent it. Each answers 0 taken, 1 signed, 2 entered, 3 delivered, 4 left, 5 quiet or
 // 6 refused, and tells in `value` the pool number of what was signed, the entered view's word, the delivered payload, the refusal's number, or 0.
+ghost use mathlib.Core.List.{List};
+ghost use Prim.Native.Nat.{ℕ};
 ghost use Rattle.engine.specs.Promise.{Calls};
 ghost use Rattle.engine.specs.Meaning.{controllerIs};
 ghost use Rattle.host.specs.Host.{noStatement, Fresh, SetsUp, Joins, Leaves, Sends, TakesTurn, AddsText};
@@ -7,20 +9,22 @@ use engine::Controller;
 use engine::Outcome;
 use engine::Refusal;
 use pool::POOL_WORDS;
+use pool::RECORD;
 
 // The memory means a controller before setup.
 #[no_mangle]
-pub extern "C" fn pekdrav_new(fields: &mut [u64; 32], ids: &mut [u16; 512])
+pub extern "C" fn pekdrav_new(fields: &mut [u64; 32], ids: &mut [u16; RECORD])
     ensures { λ _. ⌜ Fresh (now (fields .exit)) (now (ids .exit)) ⌝ }
 {
     let c = Controller::new();
-    host::store(fields, ids, c);
+    host::store(fields, c);
+    pool::record_clear(ids);
 }
 
 #[no_mangle]
 pub extern "C" fn pekdrav_setup(
     fields: &mut [u64; 32],
-    ids: &mut [u16; 512],
+    ids: &mut [u16; RECORD],
     number: u8,
     members: u16,
     sender: u8,
@@ -28,49 +32,36 @@ pub extern "C" fn pekdrav_setup(
 ) -> u8
     ensures { λ r. ⌜ SetsUp (now (fields .entry)) (now (ids .entry)) number members sender r (now (fields .exit)) (now (ids .exit)) (now (value .exit)) ⌝ }
 {
-    let c = host::load(fields, ids);
-    let o = c.setup(number, members, sender);
-    host::finish(fields, ids, o, value)
+    let c = host::load(fields);
+    let o = c.setup(ids, number, members, sender);
+    host::finish(fields, o, value)
 }
 
 #[no_mangle]
-pub extern "C" fn pekdrav_join(
-    fields: &mut [u64; 32],
-    ids: &mut [u16; 512],
-    value: &mut [u64; 1],
-) -> u8
-    ensures { λ r. ⌜ Joins (now (fields .entry)) (now (ids .entry)) r (now (fields .exit)) (now (ids .exit)) (now (value .exit)) ⌝ }
+pub extern "C" fn pekdrav_join(fields: &mut [u64; 32], value: &mut [u64; 1]) -> u8
+    ensures { λ r. ⌜ ((R : List ℕ) → Joins (now (fields .entry)) R r (now (fields .exit)) R (now (value .exit))) ⌝ }
 {
-    let c = host::load(fields, ids);
+    let c = host::load(fields);
     let o = c.join();
-    host::finish(fields, ids, o, value)
+    host::finish(fields, o, value)
 }
 
 #[no_mangle]
-pub extern "C" fn pekdrav_leave(
-    fields: &mut [u64; 32],
-    ids: &mut [u16; 512],
-    value: &mut [u64; 1],
-) -> u8
-    ensures { λ r. ⌜ Leaves (now (fields .entry)) (now (ids .entry)) r (now (fields .exit)) (now (ids .exit)) (now (value .exit)) ⌝ }
+pub extern "C" fn pekdrav_leave(fields: &mut [u64; 32], value: &mut [u64; 1]) -> u8
+    ensures { λ r. ⌜ ((R : List ℕ) → Leaves (now (fields .entry)) R r (now (fields .exit)) R (now (value .exit))) ⌝ }
 {
-    let c = host::load(fields, ids);
+    let c = host::load(fields);
     let o = c.leave();
-    host::finish(fields, ids, o, value)
+    host::finish(fields, o, value)
 }
 
 #[no_mangle]
-pub extern "C" fn pekdrav_send(
-    fields: &mut [u64; 32],
-    ids: &mut [u16; 512],
-    payload: u64,
-    value: &mut [u64; 1],
-) -> u8
-    ensures { λ r. ⌜ Sends (now (fields .entry)) (now (ids .entry)) payload r (now (fields .exit)) (now (ids .exit)) (now (value .exit)) ⌝ }
+pub extern "C" fn pekdrav_send(fields: &mut [u64; 32], payload: u64, value: &mut [u64; 1]) -> u8
+    ensures { λ r. ⌜ ((R : List ℕ) → Sends (now (fields .entry)) R payload r (now (fields .exit)) R (now (value .exit))) ⌝ }
 {
-    let c = host::load(fields, ids);
+    let c = host::load(fields);
     let o = c.send(payload);
-    host::finish(fields, ids, o, value)
+    host::finish(fields, o, value)
 }
 
 // The refusal of what is no statement.
@@ -87,34 +78,34 @@ fn unwritten(c: Controller) -> Outcome
 #[no_mangle]
 pub extern "C" fn pekdrav_add(
     fields: &mut [u64; 32],
-    ids: &mut [u16; 512],
+    ids: &mut [u16; RECORD],
     words: &mut [u64; POOL_WORDS],
     line: &[u8],
     value: &mut [u64; 1],
 ) -> u8
     ensures { λ r. ⌜ AddsText (now (line .entry)) (now (words .entry)) (now (words .exit)) (now (fields .entry)) (now (ids .entry)) r (now (fields .exit)) (now (ids .exit)) (now (value .exit)) ⌝ }
 {
-    let c = host::load(fields, ids);
+    let c = host::load(fields);
     let r = statements::read(line);
     if !r.ok {
         let o = unwritten(c);
-        return host::finish(fields, ids, o, value);
+        return host::finish(fields, o, value);
     }
     let st = r.statement;
-    let o = c.add(words, st);
-    host::finish(fields, ids, o, value)
+    let o = c.add(ids, words, st);
+    host::finish(fields, o, value)
 }
 
 #[no_mangle]
 pub extern "C" fn pekdrav_turn(
     fields: &mut [u64; 32],
-    ids: &mut [u16; 512],
+    ids: &mut [u16; RECORD],
     words: &mut [u64; POOL_WORDS],
     value: &mut [u64; 1],
 ) -> u8
     ensures { λ r. ⌜ TakesTurn (now (words .entry)) (now (words .exit)) (now (fields .entry)) (now (ids .entry)) r (now (fields .exit)) (now (ids .exit)) (now (value .exit)) ⌝ }
 {
-    let c = host::load(fields, ids);
-    let o = c.turn(words);
-    host::finish(fields, ids, o, value)
+    let c = host::load(fields);
+    let o = c.turn(ids, words);
+    host::finish(fields, o, value)
 }

@@ -1,7 +1,7 @@
 // A pool whose statements go in and come out by their text.
 ghost use mathlib.Core.Path.{_≡_};
-ghost use lib.ListN.{length};
-ghost use Rattle.pekdrav.specs.Pooled.{placeNumber, Put, Cleared, Texted};
+ghost use Rattle.pool.specs.Changes.{Cleared};
+ghost use Rattle.pekdrav.specs.Pooled.{placeNumber, Put, Texted};
 use pool::POOL_WORDS;
 use pool::Placed;
 
@@ -33,21 +33,12 @@ pub extern "C" fn pekdrav_append(words: &mut [u64; POOL_WORDS], line: &[u8]) -> 
     place_number(p)
 }
 
-// How many words the memory has: a proof that a word was written asks for it.
-fn size(words: &[u64; POOL_WORDS]) -> usize
-    ensures { λ r. ⌜ length (now (words .entry)) ≡ 10241 ⌝ }
-{
-    let s = &words[..];
-    s.len()
-}
-
 // An empty pool.
 #[no_mangle]
 pub extern "C" fn pekdrav_clear(words: &mut [u64; POOL_WORDS])
     ensures { λ _. ⌜ Cleared (now (words .entry)) (now (words .exit)) ⌝ }
 {
-    size(words);
-    words[10240] = 0;
+    pool::clear(words);
 }
 
 // Writes the text of statement n from the start of `out`, and answers its length; 0, and `out` as it was, where the pool has no such statement

@@ -3,31 +3,37 @@ ghost use mathlib.Core.Path.{_≡_};
 ghost use Rattle.protocol.specs.Evidence.{signs};
 ghost use Rattle.views.specs.Sets.{IsSet};
 ghost use Rattle.views.specs.View.{viewOf};
-ghost use Rattle.pool.specs.Pool.{recordOf, stmtAt};
+ghost use Rattle.pool.specs.Pool.{recordIn, stmtAt};
 ghost use Rattle.pekdrav.specs.Scan.{isAt};
 use pool::POOL_WORDS;
+use pool::RECORD;
 
-// One comparison for both: of two, the first would often be guessed wrong.
-fn is_at(words: &[u64; POOL_WORDS], n: u16, kind: u8, at: u32) -> bool
+// What is above the words of all views of the sixteen controllers.
+const WORDS: u64 = 281474976710656;
+
+// Whether statement n is of this kind and at this view. One comparison tells both: of two, the first would often be guessed wrong.
+fn is_at(words: &[u64; POOL_WORDS], n: u16, kind: u8, at: u64) -> bool
     ensures { λ r. ⌜ r ≡ isAt kind (viewOf at) (stmtAt (now (words .entry)) n) ⌝ }
 {
     let k = pool::kind(words, n);
     let t = pool::at(words, n);
-    k * 4294967296 + t as u64 == kind as u64 * 4294967296 + at as u64
+    if at >= WORDS {
+        return false;
+    }
+    k * WORDS + t == kind as u64 * WORDS + at
 }
 
-// The set of those who signed a statement of this kind at this view, bit k for controller k, in the record of the first `len` numbers.
+// The set of those who signed a statement of this kind at this view, bit k for controller k, in a record.
 #[no_mangle]
 pub extern "C" fn pekdrav_signers(
     words: &[u64; POOL_WORDS],
-    ids: &[u16; 512],
-    len: usize,
+    ids: &[u16; RECORD],
     kind: u8,
-    at: u32,
+    at: u64,
 ) -> u32
-    ensures { λ r. ⌜ IsSet r (signs (isAt kind (viewOf at)) (recordOf (now (words .entry)) (now (ids .entry)) len)) ⌝ }
+    ensures { λ r. ⌜ IsSet r (signs (isAt kind (viewOf at)) (recordIn (now (words .entry)) (now (ids .entry)))) ⌝ }
 {
-    let end = pool::limit(len);
+    let end = pool::record_length(ids);
     let mut seen = 0u32;
     let mut i = 0usize;
     while i < end {

@@ -5,20 +5,23 @@ ghost use Prim.Native.Nat.{_≤_};
 ghost use lib.ListN.{length};
 ghost use lib.Seq.{sets};
 ghost use Rattle.views.specs.View.{viewOf, ring};
-ghost use Rattle.pool.specs.Pool.{wordOf, recordOf};
+ghost use Rattle.pool.specs.Pool.{wordOf, recordIn};
 ghost use Rattle.ranking.specs.Slots.{viewsOf};
 ghost use Rattle.screen.specs.Screen.{Shows};
 ghost use Rattle.pekdrav.specs.Evidence.{sixteen, toldOf};
+use evidence::Ring;
 use pool::POOL_WORDS;
+use pool::RECORD;
 use views::View;
 
 // The words of an answer: eight numbers, the candidates, the greatest history.
 pub const TOLD_WORDS: usize = 8 + 2 * View::LIMIT;
 
-fn wide(v: u32) -> u64
+// A view's word, which is told as it is.
+fn told(v: u64) -> u64
     ensures { λ r. ⌜ r ≡ wordOf (viewOf v) ⌝ }
 {
-    v as u64
+    v
 }
 
 fn when(yes: bool, n: u64) -> u64
@@ -39,18 +42,18 @@ fn room(out: &[u64; TOLD_WORDS]) -> usize
 }
 
 // The first `n` of the views, and 0 after the last, in sixteen words.
-fn tell(out: &mut [u64; TOLD_WORDS], from: usize, views: [u32; View::LIMIT], n: u64)
+fn tell(out: &mut [u64; TOLD_WORDS], from: usize, views: &[u64; View::LIMIT], n: u64)
     requires { ⌜ from ≤ 24 ⌝ }
-    ensures { λ _. ⌜ now (out .exit) ≡ sets (now (out .entry)) from (sixteen (viewsOf views n)) ⌝ }
+    ensures { λ _. ⌜ now (out .exit) ≡ sets (now (out .entry)) from (sixteen (viewsOf (now (views .entry)) n)) ⌝ }
 {
     let mut i = 0usize;
     while i < View::LIMIT {
-        out[from + i] = when((i as u64) < n, wide(views[i]));
+        out[from + i] = when((i as u64) < n, told(views[i]));
         i += 1;
     }
 }
 
-// Tells the evidence of the record of the first `len` numbers: in words 0 to 7 whether there is a conflict, whether there are more than
+// Tells the evidence of a record: in words 0 to 7 whether there is a conflict, whether there are more than
 // sixteen candidates, the wished view, how many candidates and how many views of the greatest history follow, whether a payload has a
 // certificate, that payload, and whether it is stored; from word 8 on the candidates, from 24 on the greatest history. What is not told is 0:
 // after a conflict every word but 0 and 2, with more than sixteen candidates word 3 and the candidates, without a certificate words 6
@@ -58,46 +61,45 @@ fn tell(out: &mut [u64; TOLD_WORDS], from: usize, views: [u32; View::LIMIT], n: 
 #[no_mangle]
 pub extern "C" fn pekdrav_evidence(
     words: &[u64; POOL_WORDS],
-    ids: &[u16; 512],
-    len: usize,
-    init: u32,
+    ids: &[u16; RECORD],
+    init: u64,
     sender: u8,
     out: &mut [u64; TOLD_WORDS],
 )
-    ensures { λ _. ⌜ now (out .exit) ≡ toldOf (ring init) sender (recordOf (now (words .entry)) (now (ids .entry)) len) ⌝ }
+    ensures { λ _. ⌜ now (out .exit) ≡ toldOf (ring init) sender (recordIn (now (words .entry)) (now (ids .entry))) ⌝ }
 {
     room(out);
-    let e = evidence::of_record(words, ids, len, init, sender);
-    let candidates = e.candidates;
-    let greatest = e.greatest;
+    let mut candidates = [0u64; View::LIMIT];
+    let mut greatest = [0u64; View::LIMIT];
+    let ring = Ring { init, sender };
+    let e = evidence::of_record(words, ids, ring, &mut candidates, &mut greatest);
     let agreed = !e.conflict;
     let certified = agreed & e.certified;
     let count = when(agreed & !e.many, e.count as u64);
     let length = when(agreed, e.length as u64);
     out[0] = e.conflict as u64;
     out[1] = (agreed & e.many) as u64;
-    out[2] = wide(e.wished);
+    out[2] = told(e.wished);
     out[3] = count;
     out[4] = length;
     out[5] = certified as u64;
     out[6] = when(certified, e.payload);
     out[7] = (certified & e.stored) as u64;
-    tell(out, 8, candidates, count);
-    tell(out, 24, greatest, length);
+    tell(out, 8, &candidates, count);
+    tell(out, 24, &greatest, length);
 }
 
-// Writes what the record of the first `len` numbers shows from the start of `out`, in lines, and answers the text's length; 0, and `out` as
+// Writes what a record shows from the start of `out`, in lines, and answers the text's length; 0, and `out` as
 // it was, where `out` has fewer than 512 bytes.
 #[no_mangle]
 pub extern "C" fn pekdrav_shown(
     words: &[u64; POOL_WORDS],
-    ids: &[u16; 512],
-    len: usize,
-    init: u32,
+    ids: &[u16; RECORD],
+    init: u64,
     sender: u8,
     out: &mut [u8],
 ) -> usize
-    ensures { λ r. ⌜ Shows (ring init) sender (recordOf (now (words .entry)) (now (ids .entry)) len) (now (out .entry)) r (now (out .exit)) ⌝ }
+    ensures { λ r. ⌜ Shows (ring init) sender (recordIn (now (words .entry)) (now (ids .entry))) (now (out .entry)) r (now (out .exit)) ⌝ }
 {
-    screen::shown(words, ids, len, init, sender, out)
+    screen::shown(words, ids, Ring { init, sender }, out)
 }

@@ -1,33 +1,32 @@
--- Laws of the head of a statement: its six parts come back from the one word.
+-- Laws of the head of a statement: its five parts come back from the one word.
 -- Assumes nothing.
 use mathlib.Core.Path.{_≡_, _∙_}
 use Prim.Native.Nat.{ℕ, _+_, _*_, _/_, _%_, _≤_, _<_, min}
 use native.Mathlib.Omega.{arith}
 use lib.ListN.{length}
 use Rattle.protocol.specs.Statement.{Stmt}
-use Rattle.views.specs.View.{viewOf}
 use Rattle.pool.specs.Changes.{headOf, headWord, IsHead}
 
--- the low 48 bits of a word are its kind, origin and at
-pub low-parts : (w : ℕ) → w % 281474976710656 ≡ w % 256 + w / 256 % 256 * 256 + (w / 65536 % 65536 + w / 65536 / 65536 % 65536 * 65536) * 65536
+-- the low 16 bits of a word are its kind and origin
+pub low-parts : (w : ℕ) → w % 65536 ≡ w % 256 + w / 256 % 256 * 256
 low-parts w = omega arith
 
--- ---- the six parts in one word
+-- ---- the five parts in one word
 
 abbrev packed : ℕ → ℕ → ℕ → ℕ → ℕ
-packed x c b f = x + c * 281474976710656 + b * 72057594037927936 + f * 1152921504606846976
+packed x c b f = x + c * 16777216 + b * 4294967296 + f * 1099511627776
 
-module _ (x c b f : ℕ) (lx : x < 281474976710656) (lc : c ≤ 16) (lb : b ≤ 2) (lf : f ≤ 1) where
-  low-back : packed x c b f % 281474976710656 ≡ x
+module _ (x c b f : ℕ) (lx : x < 65536) (lc : c ≤ 16) (lb : b ≤ 2) (lf : f ≤ 1) where
+  low-back : packed x c b f % 65536 ≡ x
   low-back = omega arith
 
-  count-back : min (packed x c b f / 281474976710656 % 256) 16 ≡ c
+  count-back : min (packed x c b f / 16777216 % 256) 16 ≡ c
   count-back = omega arith
 
-  binding-back : min (packed x c b f / 72057594037927936 % 16) 2 ≡ b
+  binding-back : min (packed x c b f / 4294967296 % 256) 2 ≡ b
   binding-back = omega arith
 
-  stored-back : min (packed x c b f / 1152921504606846976) 1 ≡ f
+  stored-back : min (packed x c b f / 1099511627776 % 256) 1 ≡ f
   stored-back = omega arith
 
 -- the parts of a statement, each as its word has it
@@ -35,8 +34,8 @@ pub head-word-is : (s : Stmt) (x c b f : ℕ) → x ≡ headOf s → c ≡ min (
 unfolding headWord
 head-word-is s x c b f ex ec eb ef i = packed (ex i) (ec i) (eb i) (ef i)
 
--- a word whose low 48 bits are those of s
-module _ (s : Stmt) (w : ℕ) (lk : s .kind < 256) (lo : s .origin < 256) (lj : s .at .joined < 65536) (ll : s .at .left < 65536) (e : w % 281474976710656 ≡ headOf s) where
+-- a word whose low 16 bits are those of s
+module _ (s : Stmt) (w : ℕ) (lk : s .kind < 256) (lo : s .origin < 256) (e : w % 65536 ≡ headOf s) where
   kind-back : w % 256 ≡ s .kind
   unfolding headOf
   kind-back = omega arith
@@ -45,25 +44,12 @@ module _ (s : Stmt) (w : ℕ) (lk : s .kind < 256) (lo : s .origin < 256) (lj : 
   unfolding headOf
   origin-back = omega arith
 
-  joined-back : w / 65536 % 65536 ≡ s .at .joined
-  unfolding headOf
-  joined-back = omega arith
-
-  left-back : w / 65536 / 65536 % 65536 ≡ s .at .left
-  unfolding headOf
-  left-back = omega arith
-
-  at-back : viewOf (w / 65536) ≡ s .at
-  unfolding viewOf
-  at-back i = record { joined = joined-back i; left = left-back i }
-
-pub head-back : (s : Stmt) (x c b f n : ℕ) → x ≡ headOf s → x < 281474976710656 → c ≡ n → c ≤ 16 → b ≡ s .binding → b ≤ 2 → f ≡ s .stored → f ≤ 1 → s .kind < 256 → s .origin < 256 → s .at .joined < 65536 → s .at .left < 65536 → IsHead (packed x c b f) s n
-head-back s x c b f n ex lx ec lc eb lb ef lf lk lo lj ll =
-    let e : packed x c b f % 281474976710656 ≡ headOf s = low-back x c b f lx lc lb lf ∙ ex in
+pub head-back : (s : Stmt) (x c b f n : ℕ) → x ≡ headOf s → x < 65536 → c ≡ n → c ≤ 16 → b ≡ s .binding → b ≤ 2 → f ≡ s .stored → f ≤ 1 → s .kind < 256 → s .origin < 256 → IsHead (packed x c b f) s n
+head-back s x c b f n ex lx ec lc eb lb ef lf lk lo =
+    let e : packed x c b f % 65536 ≡ headOf s = low-back x c b f lx lc lb lf ∙ ex in
     record {
-      kind = kind-back s _ lk lo lj ll e;
-      origin = origin-back s _ lk lo lj ll e;
-      at = at-back s _ lk lo lj ll e;
+      kind = kind-back s _ lk lo e;
+      origin = origin-back s _ lk lo e;
       count = count-back x c b f lx lc lb lf ∙ ec;
       binding = binding-back x c b f lx lc lb lf ∙ eb;
       stored = stored-back x c b f lx lc lb lf ∙ ef;

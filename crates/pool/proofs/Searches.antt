@@ -1,17 +1,17 @@
 -- Laws of comparing, finding and appending statements, and of what stays as it was.
 -- Assumes nothing.
 use mathlib.Core.Path.{_≡_, refl, sym, ap, ap₂, subst, _∙_}
-use mathlib.Core.Bool.{Bool, true, false, _||_}
+use mathlib.Core.Bool.{Bool, true, false, not, _||_, true≢false}
 use mathlib.Core.List.{List, [], _∷_, _++_}
 use mathlib.Core.Option.{Option, some, none}
 use Prim.Native.Nat.{ℕ, zero, suc, _+_, _*_, _/_, _%_, _≤_, _<_, min}
 use native.Mathlib.Decide.{decLt}
 use native.Mathlib.Numerals.{add-one}
 use native.Mathlib.Omega.{arith}
-use lib.Dec.{leb, ltb}
-use lib.ListN.{length, getD, set}
-use lib.Seq.{getD-set-same, getD-set-other}
-use borrow.Author.Tests.{lt-ltb, le-ltb, le-leb, lt-leb, leb-false}
+use lib.Dec.{eqb, leb}
+use lib.ListN.{length, getD, set, replicate, length-set}
+use lib.Seq.{getD-set-same}
+use borrow.Author.Tests.{eq-eqb, lt-ltb, le-ltb, le-leb, lt-leb, leb-false}
 use Rattle.protocol.specs.Lists.{if_then_else_, find, isSome}
 use Rattle.protocol.specs.History.{sameViews}
 use Rattle.protocol.specs.Statement.{Stmt, sameStmt}
@@ -19,18 +19,18 @@ use Rattle.protocol.proofs.Says.{says-map, says-unique}
 use Rattle.protocol.proofs.Decided.{says-sames}
 use Rattle.protocol.proofs.Asked.{says-same-stmt}
 use Rattle.views.specs.Table.{table}
-use Rattle.views.specs.View.{viewOf}
+use Rattle.views.specs.View.{viewOf, viewIn}
+use Rattle.views.specs.Held.{viewIs}
 use Rattle.views.proofs.Tables.{table-cong}
-use Rattle.views.proofs.Views.{fails}
+use Rattle.views.proofs.Views.{fails, same-yes, view-eqb}
 use Rattle.statements.specs.declared.Statement.{Statement}
 use Rattle.statements.specs.Meaning.{stmtOf}
 use Rattle.pool.specs.declared.Found.the-variants as found
 use Rattle.pool.specs.declared.Placed.the-variants as placed
-use Rattle.pool.specs.declared.Record.{Record}
-use Rattle.pool.specs.Pool.{headAt, word, viewWord, countOf, viewAt, stmtAt, poolLen, poolOf, recordOf}
-use Rattle.pool.specs.Changes.{headOf, owner, Beside, putAt, Put, numberOf, foundOf, placedAt, pooledIn, Grown, Appended, Pushed}
+use Rattle.pool.specs.Pool.{viewsFrom, lastWord, poolWords, headAt, word, viewWord, countOf, viewAt, stmtAt, poolLen, poolOf, recordOf}
+use Rattle.pool.specs.Changes.{headOf, isOther, owner, Beside, putAt, Put, numberOf, foundOf, placedAt, pooledIn, Grown, Appended, Cleared}
 use Rattle.pool.proofs.Parts.{low-parts}
-use Rattle.pool.proofs.Records.{entry, whole}
+use Rattle.pool.proofs.Records.{entry}
 use Rattle.pool.proofs.Writes.{stmts, owner-low, owner-high, beside-put, beside-count, beside-same}
 
 -- ---- two statements
@@ -39,22 +39,19 @@ use Rattle.pool.proofs.Writes.{stmts, owner-low, owner-high, beside-put
 pub differs : {A : Type 0} (g : Stmt → A) (a b : Stmt) → (g a ≡ g b → ⊥) → false ≡ sameStmt a b
 differs g a b d = sym (fails says-same-stmt (λ e. d (ap g e)))
 
--- the head of a statement whose view is that of the word t
-pub head-is : (s : Stmt) (k o t : ℕ) → k ≡ s .kind → o ≡ s .origin → t < 4294967296 → viewOf t ≡ s .at → k + o * 256 + t * 65536 ≡ headOf s
-unfolding headOf viewOf
-head-is s k o t e f l g =
-    let j : t % 65536 ≡ s .at .joined = ap (λ v. v .joined) g in
-    let h : t / 65536 % 65536 ≡ s .at .left = ap (λ v. v .left) g in
-    omega arith
-
 -- the head of statement n is the low part of its word
-pub head-at : (W : List ℕ) (n w : ℕ) → w ≡ headAt W n → w % 281474976710656 ≡ headOf (stmtAt W n)
-unfolding headOf viewOf stmtAt
-head-at W n w e = ap (λ x. x % 281474976710656) e ∙ low-parts (headAt W n)
+pub head-at : (W : List ℕ) (n w : ℕ) → w ≡ headAt W n → w % 65536 ≡ headOf (stmtAt W n)
+unfolding headOf stmtAt
+head-at W n w e = ap (λ x. x % 65536) e ∙ low-parts (headAt W n)
 
--- they differ if their heads do
-pub heads-differ : (a b : Stmt) (x y : ℕ) → x ≡ headOf b → y ≡ headOf a → (x ≡ y → ⊥) → sameStmt a b ≡ false
-heads-differ a b x y e f d = sym (differs headOf a b (λ q. d (e ∙ sym q ∙ sym f)))
+pub other-is : (s : Stmt) (key t h a : ℕ) → h ≡ headOf s → viewOf a ≡ s .at → a < 18446744073709551616 → t < 18446744073709551616 → (not (eqb h key) || not (eqb a t)) ≡ isOther s key t
+unfolding isOther
+other-is s key t h a e f p q = ap₂ (λ x y. not x || not y) (ap (λ x. eqb x key) e) (view-eqb a (s .at) t f p q)
+
+-- a statement with another head or at than st is another
+pub others-differ : (st : Statement) (b : Stmt) (key t : ℕ) (r : Bool) → r ≡ isOther b key t → r ≡ true → key ≡ headOf (stmtOf st) → viewOf t ≡ viewIs (st .at) → sameStmt (stmtOf st) b ≡ false
+unfolding isOther stmtOf
+others-differ st b key t r e g k v = fails says-same-stmt (λ q. true≢false (sym g ∙ e ∙ ap₂ (λ x y. not x || not y) (eq-eqb (headOf b) key (ap headOf (sym q) ∙ sym k)) (same-yes (b .at) (viewOf t) (ap (λ s. s .at) (sym q) ∙ sym v))))
 
 -- where all else is the same, the views tell
 pub views-tell : (a b : Stmt) (r : Bool) → a .kind ≡ b .kind → a .origin ≡ b .origin → a .at ≡ b .at → a .view ≡ b .view → a .binding ≡ b .binding → a .payload ≡ b .payload → a .stored ≡ b .stored → a .kept ≡ b .kept
@@ -134,36 +131,55 @@ found-none (some j) e = absurd (let n : _≡_ {A = ℕ} 0 1 = cc in omega arith)
 stmt-kept : (W W′ : List ℕ) (m : ℕ) → ((i : ℕ) → owner i ≡ min m 511 → getD W′ i 0 ≡ getD W i 0) → stmtAt W′ m ≡ stmtAt W m
 unfolding stmtAt countOf headAt word viewWord
 stmt-kept W W′ m k =
-    stmts (ap (λ x. x % 256) head) (ap (λ x. x / 256 % 256) head) (ap (λ x. viewOf (x / 65536)) head) (ap viewOf (column 512 (omega arith))) (ap (λ x. min (x / 72057594037927936 % 16) 2) head)
-    (column 1024 (omega arith)) (ap (λ x. min (x / 1152921504606846976) 1) head) (column 1536 (omega arith))
-    (ap (λ x. table (min (x / 281474976710656 % 256) 16) (viewAt W′ m)) head ∙ table-cong (countOf W m) (viewAt W′ m) (viewAt W m) (λ p l. view p (omega arith)))
+    stmts (ap (λ x. x % 256) head) (ap (λ x. x / 256 % 256) head) (ap viewIn (column 512 (omega arith))) (ap viewIn (column 1024 (omega arith))) (ap (λ x. min (x / 4294967296 % 256) 2) head)
+    (column 1536 (omega arith)) (ap (λ x. min (x / 1099511627776 % 256) 1) head) (column 2048 (omega arith))
+    (ap (λ x. table (min (x / 16777216 % 256) 16) (viewAt W′ m)) head ∙ table-cong (countOf W m) (viewAt W′ m) (viewAt W m) (λ p l. view p (omega arith)))
   where
     head : getD W′ (min m 511) 0 ≡ getD W (min m 511) 0
     head = k (min m 511) (omega (arith, owner-low (min m 511) (omega arith)))
 
-    column : (f : ℕ) → (f ≤ 1536) × (f % 512 ≡ 0) → getD W′ (min m 511 + f) 0 ≡ getD W (min m 511 + f) 0
+    column : (f : ℕ) → (f ≤ 2048) × (f % 512 ≡ 0) → getD W′ (min m 511 + f) 0 ≡ getD W (min m 511 + f) 0
     column f l = k (min m 511 + f) (omega (arith, owner-low (min m 511 + f) (omega arith)))
 
     view : (p : ℕ) → p < 16 → viewAt W′ m p ≡ viewAt W m p
-    view p l = ap viewOf (k (2048 + min m 511 * 16 + p) (omega (arith, owner-high (2048 + min m 511 * 16 + p) (omega arith))))
+    view p l = ap viewIn (k (viewsFrom + min m 511 * 16 + p) (omega (arith, owner-high (viewsFrom + min m 511 * 16 + p) (omega arith))))
 
 -- another statement than the one whose words changed
 pub beside-kept : (W W′ : List ℕ) (n m : ℕ) → Beside W W′ n → (min m 511 ≡ n → ⊥) → stmtAt W′ m ≡ stmtAt W m
 beside-kept W W′ n m b d = stmt-kept W W′ m (λ i e. b .others i (λ q. d (sym e ∙ q)) (λ q. omega (arith, owner-high i (omega arith))))
 
 -- the number of statements lies behind them all
-count-kept : (W : List ℕ) (v m : ℕ) → stmtAt (set W 10240 v) m ≡ stmtAt W m
-count-kept W v m = beside-kept W (set W 10240 v) 512 m (beside-count W W 512 v (beside-same W 512)) (λ q. omega arith)
+count-kept : (W : List ℕ) (v m : ℕ) → stmtAt (set W lastWord v) m ≡ stmtAt W m
+count-kept W v m = beside-kept W (set W lastWord v) 512 m (beside-count W W 512 v (beside-same W 512)) (λ q. omega arith)
 
-counted : (U : List ℕ) (v : ℕ) → 10240 < length U → v ≤ 512 → poolLen (set U 10240 v) ≡ v
+counted : (U : List ℕ) (v : ℕ) → lastWord < length U → v ≤ 512 → poolLen (set U lastWord v) ≡ v
 unfolding poolLen
-counted U v l h = let g : getD (set U 10240 v) 10240 0 ≡ v = getD-set-same U 10240 v 0 l in omega arith
+counted U v l h = let g : getD (set U lastWord v) lastWord 0 ≡ v = getD-set-same U lastWord v 0 l in omega arith
+
+-- an empty pool
+pub cleared : (W : List ℕ) → length W ≡ poolWords → Cleared W (set W lastWord 0)
+unfolding poolOf table
+cleared W l =
+    let z : poolLen (set W lastWord 0) ≡ 0 = counted W 0 (omega arith) (omega arith) in
+    record { is = refl; long = length-set W lastWord 0 ∙ l; len = z; none = ap (λ n. table n (stmtAt (set W lastWord 0))) z }
+
+-- memory that is all 0 is an empty pool
+pub fresh : (w : ℕ) → (poolLen (replicate {A = ℕ} w 0) ≡ 0) × (poolOf (replicate {A = ℕ} w 0) ≡ [])
+unfolding poolLen poolOf table
+fresh w =
+    let z : min (getD (replicate {A = ℕ} w 0) lastWord 0) 512 ≡ 0 = ap (λ x. min x 512) (zeros w lastWord) in
+    (z, ap (λ n. table n (stmtAt (replicate {A = ℕ} w 0))) z)
+  where
+    zeros : (w i : ℕ) → getD (replicate {A = ℕ} w 0) i 0 ≡ 0
+    zeros zero i = refl
+    zeros (suc w) zero = refl
+    zeros (suc w) (suc i) = zeros w i
 
 -- ---- one statement more
 
 -- the memory after it, where it was found, where there is no room, and else
 abbrev pooledAs : List ℕ → Stmt → Bool → List ℕ
-pooledAs W s stays = if stays then W else set (putAt W (poolLen W) s) 10240 (poolLen W + 1)
+pooledAs W s stays = if stays then W else set (putAt W (poolLen W) s) lastWord (poolLen W + 1)
 
 module _ (W : List ℕ) (st : Statement) where
   stays : (o : Option ℕ) (b : Bool) → numberOf W (stmtOf st) ≡ o → leb 512 (poolLen W) ≡ b → pooledIn W (stmtOf st) ≡ pooledAs W (stmtOf st) (isSome o || b)
@@ -192,21 +208,21 @@ module _ (W : List ℕ) (st : Statement) where
         new = λ f h. absurd (omega arith);
       }
 
-  pub append-new : (n : ℕ) (U : List ℕ) → length W ≡ 10241 → found.Nothing ≡ foundOf (numberOf W (stmtOf st)) → n ≡ poolLen W → n < 512 → Put W U n st → Appended W (set U 10240 (n + 1)) st (placed.At n)
+  pub append-new : (n : ℕ) (U : List ℕ) → length W ≡ poolWords → found.Nothing ≡ foundOf (numberOf W (stmtOf st)) → n ≡ poolLen W → n < 512 → Put W U n st → Appended W (set U lastWord (n + 1)) st (placed.At n)
   append-new n U long e q l p =
       let o : numberOf W (stmtOf st) ≡ none = found-none (numberOf W (stmtOf st)) e in
       let u : U ≡ putAt W (poolLen W) (stmtOf st) = p .is ∙ (let k : min n 511 ≡ poolLen W = omega arith in ap (λ k. putAt W k (stmtOf st)) k) in
       let b : Beside W U (poolLen W) = subst (λ k. Beside W k (poolLen W)) (sym u) (beside-put W (poolLen W) (stmtOf st) (omega arith)) in
-      let c : Beside W (set U 10240 (n + 1)) (poolLen W) = beside-count W U (poolLen W) (n + 1) b in
+      let c : Beside W (set U lastWord (n + 1)) (poolLen W) = beside-count W U (poolLen W) (n + 1) b in
       record {
         answer = sym (ap (λ x. placedAt x (poolLen W)) o ∙ ap (λ b. if b then placed.At (poolLen W) else placed.Full) (lt-ltb (poolLen W) 512 (omega arith)) ∙ ap placed.At (sym q));
-        is = ap₂ (λ k m. set k 10240 (m + 1)) u q ∙ sym (stays none false o (lt-leb 512 (poolLen W) (omega arith)));
+        is = ap₂ (λ k m. set k lastWord (m + 1)) u q ∙ sym (stays none false o (lt-leb 512 (poolLen W) (omega arith)));
         old = λ i f. absurd (let z : _≡_ {A = ℕ} 0 1 = cc in omega arith);
         full = λ h. absurd (omega arith);
         new = λ f h. record {
           len = counted U (n + 1) (omega (arith, b .long)) (omega arith) ∙ ap (λ x. x + 1) q;
-          there = λ k. ap (stmtAt (set U 10240 (n + 1))) (sym q) ∙ count-kept U (n + 1) n ∙ p .there k;
-          others = λ m d. beside-kept W (set U 10240 (n + 1)) (poolLen W) m c d;
+          there = λ k. ap (stmtAt (set U lastWord (n + 1))) (sym q) ∙ count-kept U (n + 1) n ∙ p .there k;
+          others = λ m d. beside-kept W (set U lastWord (n + 1)) (poolLen W) m c d;
           beside = c;
         };
       }
@@ -234,37 +250,3 @@ pool-grown W W′ st g l h =
 pub record-grown : (W W′ ids : List ℕ) (len : ℕ) (st : Statement) → Grown W W′ st → poolLen W < 512 → ((i : ℕ) → i < min len 512 → getD ids i 0 < poolLen W) → recordOf W′ ids len ≡ recordOf W ids len
 unfolding recordOf
 record-grown W W′ ids len st g l all = table-cong (min len 512) (entry W′ ids) (entry W ids) (λ i m. g .others (getD ids i 0) (λ e. omega (arith, all i m)))
-
--- ---- one number more in a record
-
-pub push-full : (from to : Record) (id n : ℕ) → n ≡ min (from .len) 512 → 512 ≤ n → to .ids ≡ from .ids → to .len ≡ n → Pushed from id to
-push-full from to id n e l p q = record { len = omega arith; first = λ i h. ap (λ k. getD k i 0) p; last = λ h. absurd (omega arith); means = λ W. same W ∙ sym (pass W) }
-  where
-    same : (W : List ℕ) → recordOf W (to .ids) (to .len) ≡ recordOf W (from .ids) (from .len)
-    same W = ap₂ (λ k m. recordOf W k m) p q ∙ whole W (from .ids) (from .len) n e
-
-    pass : (W : List ℕ) → (if ltb (min (from .len) 512) 512 then recordOf W (from .ids) (from .len) ++ (stmtAt W id ∷ []) else recordOf W (from .ids) (from .len)) ≡ recordOf W (from .ids) (from .len)
-    pass W = ap (λ b. if b then recordOf W (from .ids) (from .len) ++ (stmtAt W id ∷ []) else recordOf W (from .ids) (from .len)) (le-ltb (min (from .len) 512) 512 (omega arith))
-
-record-set : (W ids : List ℕ) (id n : ℕ) → n < 512 → length ids ≡ 512 → recordOf W (set ids n id) (n + 1) ≡ recordOf W ids n ++ (stmtAt W id ∷ [])
-unfolding recordOf table
-record-set W ids id n l h =
-    let z : min (n + 1) 512 ≡ suc n = omega arith in
-    let y : min n 512 ≡ n = omega arith in
-    ap (λ m. table m (entry W (set ids n id))) z
-    ∙ ap₂ (λ k s. k ++ (s ∷ [])) (table-cong n (entry W (set ids n id)) (entry W ids) (λ i m. ap (stmtAt W) (getD-set-other ids n i id 0 (λ q. omega arith)))) (ap (stmtAt W) (getD-set-same ids n id 0 (omega arith)))
-    ∙ ap (λ m. table m (entry W ids) ++ (stmtAt W id ∷ [])) (sym y)
-
-pub push-room : (from to : Record) (id n : ℕ) → n ≡ min (from .len) 512 → n < 512 → length (from .ids) ≡ 512 → to .ids ≡ set (from .ids) n id → to .len ≡ n + 1 → Pushed from id to
-push-room from to id n e l h p q = record {
-  len = omega arith;
-  first = λ i m. ap (λ k. getD k i 0) p ∙ getD-set-other (from .ids) n i id 0 (λ d. omega arith);
-  last = λ m. ap₂ (λ k i. getD k i 0) p (sym e) ∙ getD-set-same (from .ids) n id 0 (omega arith);
-  means = λ W. one W ∙ sym (pass W);
-}
-  where
-    one : (W : List ℕ) → recordOf W (to .ids) (to .len) ≡ recordOf W (from .ids) (from .len) ++ (stmtAt W id ∷ [])
-    one W = ap₂ (λ k m. recordOf W k m) p q ∙ record-set W (from .ids) id n l h ∙ ap (λ k. k ++ (stmtAt W id ∷ [])) (whole W (from .ids) (from .len) n e)
-
-    pass : (W : List ℕ) → (if ltb (min (from .len) 512) 512 then recordOf W (from .ids) (from .len) ++ (stmtAt W id ∷ []) else recordOf W (from .ids) (from .len)) ≡ recordOf W (from .ids) (from .len) ++ (stmtAt W id ∷ [])
-    pass W = ap (λ b. if b then recordOf W (from .ids) (from .len) ++ (stmtAt W id ∷ []) else recordOf W (from .ids) (from .len)) (lt-ltb (min (from .len) 512) 512 (omega arith))

@@ -11,7 +11,6 @@ use native.Mathlib.Omega.{arith}
 use lib.Dec.{eqb}
 use lib.ListN.{length, getD, set, take, length-set, length-map, length-take}
 use lib.Seq.{sets, length-sets, take-all, getD-set-same, getD-set-other}
-use borrow.Author.Count.{below-more}
 use borrow.Author.Tests.{lt-ltb, le-ltb}
 use Rattle.protocol.specs.Lists.{if_then_else_}
 use Rattle.protocol.specs.View.{View}
@@ -19,14 +18,16 @@ use Rattle.protocol.specs.Statement.{Stmt}
 use Rattle.views.specs.declared.View as held
 use Rattle.views.specs.declared.History.{History}
 use Rattle.views.specs.Table.{table}
-use Rattle.views.specs.View.{viewOf}
+use Rattle.views.specs.View.{viewOf, viewIn}
 use Rattle.views.specs.Held.{viewIs, heldAt, viewsIs}
 use Rattle.views.proofs.Tables.{table-length, table-at, table-cong, take-table}
+use Rattle.views.proofs.Views.{view-whole}
+use Rattle.views.proofs.Held.{held-fits}
 use Rattle.statements.specs.declared.Statement.{Statement}
 use Rattle.statements.specs.Meaning.{firstViews, stmtOf}
 use Rattle.statements.proofs.FieldLaws.{views-table}
-use Rattle.pool.specs.Pool.{wordOf, headAt, word, viewWord, countOf, viewAt, stmtAt}
-use Rattle.pool.specs.Changes.{WroteViews, owner, Beside, headWord, putAt, Put, IsHead}
+use Rattle.pool.specs.Pool.{wordOf, viewsFrom, lastWord, poolWords, headAt, word, viewWord, countOf, viewAt, stmtAt}
+use Rattle.pool.specs.Changes.{owner, Beside, headWord, putAt, Put, IsHead}
 
 -- statements are the same if their fields are
 pub stmts : {a b : Stmt} → a .kind ≡ b .kind → a .origin ≡ b .origin → a .at ≡ b .at → a .view ≡ b .view → a .binding ≡ b .binding → a .payload ≡ b .payload → a .stored ≡ b .stored → a .kept ≡ b .kept → a .views ≡ b .views → a ≡ b
@@ -70,13 +71,24 @@ module _ (l : List ℕ) (s : ℕ) (f : ℕ → ℕ) where
 
 -- ---- the views
 
--- a word of 32 bits is that of its view
-pub word-back : (w : ℕ) → w < 4294967296 → w ≡ wordOf (viewOf w)
+-- a word of 64 bits is that of its view
+pub word-of : (w : ℕ) (v : View) → w < 18446744073709551616 → viewOf w ≡ v → w ≡ wordOf v
 unfolding viewOf
-word-back w l = omega arith
+word-of w v l e = back ∙ ap wordOf e
+  where
+    back : w ≡ wordOf (viewOf w)
+    back = omega arith
 
-pub word-of : (w : ℕ) (v : View) → w < 4294967296 → viewOf w ≡ v → w ≡ wordOf v
-word-of w v l e = word-back w l ∙ ap wordOf e
+-- the view of a struct comes back from its word
+pub word-in : (v : held.View) → viewIn (wordOf (viewIs v)) ≡ viewIs v
+unfolding viewIn
+word-in v i = record { joined = low i; left = high i }
+  where
+    low : wordOf (viewIs v) % 65536 ≡ viewIs v .joined
+    low = omega arith
+
+    high : wordOf (viewIs v) / 4294967296 % 65536 ≡ viewIs v .left
+    high = omega arith
 
 map-table : {A B : Type 0} (g : A → B) (n : ℕ) (f : ℕ → A) → map g (table n f) ≡ table n (λ i. g (f i))
 unfolding table
@@ -87,76 +99,78 @@ map-table g (suc n) f = map-append g (table n f) (f n ∷ []) ∙ ap (λ l. l ++
 abbrev pub heldWord : List held.View → ℕ → ℕ
 heldWord l p = wordOf (heldAt l p)
 
--- the first p views come back from their words
-pub record Back (l : List held.View) (p : ℕ) : Type 0 where
-  pub each : (q : ℕ) → q < p → viewOf (heldWord l q) ≡ heldAt l q
-
-pub back-none : (l : List held.View) → Back l 0
-back-none l = record { each = λ q m. absurd (omega arith) }
-
-pub back-more : (l : List held.View) (p w : ℕ) → w < 4294967296 → viewOf w ≡ heldAt l p → Back l p → Back l (p + 1)
-back-more l p w m e b = record { each = below-more (λ q. viewOf (heldWord l q) ≡ heldAt l q) p (b .each) (ap viewOf (sym (word-of w (heldAt l p) m e)) ∙ e) }
-
-pub wrote-views : (W W′ : List ℕ) (s p : ℕ) (h : History) → p ≡ min (h .len) 16 → W′ ≡ sets W s (table p (heldWord (h .views))) → Back (h .views) p → WroteViews W W′ s h
+pub wrote-views : (W W′ : List ℕ) (s p : ℕ) (h : History) → p ≡ min (h .len) 16 → W′ ≡ sets W s (table p (heldWord (h .views))) → W′ ≡ sets W s (map wordOf (viewsIs h))
 unfolding viewsIs
-wrote-views W W′ s p h e w b = record {
-  is = w ∙ ap (sets W s) (ap (λ n. table n (heldWord (h .views))) e ∙ sym (map-table wordOf (min (h .len) 16) (heldAt (h .views))));
-  back = λ q l. b .each q (omega arith);
-}
+wrote-views W W′ s p h e w = w ∙ ap (sets W s) (ap (λ n. table n (heldWord (h .views))) e ∙ sym (map-table wordOf (min (h .len) 16) (heldAt (h .views))))
 
--- ---- the head and the three columns
+-- ---- the head and the four columns
 
--- W with the head a at place s, and b, c and d in the columns
-abbrev pub rowIn : List ℕ → ℕ → ℕ → ℕ → ℕ → ℕ → List ℕ
-rowIn W s a b c d = set (set (set (set W s a) (s + 512) b) (s + 1024) c) (s + 1536) d
+-- W with the head a at place s, and t, b, c and d in the columns
+abbrev pub rowIn : List ℕ → ℕ → ℕ → ℕ → ℕ → ℕ → ℕ → List ℕ
+rowIn W s a t b c d = set (set (set (set (set W s a) (s + 512) t) (s + 1024) b) (s + 1536) c) (s + 2048) d
 
-module _ (W : List ℕ) (s a b c d : ℕ) where
+module _ (W : List ℕ) (s a t b c d : ℕ) where
   abbrev one : List ℕ
   one = set W s a
 
   abbrev two : List ℕ
-  two = set one (s + 512) b
+  two = set one (s + 512) t
 
   abbrev three : List ℕ
-  three = set two (s + 1024) c
+  three = set two (s + 1024) b
+
+  abbrev four : List ℕ
+  four = set three (s + 1536) c
 
   one-long : length one ≡ length W
   one-long = length-set W s a
 
   two-long : length two ≡ length W
-  two-long = length-set one (s + 512) b ∙ one-long
+  two-long = length-set one (s + 512) t ∙ one-long
 
   three-long : length three ≡ length W
-  three-long = length-set two (s + 1024) c ∙ two-long
+  three-long = length-set two (s + 1024) b ∙ two-long
 
-  pub row-long : length (rowIn W s a b c d) ≡ length W
-  row-long = length-set three (s + 1536) d ∙ three-long
+  four-long : length four ≡ length W
+  four-long = length-set three (s + 1536) c ∙ three-long
 
-  row-others : (i : ℕ) → (i ≡ s → ⊥) → (i ≡ s + 512 → ⊥) → (i ≡ s + 1024 → ⊥) → (i ≡ s + 1536 → ⊥) → getD (rowIn W s a b c d) i 0 ≡ getD W i 0
-  row-others i e f g h = getD-set-other three (s + 1536) i d 0 h ∙ getD-set-other two (s + 1024) i c 0 g ∙ getD-set-other one (s + 512) i b 0 f ∙ getD-set-other W s i a 0 e
+  pub row-long : length (rowIn W s a t b c d) ≡ length W
+  row-long = length-set four (s + 2048) d ∙ four-long
 
-  module _ (l : length W ≡ 10241) (m : s ≤ 511) where
-    row-head : getD (rowIn W s a b c d) s 0 ≡ a
-    row-head = getD-set-other three (s + 1536) s d 0 (λ e. omega arith) ∙ getD-set-other two (s + 1024) s c 0 (λ e. omega arith) ∙ getD-set-other one (s + 512) s b 0 (λ e. omega arith) ∙ getD-set-same W s a 0 (omega arith)
+  row-others : (i : ℕ) → (i ≡ s → ⊥) → (i ≡ s + 512 → ⊥) → (i ≡ s + 1024 → ⊥) → (i ≡ s + 1536 → ⊥) → (i ≡ s + 2048 → ⊥) → getD (rowIn W s a t b c d) i 0 ≡ getD W i 0
+  row-others i e f g h k =
+      getD-set-other four (s + 2048) i d 0 k ∙ getD-set-other three (s + 1536) i c 0 h ∙ getD-set-other two (s + 1024) i b 0 g ∙ getD-set-other one (s + 512) i t 0 f ∙ getD-set-other W s i a 0 e
 
-    row-view : getD (rowIn W s a b c d) (s + 512) 0 ≡ b
-    row-view = getD-set-other three (s + 1536) (s + 512) d 0 (λ e. omega arith) ∙ getD-set-other two (s + 1024) (s + 512) c 0 (λ e. omega arith) ∙ getD-set-same one (s + 512) b 0 (omega (arith, one-long))
+  module _ (l : length W ≡ poolWords) (m : s ≤ 511) where
+    row-head : getD (rowIn W s a t b c d) s 0 ≡ a
+    row-head =
+        getD-set-other four (s + 2048) s d 0 (λ e. omega arith) ∙ getD-set-other three (s + 1536) s c 0 (λ e. omega arith) ∙ getD-set-other two (s + 1024) s b 0 (λ e. omega arith)
+        ∙ getD-set-other one (s + 512) s t 0 (λ e. omega arith) ∙ getD-set-same W s a 0 (omega arith)
 
-    row-payload : getD (rowIn W s a b c d) (s + 1024) 0 ≡ c
-    row-payload = getD-set-other three (s + 1536) (s + 1024) d 0 (λ e. omega arith) ∙ getD-set-same two (s + 1024) c 0 (omega (arith, two-long))
+    row-at : getD (rowIn W s a t b c d) (s + 512) 0 ≡ t
+    row-at =
+        getD-set-other four (s + 2048) (s + 512) d 0 (λ e. omega arith) ∙ getD-set-other three (s + 1536) (s + 512) c 0 (λ e. omega arith) ∙ getD-set-other two (s + 1024) (s + 512) b 0 (λ e. omega arith)
+        ∙ getD-set-same one (s + 512) t 0 (omega (arith, one-long))
 
-    row-kept : getD (rowIn W s a b c d) (s + 1536) 0 ≡ d
-    row-kept = getD-set-same three (s + 1536) d 0 (omega (arith, three-long))
+    row-view : getD (rowIn W s a t b c d) (s + 1024) 0 ≡ b
+    row-view =
+        getD-set-other four (s + 2048) (s + 1024) d 0 (λ e. omega arith) ∙ getD-set-other three (s + 1536) (s + 1024) c 0 (λ e. omega arith) ∙ getD-set-same two (s + 1024) b 0 (omega (arith, two-long))
+
+    row-payload : getD (rowIn W s a t b c d) (s + 1536) 0 ≡ c
+    row-payload = getD-set-other four (s + 2048) (s + 1536) d 0 (λ e. omega arith) ∙ getD-set-same three (s + 1536) c 0 (omega (arith, three-long))
+
+    row-kept : getD (rowIn W s a t b c d) (s + 2048) 0 ≡ d
+    row-kept = getD-set-same four (s + 2048) d 0 (omega (arith, four-long))
 
 -- ---- whose word it is
 
-pub owner-low : (i : ℕ) → i < 2048 → owner i ≡ i % 512
+pub owner-low : (i : ℕ) → i < viewsFrom → owner i ≡ i % 512
 unfolding owner
-owner-low i l = ap (λ b. if b then i % 512 else (i - 2048) / 16) (lt-ltb i 2048 l)
+owner-low i l = ap (λ b. if b then i % 512 else (i - viewsFrom) / 16) (lt-ltb i viewsFrom l)
 
-pub owner-high : (i : ℕ) → 2048 ≤ i → owner i ≡ (i - 2048) / 16
+pub owner-high : (i : ℕ) → viewsFrom ≤ i → owner i ≡ (i - viewsFrom) / 16
 unfolding owner
-owner-high i l = ap (λ b. if b then i % 512 else (i - 2048) / 16) (le-ltb i 2048 l)
+owner-high i l = ap (λ b. if b then i % 512 else (i - viewsFrom) / 16) (le-ltb i viewsFrom l)
 
 -- ---- a whole statement
 
@@ -169,14 +183,15 @@ kept-views h = elim (decLt (h .len) 16) [
 ] ∙ ap (take 16) (sym (views-table (h .len) (h .views)))
 
 -- word by word it is the memory with the statement
-put-at : (W : List ℕ) (n s a b c d : ℕ) (vs : List ℕ) (x : Stmt) → s ≡ n → a ≡ headWord x → b ≡ wordOf (x .view) → c ≡ x .payload → d ≡ x .kept → vs ≡ map wordOf (take 16 (x .views))
-    → sets (rowIn W s a b c d) (2048 + s * 16) vs ≡ putAt W n x
+put-at : (W : List ℕ) (n s a t b c d : ℕ) (vs : List ℕ) (x : Stmt) → s ≡ n → a ≡ headWord x → t ≡ wordOf (x .at) → b ≡ wordOf (x .view) → c ≡ x .payload → d ≡ x .kept → vs ≡ map wordOf (take 16 (x .views))
+    → sets (rowIn W s a t b c d) (viewsFrom + s * 16) vs ≡ putAt W n x
 unfolding putAt
-put-at W n s a b c d vs x e f g h k m i = sets (rowIn W (e i) (f i) (g i) (h i) (k i)) (2048 + e i * 16) (m i)
+put-at W n s a t b c d vs x e f j g h k m i = sets (rowIn W (e i) (f i) (j i) (g i) (h i) (k i)) (viewsFrom + e i * 16) (m i)
 
-module _ (W U : List ℕ) (n s : ℕ) (st : Statement) (a b c d : ℕ) (long : length W ≡ 10241) (e : s ≡ min n 511) (v : WroteViews (rowIn W s a b c d) U (2048 + s * 16) (st .history)) where
+module _ (W U : List ℕ) (n s : ℕ) (st : Statement) (a t b c d : ℕ) (long : length W ≡ poolWords) (e : s ≡ min n 511)
+    (v : U ≡ sets (rowIn W s a t b c d) (viewsFrom + s * 16) (map wordOf (viewsIs (st .history)))) where
   abbrev row : List ℕ
-  row = rowIn W s a b c d
+  row = rowIn W s a t b c d
 
   low : s ≤ 511
   low = omega arith
@@ -193,48 +208,49 @@ module _ (W U : List ℕ) (n s : ℕ) (st : Statement) (a b c d : ℕ) (long : l
   words-long = ap length words-are ∙ table-length (min (st .history .len) 16) (heldWord (st .history .views))
 
   -- a word of the columns is as the row has it
-  column-is : (i x : ℕ) → i < 2048 → getD row i 0 ≡ x → getD U i 0 ≡ x
+  column-is : (i x : ℕ) → i < viewsFrom → getD row i 0 ≡ x → getD U i 0 ≡ x
   unfolding words
-  column-is i x l q = ap (λ l. getD l i 0) (v .is) ∙ sets-outside words row (2048 + s * 16) i (inl (omega arith)) ∙ q
+  column-is i x l q = ap (λ l. getD l i 0) v ∙ sets-outside words row (viewsFrom + s * 16) i (inl (omega arith)) ∙ q
 
   head-is : headAt U n ≡ a
   unfolding headAt
-  head-is = ap (λ x. getD U x 0) (sym e) ∙ column-is s a (omega arith) (row-head W s a b c d long low)
+  head-is = ap (λ x. getD U x 0) (sym e) ∙ column-is s a (omega arith) (row-head W s a t b c d long low)
 
-  word-is : (f x : ℕ) → f ≤ 1536 → getD row (s + f) 0 ≡ x → word U n f ≡ x
+  word-is : (f x : ℕ) → f ≤ 2048 → getD row (s + f) 0 ≡ x → word U n f ≡ x
   unfolding word
   word-is f x l q = ap (λ x. getD U (x + f) 0) (sym e) ∙ column-is (s + f) x (omega arith) q
 
   view-is : (p : ℕ) → p < min (st .history .len) 16 → viewAt U n p ≡ heldAt (st .history .views) p
   unfolding viewWord words
   view-is p l =
-      ap (λ x. viewOf (getD U (2048 + x * 16 + p) 0)) (sym e)
-      ∙ ap viewOf
-      (ap (λ l. getD l (2048 + s * 16 + p) 0) (v .is) ∙ sets-inside words row (2048 + s * 16) p (omega (arith, words-long)) (omega (arith, words-long, row-long W s a b c d))
+      ap (λ x. viewIn (getD U (viewsFrom + x * 16 + p) 0)) (sym e)
+      ∙ ap viewIn
+      (ap (λ l. getD l (viewsFrom + s * 16 + p) 0) v ∙ sets-inside words row (viewsFrom + s * 16) p (omega (arith, words-long)) (omega (arith, words-long, row-long W s a t b c d))
       ∙ ap (λ l. getD l p 0) words-are ∙ table-at (min (st .history .len) 16) (heldWord (st .history .views)) 0 p l)
-      ∙ v .back p l
+      ∙ word-in (getD (st .history .views) p _)
 
-  there : IsHead a (stmtOf st) (min (st .history .len) 16) → viewOf b ≡ viewIs (st .view) → c ≡ stmtOf st .payload → d ≡ st .kept → st .history .len ≤ 16 → stmtAt U n ≡ stmtOf st
+  there : IsHead a (stmtOf st) (min (st .history .len) 16) → viewOf t ≡ viewIs (st .at) → viewOf b ≡ viewIs (st .view) → c ≡ stmtOf st .payload → d ≡ st .kept → st .history .len ≤ 16 → stmtAt U n ≡ stmtOf st
   unfolding stmtAt stmtOf countOf
-  there h vb pc kd l =
+  there h vt vb pc kd l =
       stmts
       (ap (λ x. x % 256) head-is ∙ h .kind)
       (ap (λ x. x / 256 % 256) head-is ∙ h .origin)
-      (ap (λ x. viewOf (x / 65536)) head-is ∙ h .at)
-      (ap viewOf (word-is 512 b (omega arith) (row-view W s a b c d long low)) ∙ vb)
-      (ap (λ x. min (x / 72057594037927936 % 16) 2) head-is ∙ h .binding)
-      (word-is 1024 c (omega arith) (row-payload W s a b c d long low) ∙ pc)
-      (ap (λ x. min (x / 1152921504606846976) 1) head-is ∙ h .stored)
-      (word-is 1536 d (omega arith) (row-kept W s a b c d long low) ∙ kd)
-      (ap (λ x. table (min (x / 281474976710656 % 256) 16) (viewAt U n)) head-is
+      (ap viewIn (word-is 512 t (omega arith) (row-at W s a t b c d long low)) ∙ view-whole t vt (held-fits (st .at)))
+      (ap viewIn (word-is 1024 b (omega arith) (row-view W s a t b c d long low)) ∙ view-whole b vb (held-fits (st .view)))
+      (ap (λ x. min (x / 4294967296 % 256) 2) head-is ∙ h .binding)
+      (word-is 1536 c (omega arith) (row-payload W s a t b c d long low) ∙ pc)
+      (ap (λ x. min (x / 1099511627776 % 256) 1) head-is ∙ h .stored)
+      (word-is 2048 d (omega arith) (row-kept W s a t b c d long low) ∙ kd)
+      (ap (λ x. table (min (x / 16777216 % 256) 16) (viewAt U n)) head-is
       ∙ ap (λ k. table k (viewAt U n)) (h .count ∙ (let q : min (st .history .len) 16 ≡ st .history .len = omega arith in q))
       ∙ table-cong (st .history .len) (viewAt U n) (heldAt (st .history .views)) (λ p m. view-is p (omega arith)) ∙ sym (views-table (st .history .len) (st .history .views)))
 
-  pub put-is : (a ≡ headWord (stmtOf st)) × IsHead a (stmtOf st) (min (st .history .len) 16) → b < 4294967296 → viewOf b ≡ viewIs (st .view) → c ≡ stmtOf st .payload → d ≡ st .kept → Put W U n st
+  pub put-is : (a ≡ headWord (stmtOf st)) × IsHead a (stmtOf st) (min (st .history .len) 16) → t < 18446744073709551616 → viewOf t ≡ viewIs (st .at) → b < 18446744073709551616 → viewOf b ≡ viewIs (st .view)
+      → c ≡ stmtOf st .payload → d ≡ st .kept → Put W U n st
   unfolding stmtOf
-  put-is h lb vb pc kd = record {
-    is = v .is ∙ put-at W (min n 511) s a b c d (map wordOf (viewsIs (st .history))) (stmtOf st) e (h .0) (word-of b (viewIs (st .view)) lb vb) pc kd (ap (map wordOf) (kept-views (st .history)));
-    there = there (h .1) vb pc kd;
+  put-is h lt vt lb vb pc kd = record {
+    is = v ∙ put-at W (min n 511) s a t b c d (map wordOf (viewsIs (st .history))) (stmtOf st) e (h .0) (word-of t (viewIs (st .at)) lt vt) (word-of b (viewIs (st .view)) lb vb) pc kd (ap (map wordOf) (kept-views (st .history)));
+    there = there (h .1) vt vb pc kd;
   }
 
 -- ---- what changes besides
@@ -242,13 +258,14 @@ module _ (W U : List ℕ) (n s : ℕ) (st : Statement) (a b c d : ℕ) (long : l
 pub beside-put : (W : List ℕ) (n : ℕ) (s : Stmt) → n ≤ 511 → Beside W (putAt W n s) n
 unfolding putAt
 beside-put W n s m = record {
-  long = length-sets row (2048 + n * 16) vs ∙ row-long W n (headWord s) (wordOf (s .view)) (s .payload) (s .kept);
-  others = λ i o k. sets-outside vs row (2048 + n * 16) i (far i o (decLt i (2048 + n * 16)))
-      ∙ row-others W n (headWord s) (wordOf (s .view)) (s .payload) (s .kept) i (λ e. o (own i 0 (omega arith) (omega arith))) (λ e. o (own i 512 (omega arith) e)) (λ e. o (own i 1024 (omega arith) e)) (λ e. o (own i 1536 (omega arith) e));
+  long = length-sets row (viewsFrom + n * 16) vs ∙ row-long W n (headWord s) (wordOf (s .at)) (wordOf (s .view)) (s .payload) (s .kept);
+  others = λ i o k. sets-outside vs row (viewsFrom + n * 16) i (far i o (decLt i (viewsFrom + n * 16)))
+      ∙ row-others W n (headWord s) (wordOf (s .at)) (wordOf (s .view)) (s .payload) (s .kept) i (λ e. o (own i 0 (omega arith) (omega arith))) (λ e. o (own i 512 (omega arith) e)) (λ e. o (own i 1024 (omega arith) e))
+      (λ e. o (own i 1536 (omega arith) e)) (λ e. o (own i 2048 (omega arith) e));
 }
   where
     row : List ℕ
-    row = rowIn W n (headWord s) (wordOf (s .view)) (s .payload) (s .kept)
+    row = rowIn W n (headWord s) (wordOf (s .at)) (wordOf (s .view)) (s .payload) (s .kept)
 
     vs : List ℕ
     vs = map wordOf (take 16 (s .views))
@@ -256,16 +273,16 @@ beside-put W n s m = record {
     few : length vs ≤ 16
     few = omega (arith, length-map (take 16 (s .views)) wordOf, length-take 16 (s .views))
 
-    own : (i f : ℕ) → (f ≤ 1536) × (f % 512 ≡ 0) → i ≡ n + f → owner i ≡ n
+    own : (i f : ℕ) → (f ≤ 2048) × (f % 512 ≡ 0) → i ≡ n + f → owner i ≡ n
     own i f l e = omega (arith, owner-low i (omega arith))
 
-    far : (i : ℕ) → (owner i ≡ n → ⊥) → Dec (i < 2048 + n * 16) → (i < 2048 + n * 16) ⊎ (2048 + n * 16 + length vs ≤ i)
+    far : (i : ℕ) → (owner i ≡ n → ⊥) → Dec (i < viewsFrom + n * 16) → (i < viewsFrom + n * 16) ⊎ (viewsFrom + n * 16 + length vs ≤ i)
     far i o (yes l) = inl l
-    far i o (no l) = elim (decLt i (2048 + n * 16 + 16)) [ yes h ↦ absurd (o (omega (arith, owner-high i (omega arith)))) | no h ↦ inr (omega (arith, few)) ]
+    far i o (no l) = elim (decLt i (viewsFrom + n * 16 + 16)) [ yes h ↦ absurd (o (omega (arith, owner-high i (omega arith)))) | no h ↦ inr (omega (arith, few)) ]
 
 -- the number of statements is of none
-pub beside-count : (W U : List ℕ) (n v : ℕ) → Beside W U n → Beside W (set U 10240 v) n
-beside-count W U n v b = record { long = length-set U 10240 v ∙ b .long; others = λ i o k. getD-set-other U 10240 i v 0 k ∙ b .others i o k }
+pub beside-count : (W U : List ℕ) (n v : ℕ) → Beside W U n → Beside W (set U lastWord v) n
+beside-count W U n v b = record { long = length-set U lastWord v ∙ b .long; others = λ i o k. getD-set-other U lastWord i v 0 k ∙ b .others i o k }
 
 pub beside-same : (W : List ℕ) (n : ℕ) → Beside W W n
 beside-same W n = record { long = refl; others = λ i o k. refl }

@@ -2,17 +2,16 @@
 -- Every word after it is fixed: a statement is written in one way, and no other word changes, not even a place after its last view.
 -- Assumes nothing.
 use mathlib.Core.Path.{_≡_}
-use mathlib.Core.Bool.{_||_}
+use mathlib.Core.Bool.{Bool, not, _||_}
 use mathlib.Core.List.{List, _∷_, [], _++_, map}
 use mathlib.Core.Option.{Option, some, none}
 use Prim.Native.Nat.{ℕ, _+_, _-_, _*_, _/_, _%_, _≤_, _<_, min}
-use lib.Dec.{leb, ltb}
+use lib.Dec.{eqb, leb, ltb}
 use lib.ListN.{length, getD, set, take}
 use lib.Seq.{sets}
 use Rattle.protocol.specs.Lists.{if_then_else_, find, isSome}
+use Rattle.protocol.specs.View.{sameView}
 use Rattle.protocol.specs.Statement.{Stmt, sameStmt}
-use Rattle.views.specs.declared.History.{History}
-use Rattle.views.specs.Held.{heldAt, viewsIs}
 use Rattle.views.specs.Table.{table}
 use Rattle.views.specs.View.{viewOf}
 use Rattle.statements.specs.declared.Statement.{Statement}
@@ -21,35 +20,34 @@ use Rattle.pool.specs.declared.Found.{Found}
 use Rattle.pool.specs.declared.Found.the-variants as found
 use Rattle.pool.specs.declared.Placed.{Placed}
 use Rattle.pool.specs.declared.Placed.the-variants as placed
-use Rattle.pool.specs.declared.Record.{Record}
-use Rattle.pool.specs.Pool.{wordOf, stmtAt, poolLen, recordOf}
-
--- The views of h went into the words from s on, and come back from them.
-pub record WroteViews (W W′ : List ℕ) (s : ℕ) (h : History) : Type 0 where
-  pub is : W′ ≡ sets W s (map wordOf (viewsIs h))
-  pub back : (p : ℕ) → p < min (h .len) 16 → viewOf (wordOf (heldAt (h .views) p)) ≡ heldAt (h .views) p
+use Rattle.pool.specs.Pool.{wordOf, viewsFrom, lastWord, poolWords, stmtAt, poolLen, poolOf, recordLen, recordIn}
 
 -- The statement that word i is of. It is 512 for the number of statements, which is of none.
 unfoldable pub owner : ℕ → ℕ
-owner i = if ltb i 2048 then i % 512 else (i - 2048) / 16
+owner i = if ltb i viewsFrom then i % 512 else (i - viewsFrom) / 16
 
 -- No word changed but those of statement n and the number of statements.
 pub record Beside (W W′ : List ℕ) (n : ℕ) : Type 0 where
   pub long : length W′ ≡ length W
-  pub others : (i : ℕ) → (owner i ≡ n → ⊥) → (i ≡ 10240 → ⊥) → getD W′ i 0 ≡ getD W i 0
+  pub others : (i : ℕ) → (owner i ≡ n → ⊥) → (i ≡ lastWord → ⊥) → getD W′ i 0 ≡ getD W i 0
 
--- Kind, origin and at of a statement in one number.
+-- Kind and origin of a statement in one number.
 unfoldable pub headOf : Stmt → ℕ
-headOf s = s .kind + s .origin * 256 + wordOf (s .at) * 65536
+headOf s = s .kind + s .origin * 256
+
+-- The statement s has another kind or origin than the number key, or another at than the word t.
+unfoldable pub isOther : Stmt → ℕ → ℕ → Bool
+isOther s key t = not (eqb (headOf s) key) || not (sameView (s .at) (viewOf t))
 
 -- The head of a statement. Of more than 16 views it counts 16.
 unfoldable pub headWord : Stmt → ℕ
-headWord s = headOf s + min (length (s .views)) 16 * 281474976710656 + s .binding * 72057594037927936 + s .stored * 1152921504606846976
+headWord s = headOf s + min (length (s .views)) 16 * 16777216 + s .binding * 4294967296 + s .stored * 1099511627776
 
 -- The memory W with s as statement n. Of more than 16 views only 16 are kept.
 unfoldable pub putAt : List ℕ → ℕ → Stmt → List ℕ
 putAt W n s =
-    sets (set (set (set (set W n (headWord s)) (n + 512) (wordOf (s .view))) (n + 1024) (s .payload)) (n + 1536) (s .kept)) (2048 + n * 16) (map wordOf (take 16 (s .views)))
+    sets (set (set (set (set (set W n (headWord s)) (n + 512) (wordOf (s .at))) (n + 1024) (wordOf (s .view))) (n + 1536) (s .payload)) (n + 2048) (s .kept)) (viewsFrom + n * 16)
+    (map wordOf (take 16 (s .views)))
 
 -- Statement n is st now. A number above 511 counts as 511.
 pub record Put (W W′ : List ℕ) (n : ℕ) (st : Statement) : Type 0 where
@@ -60,10 +58,9 @@ pub record Put (W W′ : List ℕ) (n : ℕ) (st : Statement) : Type 0 where
 pub record IsHead (w : ℕ) (s : Stmt) (c : ℕ) : Type 0 where
   pub kind : w % 256 ≡ s .kind
   pub origin : w / 256 % 256 ≡ s .origin
-  pub at : viewOf (w / 65536) ≡ s .at
-  pub count : min (w / 281474976710656 % 256) 16 ≡ c
-  pub binding : min (w / 72057594037927936 % 16) 2 ≡ s .binding
-  pub stored : min (w / 1152921504606846976) 1 ≡ s .stored
+  pub count : min (w / 16777216 % 256) 16 ≡ c
+  pub binding : min (w / 4294967296 % 256) 2 ≡ s .binding
+  pub stored : min (w / 1099511627776 % 256) 1 ≡ s .stored
 
 -- The first number of the pool whose statement is s.
 unfoldable pub numberOf : List ℕ → Stmt → Option ℕ
@@ -80,7 +77,7 @@ placedAt (some i) n = placed.At i
 
 -- The memory W after s went into its pool: as before where s was in it or it is full.
 unfoldable pub pooledIn : List ℕ → Stmt → List ℕ
-pooledIn W s = if isSome (numberOf W s) || leb 512 (poolLen W) then W else set (putAt W (poolLen W) s) 10240 (poolLen W + 1)
+pooledIn W s = if isSome (numberOf W s) || leb 512 (poolLen W) then W else set (putAt W (poolLen W) s) lastWord (poolLen W + 1)
 
 -- One statement more, which is st, and all others as before.
 pub record Grown (W W′ : List ℕ) (st : Statement) : Type 0 where
@@ -97,10 +94,29 @@ pub record Appended (W W′ : List ℕ) (st : Statement) (r : Placed) : Type 0 w
   pub full : 512 ≤ poolLen W → W′ ≡ W
   pub new : numberOf W (stmtOf st) ≡ none → poolLen W < 512 → Grown W W′ st
 
--- The number id at the end of a record, if that has room.
-pub record Pushed (from : Record) (id : ℕ) (to : Record) : Type 0 where
-  pub len : to .len ≡ min (min (from .len) 512 + 1) 512
-  pub first : (i : ℕ) → i < min (from .len) 512 → getD (to .ids) i 0 ≡ getD (from .ids) i 0
-  pub last : min (from .len) 512 < 512 → getD (to .ids) (min (from .len) 512) 0 ≡ id
-  pub means : (W : List ℕ)
-      → recordOf W (to .ids) (to .len) ≡ (if ltb (min (from .len) 512) 512 then recordOf W (from .ids) (from .len) ++ (stmtAt W id ∷ []) else recordOf W (from .ids) (from .len))
+-- The pool is empty now: the number of its statements was set to 0.
+pub record Cleared (W W′ : List ℕ) : Type 0 where
+  pub is : W′ ≡ set W lastWord 0
+  pub long : length W′ ≡ poolWords
+  pub len : poolLen W′ ≡ 0
+  pub none : poolOf W′ ≡ []
+
+-- The memory of a record with the number id at its end. One of 512 stays as it is.
+unfoldable pub pushedTo : List ℕ → ℕ → List ℕ
+pushedTo R id = if ltb (recordLen R) 512 then set (set R (recordLen R) id) 512 (recordLen R + 1) else R
+
+-- The number id went to the end of the record R, if that had room; every place of its memory is fixed.
+pub record PushedTo (R : List ℕ) (id : ℕ) (R′ : List ℕ) : Type 0 where
+  pub is : R′ ≡ pushedTo R id
+  pub long : length R′ ≡ 513
+  pub len : recordLen R′ ≡ min (recordLen R + 1) 512
+  pub first : (i : ℕ) → i < recordLen R → getD R′ i 0 ≡ getD R i 0
+  pub last : recordLen R < 512 → getD R′ (recordLen R) 0 ≡ id
+  pub means : (W : List ℕ) → recordIn W R′ ≡ (if ltb (recordLen R) 512 then recordIn W R ++ (stmtAt W id ∷ []) else recordIn W R)
+
+-- The record is empty now: its count was set to 0.
+pub record Emptied (R R′ : List ℕ) : Type 0 where
+  pub is : R′ ≡ set R 512 0
+  pub long : length R′ ≡ 513
+  pub len : recordLen R′ ≡ 0
+  pub none : (W : List ℕ) → recordIn W R′ ≡ []

@@ -1,6 +1,5 @@
 // What the views of one statement are, and whether two statements have the same.
 ghost use mathlib.Core.Path.{_≡_};
-ghost use mathlib.Core.List.{[], _∷_};
 ghost use Rattle.protocol.specs.Lists.{any};
 ghost use Rattle.protocol.specs.View.{sameView};
 ghost use Rattle.protocol.specs.History.{sameViews, isHistory, top};
@@ -28,7 +27,7 @@ pub fn same_views(words: &[u64; POOL_WORDS], i: u16, j: u16) -> bool
 }
 
 // The top of the views of statement n.
-pub fn top_view(words: &[u64; POOL_WORDS], n: u16, init: u32) -> u32
+pub fn top_view(words: &[u64; POOL_WORDS], n: u16, init: u64) -> u64
     ensures { λ r. ⌜ viewOf r ≡ top (ring init) (stmtAt (now (words .entry)) n .views) ⌝ }
 {
     let c = read::count(words, n);
@@ -39,7 +38,7 @@ pub fn top_view(words: &[u64; POOL_WORDS], n: u16, init: u32) -> u32
 }
 
 // Whether t is one of the views of statement n.
-pub fn has_view(words: &[u64; POOL_WORDS], n: u16, t: u32) -> bool
+pub fn has_view(words: &[u64; POOL_WORDS], n: u16, t: u64) -> bool
     ensures { λ r. ⌜ r ≡ any (sameView (viewOf t)) (stmtAt (now (words .entry)) n .views) ⌝ }
 {
     let c = read::count(words, n);
@@ -53,18 +52,8 @@ pub fn has_view(words: &[u64; POOL_WORDS], n: u16, t: u32) -> bool
     false
 }
 
-// Whether the views of statement n are the initial view alone.
-pub fn is_start(words: &[u64; POOL_WORDS], n: u16, init: u32) -> bool
-    ensures { λ r. ⌜ r ≡ sameViews (stmtAt (now (words .entry)) n .views) (viewOf init ∷ []) ⌝ }
-{
-    if read::count(words, n) != 1 {
-        return false;
-    }
-    read::nth(words, n, 0) == init
-}
-
 // Whether the views of statement n are a history.
-pub fn is_history(words: &[u64; POOL_WORDS], n: u16, init: u32) -> bool
+pub fn is_history(words: &[u64; POOL_WORDS], n: u16, init: u64) -> bool
     ensures { λ r. ⌜ r ≡ isHistory (ring init) (stmtAt (now (words .entry)) n .views) ⌝ }
 {
     let c = read::count(words, n);

@@ -7,12 +7,12 @@ mod write;
 
 pub use compare::has_view;
 pub use compare::is_history;
-pub use compare::is_start;
 pub use compare::same_views;
 pub use compare::top_view;
-pub use listed::holds;
-pub use listed::push;
-pub use listed::record_has;
+pub use listed::record_clear;
+pub use listed::record_holds;
+pub use listed::record_length;
+pub use listed::record_push;
 pub use read::at;
 pub use read::binding;
 pub use read::count;
@@ -29,11 +29,29 @@ pub use seek::append;
 pub use seek::find;
 pub use seek::same_at;
 use views::View;
+pub use write::clear;
 pub use write::get;
 pub use write::put;
 
-// 512 statements of 4 words and a history's most views each, and how many there are.
-pub const POOL_WORDS: usize = 512 * (4 + View::LIMIT) + 1;
+// Where the columns after the heads start: a word of each of 512 statements.
+const AT: usize = 512;
+
+const VIEW: usize = 1024;
+
+const PAYLOAD: usize = 1536;
+
+const KEPT: usize = 2048;
+
+// Where the views start: a history's most views of each statement.
+const VIEWS: usize = 2560;
+
+// Where the number of statements is.
+const LAST: usize = VIEWS + 512 * View::LIMIT;
+
+pub const POOL_WORDS: usize = LAST + 1;
+
+// A record in memory: 512 numbers of statements, and how many of them count. A count above 512 counts as 512.
+pub const RECORD: usize = 513;
 
 // Where a statement is.
 pub enum Found {
@@ -45,10 +63,4 @@ pub enum Found {
 pub enum Placed {
     At(u16),
     Full,
-}
-
-// A list of pool numbers: the first `len` count, and a len above 512 counts as 512.
-pub struct Record {
-    pub ids: [u16; 512],
-    pub len: usize,
 }

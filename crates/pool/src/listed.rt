@@ -3,24 +3,41 @@ ghost use mathlib.Core.Path.{_≡_};
 ghost use Rattle.protocol.specs.Lists.{any};
 ghost use Rattle.protocol.specs.Statement.{sameStmt};
 ghost use Rattle.statements.specs.Meaning.{stmtOf};
-ghost use Rattle.pool.specs.Pool.{recordOf};
-ghost use Rattle.pool.specs.Changes.{Pushed};
+ghost use Prim.Native.Nat.{_≤_};
+ghost use lib.ListN.{length};
+ghost use Rattle.pool.specs.Pool.{recordLen, recordIn};
+ghost use Rattle.pool.specs.Changes.{PushedTo, Emptied};
 use crate::POOL_WORDS;
-use crate::Record;
+use crate::RECORD;
 use crate::read;
 use crate::seek;
 use statements::Statement;
 
-// Whether the record of the first len numbers holds st.
-pub fn holds(words: &[u64; POOL_WORDS], ids: &[u16; 512], len: usize, st: Statement) -> bool
-    ensures { λ r. ⌜ r ≡ any (sameStmt (stmtOf st)) (recordOf (now (words .entry)) (now (ids .entry)) len) ⌝ }
+fn wide(x: u16) -> usize
+    ensures { λ r. ⌜ r ≡ x ⌝ }
 {
-    let end = read::limit(len);
+    x as usize
+}
+
+// How many statements a record in memory has.
+pub fn record_length(ids: &[u16; RECORD]) -> usize
+    ensures { λ r. ⌜ (r ≡ recordLen (now (ids .entry))) × (r ≤ 512) ⌝ }
+{
+    read::limit(wide(ids[512]))
+}
+
+// Whether a record in memory holds st.
+pub fn record_holds(words: &[u64; POOL_WORDS], ids: &[u16; RECORD], st: Statement) -> bool
+    ensures { λ r. ⌜ r ≡ any (sameStmt (stmtOf st)) (recordIn (now (words .entry)) (now (ids .entry))) ⌝ }
+{
+    let end = record_length(ids);
     let key = seek::head_of(st);
+    let at = st.at;
+    let t = at.word();
     let mut i = 0usize;
     while i < end {
         let n = ids[i];
-        if read::head(words, n) != key {
+        if seek::is_other(words, n, key, t) {
             i += 1;
             continue;
         }
@@ -32,25 +49,31 @@ pub fn holds(words: &[u64; POOL_WORDS], ids: &[u16; 512], len: usize, st: Statem
     false
 }
 
-// Whether a record holds st.
-pub fn record_has(words: &[u64; POOL_WORDS], rec: Record, st: Statement) -> bool
-    ensures { λ r. ⌜ r ≡ any (sameStmt (stmtOf st)) (recordOf (now (words .entry)) (rec .ids) (rec .len)) ⌝ }
+// How many numbers the memory of a record has. A proof that one was written asks for it.
+fn room(ids: &[u16; RECORD]) -> usize
+    ensures { λ r. ⌜ length (now (ids .entry)) ≡ 513 ⌝ }
 {
-    let ids = rec.ids;
-    holds(words, &ids, rec.len, st)
+    let s = &ids[..];
+    s.len()
 }
 
-// The number id at the end of a record. A record of 512 stays as it is.
-pub fn push(rec: Record, id: u16) -> Record
-    ensures { λ r. ⌜ Pushed rec id r ⌝ }
+// The number id at the end of a record in memory. A record of 512 stays as it is.
+pub fn record_push(ids: &mut [u16; RECORD], id: u16)
+    ensures { λ _. ⌜ PushedTo (now (ids .entry)) id (now (ids .exit)) ⌝ }
 {
-    let n = read::limit(rec.len);
-    let mut out = rec;
-    out.len = n;
+    room(ids);
+    let n = record_length(ids);
     if n >= 512 {
-        return out;
+        return;
     }
-    out.ids[n] = id;
-    out.len = n + 1;
-    out
+    ids[n] = id;
+    ids[512] = n as u16 + 1;
+}
+
+// An empty record.
+pub fn record_clear(ids: &mut [u16; RECORD])
+    ensures { λ _. ⌜ Emptied (now (ids .entry)) (now (ids .exit)) ⌝ }
+{
+    room(ids);
+    ids[512] = 0;
 }

@@ -5,14 +5,20 @@ ghost use Prim.Native.Nat.{_<_, _≤_, min};
 ghost use lib.ListN.{length};
 ghost use Rattle.protocol.specs.Statement.{Stmt};
 ghost use Rattle.views.specs.View.{viewOf};
-ghost use Rattle.pool.specs.Pool.{headAt, word, viewAt, stmtAt, countOf, poolLen};
+ghost use Rattle.pool.specs.Pool.{viewsFrom, poolWords, headAt, word, viewAt, stmtAt, countOf, poolLen};
 ghost use Rattle.pool.specs.Changes.{headOf};
+use crate::AT;
+use crate::KEPT;
+use crate::LAST;
+use crate::PAYLOAD;
 use crate::POOL_WORDS;
+use crate::VIEW;
+use crate::VIEWS;
 use views::View;
 
 // How many words the memory has. A proof that a word was written asks for it.
 pub fn size(words: &[u64; POOL_WORDS]) -> usize
-    ensures { λ r. ⌜ (r ≡ 10241) × (length (now (words .entry)) ≡ 10241) ⌝ }
+    ensures { λ r. ⌜ (r ≡ poolWords) × (length (now (words .entry)) ≡ poolWords) ⌝ }
 {
     let s = &words[..];
     s.len()
@@ -38,7 +44,7 @@ fn head_word(words: &[u64; POOL_WORDS], n: u16) -> u64
 
 // The word of statement n in the column that starts at word f.
 fn field(words: &[u64; POOL_WORDS], n: u16, f: usize) -> u64
-    requires { ⌜ f < 2048 ⌝ }
+    requires { ⌜ f < viewsFrom ⌝ }
     ensures { λ r. ⌜ r ≡ word (now (words .entry)) n f ⌝ }
 {
     words[slot(n) + f]
@@ -59,13 +65,13 @@ pub fn origin(words: &[u64; POOL_WORDS], n: u16) -> u64
 pub fn payload(words: &[u64; POOL_WORDS], n: u16) -> u64
     ensures { λ r. ⌜ r ≡ stmtAt (now (words .entry)) n .payload ⌝ }
 {
-    field(words, n, 1024)
+    field(words, n, PAYLOAD)
 }
 
 pub fn kept(words: &[u64; POOL_WORDS], n: u16) -> u64
     ensures { λ r. ⌜ r ≡ stmtAt (now (words .entry)) n .kept ⌝ }
 {
-    field(words, n, 1536)
+    field(words, n, KEPT)
 }
 
 // What x stands for where it is at most `most`.
@@ -91,57 +97,50 @@ pub fn flag(yes: bool) -> u64
 pub fn binding(words: &[u64; POOL_WORDS], n: u16) -> u64
     ensures { λ r. ⌜ (r ≡ stmtAt (now (words .entry)) n .binding) × (r ≤ 2) ⌝ }
 {
-    let w = head_word(words, n) / 72057594037927936 % 16;
+    let w = head_word(words, n) / 4294967296 % 256;
     capped(w, 2)
 }
 
 pub fn stored(words: &[u64; POOL_WORDS], n: u16) -> u64
     ensures { λ r. ⌜ (r ≡ stmtAt (now (words .entry)) n .stored) × (r ≤ 1) ⌝ }
 {
-    let w = head_word(words, n) / 1152921504606846976;
+    let w = head_word(words, n) / 1099511627776 % 256;
     capped(w, 1)
 }
 
-// The view in the low 32 bits of w.
-fn low_view(w: u64) -> u32
-    ensures { λ r. ⌜ viewOf r ≡ viewOf w ⌝ }
-{
-    (w % 4294967296) as u32
-}
-
-pub fn at(words: &[u64; POOL_WORDS], n: u16) -> u32
+pub fn at(words: &[u64; POOL_WORDS], n: u16) -> u64
     ensures { λ r. ⌜ viewOf r ≡ stmtAt (now (words .entry)) n .at ⌝ }
 {
-    low_view(head_word(words, n) / 65536)
+    views::narrow(field(words, n, AT))
 }
 
-// Kind, origin and at of statement n in one number, for a search that passes over most: of three comparisons, the first would often be guessed wrong.
+// Kind and origin of statement n in one number.
 pub fn head(words: &[u64; POOL_WORDS], n: u16) -> u64
     ensures { λ r. ⌜ r ≡ headOf (stmtAt (now (words .entry)) n) ⌝ }
 {
-    head_word(words, n) % 281474976710656
+    head_word(words, n) % 65536
 }
 
-pub fn view(words: &[u64; POOL_WORDS], n: u16) -> u32
+pub fn view(words: &[u64; POOL_WORDS], n: u16) -> u64
     ensures { λ r. ⌜ viewOf r ≡ stmtAt (now (words .entry)) n .view ⌝ }
 {
-    low_view(field(words, n, 512))
+    views::narrow(field(words, n, VIEW))
 }
 
 // How many views statement n has.
 pub fn count(words: &[u64; POOL_WORDS], n: u16) -> usize
     ensures { λ r. ⌜ (r ≡ countOf (now (words .entry)) n) × (r ≤ 16) ⌝ }
 {
-    let w = head_word(words, n) / 281474976710656 % 256;
+    let w = head_word(words, n) / 16777216 % 256;
     capped(w, View::LIMIT as u64) as usize
 }
 
 // View p of statement n.
-pub fn nth(words: &[u64; POOL_WORDS], n: u16, p: usize) -> u32
+pub fn nth(words: &[u64; POOL_WORDS], n: u16, p: usize) -> u64
     requires { ⌜ p < 16 ⌝ }
     ensures { λ r. ⌜ viewOf r ≡ viewAt (now (words .entry)) n p ⌝ }
 {
-    low_view(words[2048 + slot(n) * View::LIMIT + p])
+    views::narrow(words[VIEWS + slot(n) * View::LIMIT + p])
 }
 
 // How many statements a record of length len has.
@@ -158,6 +157,6 @@ pub fn limit(len: usize) -> usize
 pub fn pool_len(words: &[u64; POOL_WORDS]) -> usize
     ensures { λ r. ⌜ (r ≡ poolLen (now (words .entry))) × (r ≤ 512) ⌝ }
 {
-    let w = words[10240];
+    let w = words[LAST];
     capped(w, 512) as usize
 }

@@ -5,8 +5,9 @@ ghost use Rattle.protocol.specs.History.{sameViews};
 ghost use Rattle.protocol.specs.Statement.{sameStmt};
 ghost use Rattle.statements.specs.Meaning.{firstViews, stmtOf};
 ghost use Rattle.pool.specs.Pool.{stmtAt};
-ghost use Rattle.pool.specs.Changes.{headOf, foundOf, numberOf, Appended};
+ghost use Rattle.pool.specs.Changes.{headOf, isOther, foundOf, numberOf, Appended};
 use crate::Found;
+use crate::LAST;
 use crate::POOL_WORDS;
 use crate::Placed;
 use crate::read;
@@ -34,12 +35,18 @@ fn same_history(words: &[u64; POOL_WORDS], n: u16, h: History) -> bool
     true
 }
 
-// Kind, origin and at of st in one number.
+// Kind and origin of st in one number.
 pub fn head_of(st: Statement) -> u64
-    ensures { λ r. ⌜ (r ≡ headOf (stmtOf st)) × (r < 281474976710656) ⌝ }
+    ensures { λ r. ⌜ (r ≡ headOf (stmtOf st)) × (r < 65536) ⌝ }
 {
-    let t = st.at;
-    st.kind as u64 + st.origin as u64 * 256 + t.word() as u64 * 65536
+    st.kind as u64 + st.origin as u64 * 256
+}
+
+// Whether statement n has another kind or origin than key, or another at than t. By this a search passes over most: kind and origin are compared as one number, since the answer to the kind alone would often be guessed wrong.
+pub fn is_other(words: &[u64; POOL_WORDS], n: u16, key: u64, t: u64) -> bool
+    ensures { λ r. ⌜ r ≡ isOther (stmtAt (now (words .entry)) n) key t ⌝ }
+{
+    (read::head(words, n) != key) | (read::at(words, n) != t)
 }
 
 // Whether statement n is st.
@@ -82,9 +89,11 @@ pub fn find(words: &[u64; POOL_WORDS], st: Statement) -> Found
 {
     let end = read::pool_len(words);
     let key = head_of(st);
+    let at = st.at;
+    let t = at.word();
     let mut i = 0usize;
     while i < end {
-        if read::head(words, i as u16) != key {
+        if is_other(words, i as u16, key, t) {
             i += 1;
             continue;
         }
@@ -110,6 +119,6 @@ pub fn append(words: &mut [u64; POOL_WORDS], st: Statement) -> Placed
         return Placed::Full;
     }
     write::put(words, n as u16, st);
-    words[10240] = n as u64 + 1;
+    words[LAST] = n as u64 + 1;
     Placed::At(n as u16)
 }

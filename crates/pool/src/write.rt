@@ -1,11 +1,20 @@
 // A whole statement, into the pool and out of it.
 ghost use mathlib.Core.Path.{_≡_};
+ghost use mathlib.Core.List.{map};
 ghost use Prim.Native.Nat.{_+_, _≤_, min};
 ghost use lib.ListN.{length};
+ghost use lib.Seq.{sets};
 ghost use Rattle.statements.specs.Meaning.{firstViews, bindingNumber, payloadOf, stmtOf};
-ghost use Rattle.pool.specs.Pool.{stmtAt};
-ghost use Rattle.pool.specs.Changes.{headWord, IsHead, Put, WroteViews};
+ghost use Rattle.views.specs.Held.{viewsIs};
+ghost use Rattle.pool.specs.Pool.{wordOf, lastWord, poolWords, stmtAt};
+ghost use Rattle.pool.specs.Changes.{headWord, IsHead, Put, Cleared};
+use crate::AT;
+use crate::KEPT;
+use crate::LAST;
+use crate::PAYLOAD;
 use crate::POOL_WORDS;
+use crate::VIEW;
+use crate::VIEWS;
 use crate::read;
 use crate::seek;
 use statements::Binding;
@@ -15,15 +24,15 @@ use views::View;
 
 // The views of h from word s on. The places after the last are left as they are.
 fn put_views(words: &mut [u64; POOL_WORDS], s: usize, h: History)
-    requires { ⌜ (length (now words) ≡ 10241) × (s + 16 ≤ 10240) ⌝ }
-    ensures { λ r. ⌜ WroteViews (now (words .entry)) (now (words .exit)) s h ⌝ }
+    requires { ⌜ (length (now words) ≡ poolWords) × (s + 16 ≤ lastWord) ⌝ }
+    ensures { λ r. ⌜ now (words .exit) ≡ sets (now (words .entry)) s (map wordOf (viewsIs h)) ⌝ }
 {
     let n = h.count();
     let views = h.views;
     let mut p = 0usize;
     while p < n {
         let v = views[p];
-        words[s + p] = v.word() as u64;
+        words[s + p] = v.word();
         p += 1;
     }
 }
@@ -37,7 +46,7 @@ fn head_word(st: Statement) -> u64
     let c = h.count() as u64;
     let b = statements::binding_number(st);
     let f = read::flag(st.stored);
-    key + c * 281474976710656 + b * 72057594037927936 + f * 1152921504606846976
+    key + c * 16777216 + b * 4294967296 + f * 1099511627776
 }
 
 // Statement n is st from now on. Where st has more than 16 views, only 16 are kept.
@@ -46,13 +55,23 @@ pub fn put(words: &mut [u64; POOL_WORDS], n: u16, st: Statement)
 {
     read::size(words);
     let s = read::slot(n);
+    let t = st.at;
     let v = st.view;
     let h = st.history;
     words[s] = head_word(st);
-    words[s + 512] = v.word() as u64;
-    words[s + 1024] = statements::payload_of(st);
-    words[s + 1536] = st.kept;
-    put_views(words, 2048 + s * View::LIMIT, h);
+    words[s + AT] = t.word();
+    words[s + VIEW] = v.word();
+    words[s + PAYLOAD] = statements::payload_of(st);
+    words[s + KEPT] = st.kept;
+    put_views(words, VIEWS + s * View::LIMIT, h);
+}
+
+// An empty pool. The statements stay in memory, and count no more.
+pub fn clear(words: &mut [u64; POOL_WORDS])
+    ensures { λ _. ⌜ Cleared (now (words .entry)) (now (words .exit)) ⌝ }
+{
+    read::size(words);
+    words[LAST] = 0;
 }
 
 // The binding that a number and a payload stand for.

@@ -4,7 +4,7 @@ use mathlib.Core.Path.{_≡_, refl, sym, ap, ap₂, subst, _∙_}
 use mathlib.Core.Logic.{_≢_, _⊎_, inl, inr}
 use mathlib.Core.Bool.{Bool, true, false, not}
 use mathlib.Core.List.{List, [], _∷_, _++_, append-nil, List·Memᴰ·head, List·Memᴰ·not-nil, List·Memᴰ·append-cases, List·Memᴰ·eq-of-singleton}
-use Prim.Native.Nat.{ℕ, zero, suc, _+_, _/_, _%_, _≤_, _<_}
+use Prim.Native.Nat.{ℕ, zero, suc, _+_, _≤_, _<_}
 use native.Mathlib.Decide.{decLt, ℕ-discrete}
 use native.Mathlib.Numerals.{add-one}
 use native.Mathlib.Omega.{arith}
@@ -40,17 +40,17 @@ module _ (Q : Scale) where
   abbrev key : ℕ → ℕ
   key v = Q .size (thing v)
 
-  module _ (base : ℕ) (F : ℕ → ℕ) (M : List ℕ) where
+  module _ (base : ℕ) (F M : ℕ → ℕ) where
     later : (c : ℕ) {v : ℕ} → Stands Q base F M c v → Stands Q base F M (c + 1) v
     later c (inl e) = inl e
     later c (inr (a, l, m, e)) = inr (a, omega arith, m, e)
 
     -- what stands with one more stood before, or is that one
-    split : (c : ℕ) {v : ℕ} → Stands Q base F M (c + 1) v → Stands Q base F M c v ⊎ ((getD M c 0 ≡ 1) × (F c ≡ v))
+    split : (c : ℕ) {v : ℕ} → Stands Q base F M (c + 1) v → Stands Q base F M c v ⊎ ((M c ≡ 1) × (F c ≡ v))
     split c (inl e) = inl (inl e)
     split c {v} (inr (a, l, m, e)) = elim (decLt a c) [
       | yes h ↦ inl (inr (a, h, m, e))
-      | no h ↦ (let q : a ≡ c = omega arith in inr (subst (λ a. (getD M a 0 ≡ 1) × (F a ≡ v)) q (m, e)))
+      | no h ↦ (let q : a ≡ c = omega arith in inr (subst (λ a. (M a ≡ 1) × (F a ≡ v)) q (m, e)))
     ]
 
     pub slots-first : key base < slots → Slots Q base F M 0 (replicate slots base)
@@ -60,19 +60,19 @@ module _ (Q : Scale) where
         only v (inl e) = ap thing (getD-replicate slots (key v) base 0 (subst (λ v. key v < slots) (sym e) h) ∙ sym e)
         only v (inr (a, l, _, _)) = absurd (omega arith)
 
-    pub slots-skip : (c : ℕ) {S : List ℕ} → (getD M c 0 ≡ 1 → ⊥) → Slots Q base F M c S → Slots Q base F M (c + 1) S
+    pub slots-skip : (c : ℕ) {S : List ℕ} → (M c ≡ 1 → ⊥) → Slots Q base F M c S → Slots Q base F M (c + 1) S
     slots-skip c {S} n s = record { long = s .long; sound = λ k l. later c (s .sound k l); complete = λ v t. go v (split c t) }
       where
-        go : (v : ℕ) → Stands Q base F M c v ⊎ ((getD M c 0 ≡ 1) × (F c ≡ v)) → thing (getD S (key v) 0) ≡ thing v
+        go : (v : ℕ) → Stands Q base F M c v ⊎ ((M c ≡ 1) × (F c ≡ v)) → thing (getD S (key v) 0) ≡ thing v
         go v (inl t) = s .complete v t
         go v (inr (m, _)) = absurd (n m)
 
     -- the marked word c is v, and u is in the slot of its size
-    module _ (c : ℕ) {S : List ℕ} (k u v : ℕ) (marked : getD M c 0 ≡ 1) (is : v ≡ F c) (sized : k ≡ key v) (slot : u ≡ getD S k 0) where
+    module _ (c : ℕ) {S : List ℕ} (k u v : ℕ) (marked : M c ≡ 1) (is : v ≡ F c) (sized : k ≡ key v) (slot : u ≡ getD S k 0) where
       pub slots-same : thing u ≡ thing v → Slots Q base F M c S → Slots Q base F M (c + 1) S
       slots-same e s = record { long = s .long; sound = λ j l. later c (s .sound j l); complete = λ w t. go w (split c t) }
         where
-          go : (w : ℕ) → Stands Q base F M c w ⊎ ((getD M c 0 ≡ 1) × (F c ≡ w)) → thing (getD S (key w) 0) ≡ thing w
+          go : (w : ℕ) → Stands Q base F M c w ⊎ ((M c ≡ 1) × (F c ≡ w)) → thing (getD S (key w) 0) ≡ thing w
           go w (inl t) = s .complete w t
           go w (inr (m, f)) =
               let q : w ≡ v = sym f ∙ sym is in
@@ -91,7 +91,7 @@ module _ (Q : Scale) where
           before : (w : ℕ) → thing (getD S (key w) 0) ≡ thing w → key w ≢ k
           before w f e = free (ap (λ x. key x) (slot ∙ ap (λ j. getD S j 0) (sym e)) ∙ ap (Q .size) f ∙ e)
 
-          go : (w : ℕ) → Stands Q base F M c w ⊎ ((getD M c 0 ≡ 1) × (F c ≡ w)) → thing (getD (set S k v) (key w) 0) ≡ thing w
+          go : (w : ℕ) → Stands Q base F M c w ⊎ ((M c ≡ 1) × (F c ≡ w)) → thing (getD (set S k v) (key w) 0) ≡ thing w
           go w (inl t) = let f = s .complete w t in ap thing (getD-set-other S k (key w) v 0 (before w f)) ∙ f
           go w (inr (m, f)) =
               let q : w ≡ v = sym f ∙ sym is in

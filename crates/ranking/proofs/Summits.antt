@@ -8,7 +8,7 @@ use Prim.Native.Nat.{ℕ, _+_, _≤_, _<_}
 use native.Mathlib.Numerals.{add-one}
 use native.Mathlib.Omega.{arith}
 use lib.Dec.{T}
-use lib.ListN.{length, getD, set, replicate}
+use lib.ListN.{length, getD, set}
 use Rattle.protocol.specs.Lists.{_∈_, _⊆_, any, pairwise}
 use Rattle.protocol.specs.View.{View, sameView, size}
 use Rattle.protocol.specs.History.{holds, Holds, Rising}
@@ -25,7 +25,7 @@ use Rattle.views.proofs.Tables.{table-length}
 use Rattle.views.proofs.Views.{passes, fails}
 use Rattle.pool.specs.Pool.{countOf, viewAt, stmtAt}
 use Rattle.pool.proofs.Laws.{views-of}
-use Rattle.ranking.specs.Slots.{historyScale, entryIn, viewsOf, Stands, Slots, Clash, occupied, Broken, Chain}
+use Rattle.ranking.specs.Slots.{historyScale, numberIn, sealMark, viewsOf, Stands, Slots, Clash, occupied, Broken, Chain}
 use Rattle.ranking.specs.Ranking.{FirstMarked, ChainOf, Agreements, HistoriesOf}
 use Rattle.ranking.proofs.Members.{Climbs, same-members}
 use Rattle.ranking.proofs.Slots.{views-put, occupied-in, occupied-out}
@@ -64,9 +64,9 @@ pub links-end : (W S : List ℕ) (k last : ℕ) (some : Bool) → k ≡ 17 → C
 links-end W S k last some e c = record { good = λ t. (some, subst (λ k. Chain (historyScale W) S k some last) e c); bad = λ f. absurd (subst T f tt) }
 
 -- the history of the initial view
-pub alone-views : (init : ℕ) → viewsOf (replicate 16 init) 1 ≡ viewOf init ∷ []
+pub alone-views : (out : List ℕ) (init : ℕ) → length out ≡ 16 → viewsOf (set out 0 init) 1 ≡ viewOf init ∷ []
 unfolding viewsOf table
-alone-views init = refl
+alone-views out init l = views-put out 0 init (omega arith)
 
 -- ---- sealed histories rise
 
@@ -115,9 +115,9 @@ module _ (init : ℕ) (X : List Stmt) where
   allHeld = pairwise (λ H K. holds H K || holds K H) (sealedHistories (ring init) X)
 
   -- two sealed ones are apart
-  conflict : {H K : List View} → Sealed (ring init) X H → Sealed (ring init) X K → (Holds H K → ⊥) → (Holds K H → ⊥) → (length : ℕ) (views : List ℕ)
-      → HistoriesOf init X (record { conflict = true; length = length; views = views })
-  conflict {H} {K} h k p q length views = record {
+  conflict : {H K : List View} → Sealed (ring init) X H → Sealed (ring init) X K → (Holds H K → ⊥) → (Holds K H → ⊥) → (length : ℕ) (out : List ℕ)
+      → HistoriesOf init X out (record { conflict = true; length = length })
+  conflict {H} {K} h k p q length out = record {
     conflict = ap not (sym (fails (says-pairwise says-held (sealedHistories (ring init) X))
         (λ f. elim (f H (sealed-in (ring init) X h) K (sealed-in (ring init) X k)) [ inl a ↦ p a | inr a ↦ q a ])));
     sealed = λ e. absurd (subst T e tt);
@@ -125,10 +125,10 @@ module _ (init : ℕ) (X : List Stmt) where
   }
 
   -- G is sealed and holds all, and every two are compared
-  greatest : (length : ℕ) (views : List ℕ) → Sealed (ring init) X (viewsOf views length) → ((K : List View) → Sealed (ring init) X K → Holds (viewsOf views length) K)
+  greatest : (length : ℕ) (out : List ℕ) → Sealed (ring init) X (viewsOf out length) → ((K : List View) → Sealed (ring init) X K → Holds (viewsOf out length) K)
       → ((H : List View) → Sealed (ring init) X H → (K : List View) → Sealed (ring init) X K → Holds H K ⊎ Holds K H)
-      → HistoriesOf init X (record { conflict = false; length = length; views = views })
-  greatest length views g f p = record {
+      → HistoriesOf init X out (record { conflict = false; length = length })
+  greatest length out g f p = record {
     conflict = ap not (sym (passes (says-pairwise says-held (sealedHistories (ring init) X)) (λ H i K j. p H (sealed-out (ring init) X i) K (sealed-out (ring init) X j))));
     sealed = λ e. g;
     holds = λ e. f;
@@ -136,56 +136,56 @@ module _ (init : ℕ) (X : List Stmt) where
 
   -- ---- the agreements that are marked
 
-  module _ (W E M : List ℕ) (n : ℕ) (agreements : Agreements init X W E M n) where
+  module _ (W R M : List ℕ) (n : ℕ) (agreements : Agreements init X W R M n) where
     -- none is marked
-    pub alone : (r : ℕ) → r ≡ n → FirstMarked M n r → HistoriesOf init X (record { conflict = false; length = 1; views = replicate 16 init })
-    alone r e f =
-        let g : Sealed (ring init) X (viewsOf (replicate 16 init) 1) = start (alone-views init) in
-        greatest 1 (replicate 16 init) g (λ K k. start-in (only K k) g) (λ H h K k. inr (start-in (only H h) k))
+    pub alone : (out : List ℕ) (r : ℕ) → length out ≡ 16 → r ≡ n → FirstMarked M n r → HistoriesOf init X (set out 0 init) (record { conflict = false; length = 1 })
+    alone out r w e f =
+        let g : Sealed (ring init) X (viewsOf (set out 0 init) 1) = start (alone-views out init w) in
+        greatest 1 (set out 0 init) g (λ K k. start-in (only K k) g) (λ H h K k. inr (start-in (only H h) k))
       where
         only : (K : List View) → Sealed (ring init) X K → K ≡ viewOf init ∷ []
         only K k = elim (agreements .complete K k) [ inl q ↦ q | inr (a, l, m, _) ↦ absurd (f .none a (omega arith) m) ]
 
-    module _ (a base : ℕ) (l : a < n) (m : getD M a 0 ≡ 1) (is : base ≡ entryIn E a) where
-      stands-sealed : (w : ℕ) → Stands (historyScale W) base (entryIn E) M n w → Sealed (ring init) X (stmtAt W w .views)
+    module _ (a base : ℕ) (l : a < n) (m : sealMark M a ≡ 1) (is : base ≡ numberIn R a) where
+      stands-sealed : (w : ℕ) → Stands (historyScale W) base (numberIn R) (sealMark M) n w → Sealed (ring init) X (stmtAt W w .views)
       stands-sealed w (inl e) = subst (λ x. Sealed (ring init) X (stmtAt W x .views)) (sym (e ∙ is)) (agreements .sound a l m)
       stands-sealed w (inr (c, h, k, e)) = subst (λ x. Sealed (ring init) X (stmtAt W x .views)) e (agreements .sound c h k)
 
-      pub clash-conflict : Clash (historyScale W) base (entryIn E) M n → (length : ℕ) (views : List ℕ) → HistoriesOf init X (record { conflict = true; length = length; views = views })
+      pub clash-conflict : Clash (historyScale W) base (numberIn R) (sealMark M) n → (length : ℕ) (out : List ℕ) → HistoriesOf init X out (record { conflict = true; length = length })
       clash-conflict k =
           let h = stands-sealed (k .one) (k .stands) in
           let g = stands-sealed (k .other) (k .besides) in
           conflict h g (λ p. k .differ (held-level h g (k .level) p)) (λ p. k .differ (sym (held-level g h (sym (k .level)) p)))
 
-      module _ (S : List ℕ) (slots : Slots (historyScale W) base (entryIn E) M n S) where
+      module _ (S : List ℕ) (slots : Slots (historyScale W) base (numberIn R) (sealMark M) n S) where
         abbrev shown : List (List View)
         shown = occupied (historyScale W) S 17
 
         slot-sealed : {H : List View} → H ∈ shown → Sealed (ring init) X H
         slot-sealed i = let (j, h, e, f) = occupied-out (historyScale W) S 17 i in subst (Sealed (ring init) X) f (stands-sealed (getD S j 0) (slots .sound j h))
 
-        word : (w : ℕ) → Stands (historyScale W) base (entryIn E) M n w → stmtAt W w .views ∈ shown
+        word : (w : ℕ) → Stands (historyScale W) base (numberIn R) (sealMark M) n w → stmtAt W w .views ∈ shown
         word w s =
             let e = slots .complete w s in
             subst (λ H. H ∈ shown) e (occupied-in (historyScale W) S 17 (length (stmtAt W w .views)) (views-short W w) (ap length e))
 
         in-slots : (H : List View) → Sealed (ring init) X H → (H ≡ viewOf init ∷ []) ⊎ (H ∈ shown)
-        in-slots H h = elim (agreements .complete H h) [ inl e ↦ inl e | inr (c, i, k, e) ↦ inr (subst (λ H. H ∈ shown) e (word (entryIn E c) (inr (c, i, k, refl)))) ]
+        in-slots H h = elim (agreements .complete H h) [ inl e ↦ inl e | inr (c, i, k, e) ↦ inr (subst (λ H. H ∈ shown) e (word (numberIn R c) (inr (c, i, k, refl)))) ]
 
-        pub broken-conflict : Broken (historyScale W) S 17 → (length : ℕ) (views : List ℕ) → HistoriesOf init X (record { conflict = true; length = length; views = views })
+        pub broken-conflict : Broken (historyScale W) S 17 → (length : ℕ) (out : List ℕ) → HistoriesOf init X out (record { conflict = true; length = length })
         broken-conflict b =
             let h = slot-sealed (b .lower-in) in
             let k = slot-sealed (b .upper-in) in
             conflict h k (λ p. omega (arith, held-shorter k p, b .less)) (b .apart)
 
-        pub summit : (some : Bool) (last : ℕ) → Chain (historyScale W) S 17 some last → (length : ℕ) (views : List ℕ) → viewsOf views length ≡ stmtAt W last .views
-            → HistoriesOf init X (record { conflict = false; length = length; views = views })
-        summit some last c length views e = greatest length views (subst (Sealed (ring init) X) (sym e) sealed) holds pairs
+        pub summit : (some : Bool) (last : ℕ) → Chain (historyScale W) S 17 some last → (length : ℕ) (out : List ℕ) → viewsOf out length ≡ stmtAt W last .views
+            → HistoriesOf init X out (record { conflict = false; length = length })
+        summit some last c length out e = greatest length out (subst (Sealed (ring init) X) (sym e) sealed) holds pairs
           where
             sealed : Sealed (ring init) X (stmtAt W last .views)
             sealed = slot-sealed (c .ends (c .under _ (word base (inl refl)) .0))
 
-            holds : (K : List View) → Sealed (ring init) X K → Holds (viewsOf views length) K
+            holds : (K : List View) → Sealed (ring init) X K → Holds (viewsOf out length) K
             holds K k = subst (λ H. Holds H K) (sym e) (elim (in-slots K k) [ inl q ↦ start-in q sealed | inr i ↦ c .under K i .1 ])
 
             pairs : (H : List View) → Sealed (ring init) X H → (K : List View) → Sealed (ring init) X K → Holds H K ⊎ Holds K H

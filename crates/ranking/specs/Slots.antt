@@ -4,7 +4,7 @@ use mathlib.Core.Path.{_≡_}
 use mathlib.Core.Logic.{_≢_, _⊎_}
 use mathlib.Core.Bool.{Bool, true, false}
 use mathlib.Core.List.{List, [], _∷_, _++_}
-use Prim.Native.Nat.{ℕ, zero, suc, _≤_, _<_}
+use Prim.Native.Nat.{ℕ, zero, suc, _+_, _≤_, _<_}
 use lib.Dec.{eqb, ltb}
 use lib.ListN.{getD, length}
 use Rattle.protocol.specs.Lists.{if_then_else_, _∈_}
@@ -13,7 +13,7 @@ use Rattle.protocol.specs.History.{Holds}
 use Rattle.views.specs.Table.{table}
 use Rattle.views.specs.View.{viewOf}
 use Rattle.pool.specs.Pool.{stmtAt}
-use Rattle.votes.specs.Tables.{high}
+use Rattle.tables.specs.Index.{numberAt}
 
 -- What a word stands for, the sizes of such things, above which none is, and when one lies under another.
 pub record Scale : Type 1 where
@@ -31,21 +31,25 @@ viewScale = record { Thing = View; thing = viewOf; size = size 16; slots = 33; U
 abbrev pub historyScale : List ℕ → Scale
 historyScale W = record { Thing = List View; thing = λ n. stmtAt W n .views; size = length; slots = 17; Under = λ K H. Holds H K }
 
--- The words of the things: the views of choices, the pool numbers of agreements.
+-- The pool number of agreement a. (The word of a choice's view is its key.)
+abbrev pub numberIn : List ℕ → ℕ → ℕ
+numberIn R a = numberAt R 1 a
 
-abbrev pub viewIn : List ℕ → ℕ → ℕ
-viewIn C c = high (getD C c 0)
+-- The verdicts on them: 1 marks a choice of a candidate, and an agreement that seals its history.
 
-abbrev pub entryIn : List ℕ → ℕ → ℕ
-entryIn E a = getD E a 0
+abbrev pub choiceMark : List ℕ → ℕ → ℕ
+choiceMark M c = getD M c 0
+
+abbrev pub sealMark : List ℕ → ℕ → ℕ
+sealMark M a = getD M (512 + a) 0
 
 module _ (Q : Scale) where
   open Scale Q using (Thing, thing, slots, Under)
 
-  module _ (base : ℕ) (F : ℕ → ℕ) (M : List ℕ) (n : ℕ) where
+  module _ (base : ℕ) (F M : ℕ → ℕ) (n : ℕ) where
     -- The base, or a word before n that is marked.
     abbrev pub Stands : ℕ → Type 0
-    Stands v = (v ≡ base) ⊎ ((c : ℕ) × (c < n) × (getD M c 0 ≡ 1) × (F c ≡ v))
+    Stands v = (v ≡ base) ⊎ ((c : ℕ) × (c < n) × (M c ≡ 1) × (F c ≡ v))
 
     -- Each of them is in the slot of its size, and nothing else is in a slot. (A slot in which another size stands is free.)
     pub record Slots (S : List ℕ) : Type 0 where

@@ -6,31 +6,34 @@ ghost use lib.ListN.{getD, length};
 ghost use Rattle.protocol.specs.View.{size};
 ghost use Rattle.protocol.specs.Statement.{Stmt};
 ghost use Rattle.views.specs.View.{viewOf};
-ghost use Rattle.votes.specs.Tables.{high};
-ghost use Rattle.ranking.specs.Slots.{viewScale, viewIn, Slots, Filled, Compared, Listed};
+ghost use Rattle.tables.specs.Index.{keyAt};
+ghost use Rattle.ranking.specs.Slots.{viewScale, choiceMark, Slots, Filled, Compared, Listed};
 ghost use Rattle.ranking.specs.Ranking.{Choices, CandidatesOf};
+use crate::MEMO;
 use crate::Ranked;
+use tables::KEYS;
 use views::View;
 
 // Views have this many sizes: from 0 to all joined and all left.
 const SIZES: usize = 2 * View::WIDTH as usize + 1;
 
-// The view that a choice is for.
-fn high_of(x: u64) -> u32
-    ensures { λ r. ⌜ r ≡ high x ⌝ }
+// The view that choice c, a row of table 0, is for.
+fn view_at(keys: &[u64; KEYS], c: usize) -> u64
+    requires { ⌜ c < 512 ⌝ }
+    ensures { λ r. ⌜ r ≡ keyAt (now (keys .entry)) 0 c ⌝ }
 {
-    (x / 4294967296) as u32
+    tables::key(keys, 0, c)
 }
 
 // The size of v.
-fn size_of(v: u32) -> usize
+fn size_of(v: u64) -> usize
     ensures { λ r. ⌜ (r ≡ size 16 (viewOf v)) × (r ≤ 32) ⌝ }
 {
     views::size_view(v) as usize
 }
 
 // The size of v; most slots still hold the initial view, whose size is known.
-fn slot_size(v: u32, init: u32, least: usize) -> usize
+fn slot_size(v: u64, init: u64, least: usize) -> usize
     requires { ⌜ (least ≡ size 16 (viewOf init)) × (least ≤ 32) ⌝ }
     ensures { λ r. ⌜ (r ≡ size 16 (viewOf v)) × (r ≤ 32) ⌝ }
 {
@@ -41,7 +44,7 @@ fn slot_size(v: u32, init: u32, least: usize) -> usize
 }
 
 // What slot k holds.
-fn slot_at(slots: &[u32; SIZES], k: usize) -> u32
+fn slot_at(slots: &[u64; SIZES], k: usize) -> u64
     requires { ⌜ k < 33 ⌝ }
     ensures { λ r. ⌜ r ≡ getD (now (slots .entry)) k 0 ⌝ }
 {
@@ -50,22 +53,22 @@ fn slot_at(slots: &[u32; SIZES], k: usize) -> u32
 
 // Puts the views of the marked choices into the slots of their sizes; false where two of one size differ.
 fn fill_slots(
-    chosen: &[u64; 512],
+    keys: &[u64; KEYS],
+    memo: &[u8; MEMO],
     nc: usize,
-    mc: &[u8; 512],
-    init: u32,
-    slots: &mut [u32; SIZES],
+    init: u64,
+    slots: &mut [u64; SIZES],
 ) -> bool
-    requires { ⌜ (nc ≤ 512) × Slots viewScale init (viewIn (now chosen)) (now mc) 0 (now slots) ⌝ }
-    ensures { λ r. ⌜ Filled viewScale init (viewIn (now (chosen .entry))) (now (mc .entry)) nc (now (slots .exit)) r ⌝ }
+    requires { ⌜ (nc ≤ 512) × Slots viewScale init (keyAt (now keys) 0) (choiceMark (now memo)) 0 (now slots) ⌝ }
+    ensures { λ r. ⌜ Filled viewScale init (keyAt (now (keys .entry)) 0) (choiceMark (now (memo .entry))) nc (now (slots .exit)) r ⌝ }
 {
     let mut c = 0usize;
     while c < nc {
-        if mc[c] != 1 {
+        if memo[c] != 1 {
             c += 1;
             continue;
         }
-        let v = high_of(chosen[c]);
+        let v = view_at(keys, c);
         let k = size_of(v);
         let u = slot_at(slots, k);
         if u == v {
@@ -82,12 +85,12 @@ fn fill_slots(
 }
 
 // Whether every two views of the slots are comparable: it is enough that each lies within the next.
-fn compare_slots(slots: &[u32; SIZES], init: u32, least: usize) -> bool
+fn compare_slots(slots: &[u64; SIZES], init: u64, least: usize) -> bool
     requires { ⌜ (least ≡ size 16 (viewOf init)) × (least ≤ 32) ⌝ }
     ensures { λ r. ⌜ Compared (now (slots .entry)) r ⌝ }
 {
     let mut some = false;
-    let mut last = 0u32;
+    let mut last = 0u64;
     let mut k = 0usize;
     while k < SIZES {
         let v = slot_at(slots, k);
@@ -111,7 +114,7 @@ fn compare_slots(slots: &[u32; SIZES], init: u32, least: usize) -> bool
 }
 
 // Lists the views of the slots: how many, or one above the limit where there are more.
-fn list_slots(slots: &[u32; SIZES], init: u32, least: usize, out: &mut [u32; View::LIMIT]) -> usize
+fn list_slots(slots: &[u64; SIZES], init: u64, least: usize, out: &mut [u64; View::LIMIT]) -> usize
     requires { ⌜ (length (now out) ≡ 16) × (least ≡ size 16 (viewOf init)) × (least ≤ 32) ⌝ }
     ensures { λ r. ⌜ Listed (now (slots .entry)) (now (out .exit)) r ⌝ }
 {
@@ -133,19 +136,32 @@ fn list_slots(slots: &[u32; SIZES], init: u32, least: usize, out: &mut [u32; Vie
     n
 }
 
-// The candidates of a record, of whose choices `mc` marks those that are of candidates.
-pub fn rank(chosen: &[u64; 512], nc: usize, mc: &[u8; 512], init: u32) -> Ranked
-    requires { ⌜ nc ≤ 512 ⌝ }
-    ensures { λ r. ⌜ ((X : List Stmt) → Choices init X (now (chosen .entry)) (now (mc .entry)) nc → CandidatesOf init X r) ⌝ }
+// How long the list is that is filled: a proof that a view of it was written asks for it.
+pub fn room(out: &[u64; View::LIMIT]) -> usize
+    ensures { λ r. ⌜ length (now (out .entry)) ≡ 16 ⌝ }
 {
+    let s = &out[..];
+    s.len()
+}
+
+// The candidates of a record, of whose nc choices `memo` marks those that are of candidates, into `out`.
+pub fn rank(
+    keys: &[u64; KEYS],
+    memo: &[u8; MEMO],
+    nc: usize,
+    init: u64,
+    out: &mut [u64; View::LIMIT],
+) -> Ranked
+    requires { ⌜ nc ≤ 512 ⌝ }
+    ensures { λ r. ⌜ ((X : List Stmt) → Choices init X (now (keys .entry)) (now (memo .entry)) nc → CandidatesOf init X (now (out .exit)) r) ⌝ }
+{
+    room(out);
     let mut slots = [init; SIZES];
-    let mut views = [0u32; View::LIMIT];
-    if !fill_slots(chosen, nc, mc, init, &mut slots) {
+    if !fill_slots(keys, memo, nc, init, &mut slots) {
         return Ranked {
             conflict: true,
             many: false,
             count: 0,
-            views,
         };
     }
     let least = size_of(init);
@@ -154,14 +170,12 @@ pub fn rank(chosen: &[u64; 512], nc: usize, mc: &[u8; 512], init: u32) -> Ranked
             conflict: true,
             many: false,
             count: 0,
-            views,
         };
     }
-    let count = list_slots(&slots, init, least, &mut views);
+    let count = list_slots(&slots, init, least, out);
     Ranked {
         conflict: false,
         many: View::LIMIT < count,
         count,
-        views,
     }
 }

@@ -6,10 +6,13 @@ ghost use lib.ListN.{getD, length};
 ghost use Rattle.protocol.specs.History.{holds};
 ghost use Rattle.protocol.specs.Statement.{Stmt};
 ghost use Rattle.pool.specs.Pool.{stmtAt};
-ghost use Rattle.ranking.specs.Slots.{historyScale, entryIn, viewsOf, Slots, Filled};
+ghost use Rattle.ranking.specs.Slots.{historyScale, numberIn, sealMark, viewsOf, Slots, Filled};
 ghost use Rattle.ranking.specs.Ranking.{FirstMarked, ChainOf, Agreements, HistoriesOf};
+use crate::MEMO;
 use crate::Summit;
+use crate::candidates;
 use pool::POOL_WORDS;
+use tables::ROWS;
 use views::View;
 
 // Histories have this many lengths, that of none among them.
@@ -44,22 +47,22 @@ fn number_at(slots: &[u16; LENGTHS], k: usize) -> u16
     slots[k]
 }
 
-// The statement of agreement a.
-fn entry_at(entry: &[u16; 512], a: usize) -> u16
+// The statement of agreement a, a row of table 1.
+fn entry_at(rows: &[u16; ROWS], a: usize) -> u16
     requires { ⌜ a < 512 ⌝ }
-    ensures { λ r. ⌜ r ≡ entryIn (now (entry .entry)) a ⌝ }
+    ensures { λ r. ⌜ r ≡ numberIn (now (rows .entry)) a ⌝ }
 {
-    entry[a]
+    tables::number(rows, 1, a)
 }
 
 // The first agreement that is marked, or na.
-fn first_marked(ma: &[u8; 512], na: usize) -> usize
+fn first_marked(memo: &[u8; MEMO], na: usize) -> usize
     requires { ⌜ na ≤ 512 ⌝ }
-    ensures { λ r. ⌜ FirstMarked (now (ma .entry)) na r ⌝ }
+    ensures { λ r. ⌜ FirstMarked (now (memo .entry)) na r ⌝ }
 {
     let mut a = 0usize;
     while a < na {
-        if ma[a] == 1 {
+        if memo[512 + a] == 1 {
             return a;
         }
         a += 1;
@@ -70,22 +73,22 @@ fn first_marked(ma: &[u8; 512], na: usize) -> usize
 // Puts the histories of the marked agreements into the slots of their lengths; false where two of one length differ.
 fn fill_lengths(
     words: &[u64; POOL_WORDS],
-    entry: &[u16; 512],
+    rows: &[u16; ROWS],
+    memo: &[u8; MEMO],
     na: usize,
-    ma: &[u8; 512],
     base: u16,
     slots: &mut [u16; LENGTHS],
 ) -> bool
-    requires { ⌜ (na ≤ 512) × Slots (historyScale (now words)) base (entryIn (now entry)) (now ma) 0 (now slots) ⌝ }
-    ensures { λ r. ⌜ Filled (historyScale (now (words .entry))) base (entryIn (now (entry .entry))) (now (ma .entry)) na (now (slots .exit)) r ⌝ }
+    requires { ⌜ (na ≤ 512) × Slots (historyScale (now words)) base (numberIn (now rows)) (sealMark (now memo)) 0 (now slots) ⌝ }
+    ensures { λ r. ⌜ Filled (historyScale (now (words .entry))) base (numberIn (now (rows .entry))) (sealMark (now (memo .entry))) na (now (slots .exit)) r ⌝ }
 {
     let mut a = 0usize;
     while a < na {
-        if ma[a] != 1 {
+        if memo[512 + a] != 1 {
             a += 1;
             continue;
         }
-        let n = entry_at(entry, a);
+        let n = entry_at(rows, a);
         let k = pool::count(words, n);
         let m = number_at(slots, k);
         if pool::count(words, m) != k {
@@ -130,7 +133,7 @@ fn link_lengths(words: &[u64; POOL_WORDS], slots: &[u16; LENGTHS]) -> Links
 }
 
 // Copies the views of statement n: how many.
-fn copy_views(words: &[u64; POOL_WORDS], n: u16, out: &mut [u32; View::LIMIT]) -> usize
+fn copy_views(words: &[u64; POOL_WORDS], n: u16, out: &mut [u64; View::LIMIT]) -> usize
     requires { ⌜ length (now out) ≡ 16 ⌝ }
     ensures { λ r. ⌜ viewsOf (now (out .exit)) r ≡ stmtAt (now (words .entry)) n .views ⌝ }
 {
@@ -143,33 +146,33 @@ fn copy_views(words: &[u64; POOL_WORDS], n: u16, out: &mut [u32; View::LIMIT]) -
     c
 }
 
-// The greatest sealed history of a record, of whose agreements `ma` marks those that seal theirs.
+// The greatest sealed history of a record, of whose na agreements `memo` marks those that seal theirs, into `out`.
 pub fn climb(
     words: &[u64; POOL_WORDS],
-    entry: &[u16; 512],
+    rows: &[u16; ROWS],
+    memo: &[u8; MEMO],
     na: usize,
-    ma: &[u8; 512],
-    init: u32,
+    init: u64,
+    out: &mut [u64; View::LIMIT],
 ) -> Summit
     requires { ⌜ na ≤ 512 ⌝ }
-    ensures { λ r. ⌜ ((X : List Stmt) → Agreements init X (now (words .entry)) (now (entry .entry)) (now (ma .entry)) na → HistoriesOf init X r) ⌝ }
+    ensures { λ r. ⌜ ((X : List Stmt) → Agreements init X (now (words .entry)) (now (rows .entry)) (now (memo .entry)) na → HistoriesOf init X (now (out .exit)) r) ⌝ }
 {
-    let mut views = [init; View::LIMIT];
-    let a = first_marked(ma, na);
+    candidates::room(out);
+    let a = first_marked(memo, na);
     if a == na {
+        out[0] = init;
         return Summit {
             conflict: false,
             length: 1,
-            views,
         };
     }
-    let base = entry_at(entry, a);
+    let base = entry_at(rows, a);
     let mut slots = [base; LENGTHS];
-    if !fill_lengths(words, entry, na, ma, base, &mut slots) {
+    if !fill_lengths(words, rows, memo, na, base, &mut slots) {
         return Summit {
             conflict: true,
             length: 0,
-            views,
         };
     }
     let links = link_lengths(words, &slots);
@@ -177,13 +180,11 @@ pub fn climb(
         return Summit {
             conflict: true,
             length: 0,
-            views,
         };
     }
-    let length = copy_views(words, links.last, &mut views);
+    let length = copy_views(words, links.last, out);
     Summit {
         conflict: false,
         length,
-        views,
     }
 }

@@ -4,19 +4,20 @@ mod histories;
 
 pub use candidates::rank;
 pub use histories::climb;
-use views::View;
+use tables::KEYS;
 
-// The candidates in order, or that two of them are incomparable; `many` where there are more than sixteen.
+// A verdict for each row of the two tables.
+const MEMO: usize = KEYS;
+
+// How many candidates are listed, or that two of them are incomparable; `many` where there are more than sixteen.
 pub struct Ranked {
     pub conflict: bool,
     pub many: bool,
     pub count: usize,
-    pub views: [u32; View::LIMIT],
 }
 
-// The greatest sealed history, or that two of them are apart.
+// How long the greatest sealed history is, or that two of them are apart.
 pub struct Summit {
     pub conflict: bool,
     pub length: usize,
-    pub views: [u32; View::LIMIT],
 }

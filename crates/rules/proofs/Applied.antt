@@ -1,25 +1,25 @@
 -- Each rule in terms of what it looks at: the tests in the order of the code, and what is done if all pass.
 -- Assumes nothing.
-use mathlib.Core.Path.{_≡_, refl, sym, ap, ap₂, _∙_}
-use mathlib.Core.Bool.{Bool, true, false, not, _&&_, _||_, and-true}
+use mathlib.Core.Path.{_≡_, refl, sym, ap, ap₂, subst, _∙_}
+use mathlib.Core.Bool.{Bool, true, false, not, _&&_, _||_, false≢true}
 use mathlib.Core.List.{List, [], _∷_}
 use mathlib.Core.Option.{Option, some, none}
-use Prim.Native.Nat.{ℕ, zero, suc, _-_, _≤_, _<_}
+use Prim.Native.Nat.{ℕ, _-_, _<_}
 use native.Mathlib.Omega.{arith}
-use lib.Dec.{eqb, ltb}
+use lib.Dec.{ltb}
+use denote.Enum.Declared.{tagOf}
+use types.Run.{OneOf, miss}
 use lib.ListN.{length, getD}
 use Rattle.protocol.specs.Sets.{bit}
 use Rattle.protocol.specs.Lists.{any, find, when, given, isSome}
-use Rattle.protocol.specs.View.{View, Ring, sameView, member, hasMembers, below}
+use Rattle.protocol.specs.View.{View, sameView, member, hasMembers, below}
 use Rattle.protocol.specs.History.{last}
-use Rattle.protocol.specs.Statement.{Stmt, sameStmt, join, leave, agreeView, agreeHistory, report, prepare, ack, store, Binding, reportsOn, acksAt, storesAt}
-use Rattle.protocol.specs.Evidence.{prepares, isStored}
+use Rattle.protocol.specs.Statement.{Stmt, sameStmt, join, leave, agreeView, agreeHistory, report, prepare, ack, store, reportsOn, acksAt, storesAt}
+use Rattle.protocol.specs.Evidence.{prepares, candidates, isStored}
 use Rattle.protocol.specs.Controller.{Controller}
-use Rattle.protocol.specs.Turn
-use Rattle.protocol.specs.Turn.{Action, sign, bindAndSign, enter, deliver, hasSigned, own, mergeAll, isReported, countedReports, toAck, rule1, rule2, rule3, rule4, rule5, rule6, rule7, rule8, rule9, rule10}
-use Rattle.protocol.proofs.Found.{none≢some}
+use Rattle.protocol.specs.Turn as turn
 use Rattle.views.specs.declared.View as held
-use Rattle.views.specs.View.{viewOf}
+use Rattle.views.specs.View.{viewOf, viewIn}
 use Rattle.views.specs.Held.{viewIs}
 use Rattle.views.proofs.Histories.{last-some}
 use Rattle.statements.specs.declared.Binding as bindings
@@ -27,67 +27,67 @@ use Rattle.statements.specs.declared.Binding.the-variants.{Unbound, Bound, Barr
 use Rattle.statements.specs.declared.Statement.{Statement}
 use Rattle.statements.specs.Meaning.{bindingIs, stmtOf}
 use Rattle.statements.specs.Made.{Made}
-use Rattle.ranking.specs.Slots.{viewsOf}
-use Rattle.evidence.specs.Evidence.{reportedAll, reportsBelow}
+use Rattle.evidence.specs.Evidence.{ringOf, certificateOf, reportedAll, reportsBelow}
 use Rattle.evidence.proofs.Turns.{reported-turn, counted-turn}
 use Rattle.rules.specs.declared.Send.{Send}
-use Rattle.rules.specs.declared.Send.the-variants as send
-use Rattle.rules.specs.declared.Send.the-variants.{Payload}
-use Rattle.rules.specs.declared.Step.{Step}
-use Rattle.rules.specs.declared.Sight.{Sight}
-use Rattle.rules.specs.declared.Due.{Due}
-use Rattle.rules.specs.declared.Due.the-variants.{Nothing, On}
-use Rattle.rules.specs.Deeds.{sendIs}
+use Rattle.rules.specs.declared.Send.the-variants.{Nothing, Payload}
+use Rattle.rules.specs.declared.Situation.{Situation}
+use Rattle.rules.specs.declared.Action.{Action}
+use Rattle.rules.specs.declared.Action.the-variants.{Rest, Report, Enter, AgreeView, AgreeHistory, Ack, Store, Deliver, Join, Leave, Prepare}
+use Rattle.rules.specs.Actions.{sendIs, viewsIn, signedBy, actionIs, acts}
+use Rattle.rules.specs.Rules.{ownKind, ownAt, firstPrepare, reportDue, Owns, SituationOf, Lent, statements, ownStatements, candidateViews, greatestViews, AllHold, Rule, Does, Acks}
+use Rattle.rules.proofs.Action as action
 use Rattle.rules.proofs.Scans.{owns-same, owns-at, owns-kind}
-use Rattle.rules.specs.Rules.{ownKind, ownAt, firstPrepare, reportDue, dueIs, Owns, SightOf, Rule, Steps, Does, Owned, Enters, Entering, Delivers, Acks}
 
 -- ---- tests one after the other
 
-module _ {A : Type 0} where
-  -- a, if every test passes
-  unfoldable pub each : List Bool → A → Option A
-  each [] a = some a
-  each (true ∷ l) a = each l a
-  each (false ∷ l) a = none
+-- a, if every test passes
+unfoldable pub each : List Bool → Action → Action
+each [] a = a
+each (true ∷ l) a = each l a
+each (false ∷ l) a = Rest
 
-  pub stop : (b : Bool) (l : List Bool) (a : A) → b ≡ false → none ≡ each (b ∷ l) a
-  unfolding each
-  stop b l a e = rw e
-
-  pub go : (b : Bool) (l : List Bool) (a : A) (o : Option A) → b ≡ true → o ≡ each l a → o ≡ each (b ∷ l) a
-  unfolding each
-  go b l a o e f = rw e f
-
-  pub done : (a : A) → some a ≡ each [] a
-  unfolding each
-  done a = refl
-
-  all2 : (a b : Bool) (x : A) → when (a && b) x ≡ each (a ∷ b ∷ []) x
-  unfolding each
-  all2 true true x = refl
-  all2 true false x = refl
-  all2 false b x = refl
-
-  all3 : (a b c : Bool) (x : A) → when (a && b && c) x ≡ each (a ∷ b ∷ c ∷ []) x
-  unfolding each
-  all3 true b c x = all2 b c x
-  all3 false b c x = refl
-
-  all4 : (a b c e : Bool) (x : A) → when (a && b && c && e) x ≡ each (a ∷ b ∷ c ∷ e ∷ []) x
-  unfolding each
-  all4 true b c e x = all3 b c e x
-  all4 false b c e x = refl
-
-each-off : {A B : Type 0} (l : List Bool) (a : A) (b : B) → none ≡ each l a → each l b ≡ none
+pub stop : (b : Bool) (l : List Bool) (a : Action) → b ≡ false → Rest ≡ each (b ∷ l) a
 unfolding each
-each-off [] a b e = absurd (none≢some e)
-each-off (true ∷ l) a b e = each-off l a b e
-each-off (false ∷ l) a b e = refl
+stop b l a e = rw e
 
-given-when : {A B : Type 0} (b : Bool) (m : A) (f : A → Option B) (l : List Bool) (x : B) → (b ≡ true → f m ≡ each l x) → given (when b m) f ≡ each (b ∷ l) x
+pub go : (b : Bool) (l : List Bool) (a r : Action) → b ≡ true → r ≡ each l a → r ≡ each (b ∷ l) a
 unfolding each
-given-when true m f l x h = h refl
-given-when false m f l x h = refl
+go b l a r e f = rw e f
+
+pub done : (a : Action) → a ≡ each [] a
+unfolding each
+done a = refl
+
+-- tests that do not all pass for a do not for b either
+each-off : (l : List Bool) (a b : Action) → (Rest ≡ a → ⊥) → Rest ≡ each l a → each l b ≡ Rest
+unfolding each
+each-off [] a b n e = absurd (n e)
+each-off (true ∷ l) a b n e = each-off l a b n e
+each-off (false ∷ l) a b n e = refl
+
+module _ (s : Situation) (H : List View) (a : Action) {x : turn.Action} (is : some x ≡ actionIs s H a) where
+  all2 : (b c : Bool) → when (b && c) x ≡ actionIs s H (each (b ∷ c ∷ []) a)
+  unfolding each actionIs
+  all2 true true = is
+  all2 true false = refl
+  all2 false c = refl
+
+  all3 : (b c d : Bool) → when (b && c && d) x ≡ actionIs s H (each (b ∷ c ∷ d ∷ []) a)
+  unfolding each actionIs
+  all3 true c d = all2 c d
+  all3 false c d = refl
+
+  all4 : (b c d e : Bool) → when (b && c && d && e) x ≡ actionIs s H (each (b ∷ c ∷ d ∷ e ∷ []) a)
+  unfolding each actionIs
+  all4 true c d e = all3 c d e
+  all4 false c d e = refl
+
+given-when : {A : Type 0} (s : Situation) (H : List View) (b : Bool) (m : A) (f : A → Option turn.Action) (l : List Bool) (a : Action)
+    → (b ≡ true → f m ≡ actionIs s H (each l a)) → given (when b m) f ≡ actionIs s H (each (b ∷ l) a)
+unfolding each actionIs
+given-when s H true m f l a h = h refl
+given-when s H false m f l a h = refl
 
 given-cong : {A B : Type 0} (o : Option A) (f g : A → Option B) → ((m : A) → f m ≡ g m) → given o f ≡ given o g
 given-cong none f g h = refl
@@ -106,14 +106,93 @@ some-when : {A : Type 0} (b : Bool) (m : A) → isSome (when b m) ≡ b
 some-when true m = refl
 some-when false m = refl
 
+-- ---- actions by their tags
+
+-- all but the first act
+pub acts-else : (a : Action) → OneOf (1 ∷ 2 ∷ 3 ∷ 4 ∷ 5 ∷ 6 ∷ 7 ∷ 8 ∷ 9 ∷ 10 ∷ []) (tagOf action.the-type a) → true ≡ acts a
+acts-else Rest k = absurd (miss (1 ∷ 2 ∷ 3 ∷ 4 ∷ 5 ∷ 6 ∷ 7 ∷ 8 ∷ 9 ∷ 10 ∷ []) 0 tt k)
+acts-else (Report u) k = refl
+acts-else (Enter v b) k = refl
+acts-else AgreeView k = refl
+acts-else AgreeHistory k = refl
+acts-else (Ack m) k = refl
+acts-else (Store m) k = refl
+acts-else (Deliver m) k = refl
+acts-else Join k = refl
+acts-else Leave k = refl
+acts-else (Prepare m) k = refl
+
+-- all but four sign, and do nothing else
+pub signs-else : (s : Situation) (H : List View) (a : Action) → OneOf (1 ∷ 3 ∷ 4 ∷ 6 ∷ 8 ∷ 9 ∷ 10 ∷ []) (tagOf action.the-type a) → actionIs s H a ≡ some (turn.sign (signedBy s H a))
+unfolding actionIs
+signs-else s H Rest k = absurd (miss (1 ∷ 3 ∷ 4 ∷ 6 ∷ 8 ∷ 9 ∷ 10 ∷ []) 0 tt k)
+signs-else s H (Report u) k = refl
+signs-else s H (Enter v b) k = absurd (miss (1 ∷ 3 ∷ 4 ∷ 6 ∷ 8 ∷ 9 ∷ 10 ∷ []) 2 tt k)
+signs-else s H AgreeView k = refl
+signs-else s H AgreeHistory k = refl
+signs-else s H (Ack m) k = absurd (miss (1 ∷ 3 ∷ 4 ∷ 6 ∷ 8 ∷ 9 ∷ 10 ∷ []) 5 tt k)
+signs-else s H (Store m) k = refl
+signs-else s H (Deliver m) k = absurd (miss (1 ∷ 3 ∷ 4 ∷ 6 ∷ 8 ∷ 9 ∷ 10 ∷ []) 7 tt k)
+signs-else s H Join k = refl
+signs-else s H Leave k = refl
+signs-else s H (Prepare m) k = refl
+
 -- ---- what is signed
 
--- the step that signs st signs what st means
-pub signs-made : {a : Stmt} {st : Statement} {r : Step} → Made a st → Steps (some (sign (stmtOf st))) r → Steps (some (sign a)) r
-signs-made m s = record { means = s .means ∙ ap (λ x. some (sign x)) (m .means); short = s .short }
+pub made-as : {a b : Stmt} {st : Statement} → a ≡ b → Made a st → Made b st
+made-as e m = record { means = m .means ∙ e; short = m .short }
 
-pub binds-made : {a : Stmt} {st : Statement} {r : Step} {m : ℕ} → Made a st → Steps (some (bindAndSign m (stmtOf st))) r → Steps (some (bindAndSign m a)) r
-binds-made {m = m} d s = record { means = s .means ∙ ap (λ x. some (bindAndSign m x)) (d .means); short = s .short }
+module _ (s : Situation) (H : List View) {a : Action} {st : Statement} where
+  by-action : (b : Action) {x : Stmt} → x ≡ signedBy s H b → a ≡ b → Made x st → Made (signedBy s H a) st
+  by-action b q e m = made-as (q ∙ ap (signedBy s H) (sym e)) m
+
+  pub rest-made : a ≡ Rest → Made (join (s .number)) st → Made (signedBy s H a) st
+  unfolding signedBy
+  rest-made = by-action Rest refl
+
+  pub report-made : {u : held.View} → a ≡ Report u → Made (signedBy s H (Report u)) st → Made (signedBy s H a) st
+  report-made {u} = by-action (Report u) refl
+
+  pub enter-made : {v : held.View} {b : bindings.Binding} → a ≡ Enter v b → Made (join (s .number)) st → Made (signedBy s H a) st
+  unfolding signedBy
+  enter-made {v} {b} = by-action (Enter v b) refl
+
+  pub view-made : {w : View} → w ≡ viewIn (s .shown .wished) → a ≡ AgreeView → Made (agreeView (s .number) (viewIs (s .top)) w) st → Made (signedBy s H a) st
+  unfolding signedBy
+  view-made q = by-action AgreeView (ap (agreeView (s .number) (viewIs (s .top))) q)
+
+  pub history-made : {K : List View} → K ≡ H → a ≡ AgreeHistory → Made (agreeHistory (s .number) (viewIs (s .top)) K) st → Made (signedBy s H a) st
+  unfolding signedBy
+  history-made q = by-action AgreeHistory (ap (agreeHistory (s .number) (viewIs (s .top))) q)
+
+  pub ack-made : {m : ℕ} → a ≡ Ack m → Made (ack (s .number) (viewIs (s .top)) m) st → Made (signedBy s H a) st
+  unfolding signedBy
+  ack-made {m} = by-action (Ack m) refl
+
+  pub store-made : {m : ℕ} → a ≡ Store m → Made (store (s .number) (viewIs (s .top)) m) st → Made (signedBy s H a) st
+  unfolding signedBy
+  store-made {m} = by-action (Store m) refl
+
+  pub deliver-made : {m : ℕ} → a ≡ Deliver m → Made (join (s .number)) st → Made (signedBy s H a) st
+  unfolding signedBy
+  deliver-made {m} = by-action (Deliver m) refl
+
+  pub join-made : a ≡ Join → Made (join (s .number)) st → Made (signedBy s H a) st
+  unfolding signedBy
+  join-made = by-action Join refl
+
+  pub leave-made : a ≡ Leave → Made (leave (s .number)) st → Made (signedBy s H a) st
+  unfolding signedBy
+  leave-made = by-action Leave refl
+
+  pub prepare-made : {m : ℕ} → a ≡ Prepare m → Made (prepare (s .number) m) st → Made (signedBy s H a) st
+  unfolding signedBy
+  prepare-made {m} = by-action (Prepare m) refl
+
+pub reporting-made : (s : Situation) {H K : List View} (u : held.View) {w : View} {st : Statement} → w ≡ viewIn (s .shown .wished) → K ≡ H
+    → Made (report (s .number) (viewIs u) w (bindingIs (s .binding)) (certificateOf (s .shown)) K) st → Made (signedBy s H (Report u)) st
+unfolding signedBy
+reporting-made s u q e m = made-as (ap₂ (λ v H. report (s .number) (viewIs u) v (bindingIs (s .binding)) (certificateOf (s .shown)) H) q e) m
 
 -- whether the record has what st means
 module _ {a : Stmt} {st : Statement} (X : List Stmt) (b : Bool) (m : Made a st) (e : b ≡ any (sameStmt (stmtOf st)) X) where
@@ -128,21 +207,22 @@ module _ {a : Stmt} {st : Statement} (X : List Stmt) (b : Bool) (m : Made a st) 
 
 -- ---- the rules
 
--- rule is p, for every controller that s is of, with the record X and its own statements Y
-abbrev pub IsIn : List Stmt → List Stmt → Sight → Rule → Option Action → Type 0
-IsIn X Y s rule p = Owns X Y (s .number) → (d : Controller) → SightOf d X s → rule d X ≡ p
+-- the rule has every controller whose situation s is, and of whom L is lent, do a
+abbrev pub Is : List Lent → Situation → Rule → Action → Type 0
+Is L s rule a = (d : Controller) (X : List Stmt) → SituationOf d X s → AllHold s d X L → rule d X ≡ actionIs s (candidates (d .ring) X) a
 
--- whatever the record is
-abbrev pub Is : List Stmt → Sight → Rule → Option Action → Type 0
-Is Y s rule p = (X : List Stmt) → IsIn X Y s rule p
+pub does : {L : List Lent} {s : Situation} {rule : Rule} {a r : Action} → Is L s rule a → r ≡ a → Does L s rule r
+does {s = s} f e = record { means = λ d X k h. ap (actionIs s (candidates (d .ring) X)) e ∙ sym (f d X k h) }
 
-pub does-in : {X Y : List Stmt} {s : Sight} {rule : Rule} {o p : Option Action} {r : Step} → IsIn X Y s rule p → o ≡ p → Steps o r → Does X Y s rule r
-does-in f e t = record { means = λ y d k. t .means ∙ e ∙ sym (f y d k); short = t .short }
+-- where the record is lent, it is the one that is asked of
+with-record : (L : List Lent) {s : Situation} (rule : Rule) (a : Action) (Z : List Stmt)
+    → ((d : Controller) → SituationOf d Z s → AllHold s d Z L → rule d Z ≡ actionIs s (candidates (d .ring) Z) a) → Is (statements Z ∷ L) s rule a
+with-record L {s} rule a Z f d X k h = subst (λ X. SituationOf d X s → AllHold s d X L → rule d X ≡ actionIs s (candidates (d .ring) X) a) (h .0) (f d) k (h .1)
 
-pub does : {Y : List Stmt} {s : Sight} {rule : Rule} {o p : Option Action} {r : Step} → Is Y s rule p → o ≡ p → Steps o r → Owned Y s rule r
-does f e t = record { does = λ X. does-in (f X) e t }
+width-is : {d : Controller} {X : List Stmt} {s : Situation} → SituationOf d X s → d .ring .width ≡ 16
+width-is k = ap (λ R. R .width) (k .ring)
 
-module _ (Y : List Stmt) (s : Sight) where
+module _ (Y : List Stmt) (s : Situation) where
   abbrev n : ℕ
   n = s .number
 
@@ -150,154 +230,164 @@ module _ (Y : List Stmt) (s : Sight) where
   t = viewIs (s .top)
 
   abbrev w : View
-  w = viewIs (s .wished)
+  w = viewIn (s .shown .wished)
 
-  abbrev H : List View
-  H = viewsOf (s .candidates) (s .count)
+  abbrev m : ℕ
+  m = s .shown .payload
 
-  due-cong : (X : List Stmt) (d : Controller) → SightOf d X s → (u : View) → (below (d .ring .width) u (Turn.T d X) && member u (d .number) && not (own d X (reportsOn u))) ≡ reportDue X n t u
-  unfolding own reportsOn reportDue ownAt
-  due-cong X d k u = rw (k .top, k .width, k .number)
+  due-cong : (d : Controller) (X : List Stmt) → SituationOf d X s → (u : View) → (below (d .ring .width) u (turn.T d X) && member u (d .number) && not (turn.own d X (reportsOn u))) ≡ reportDue X n t u
+  unfolding turn.own reportsOn reportDue ownAt
+  due-cong d X k u = rw (k .top, width-is k, k .number)
 
-  due-own : (X : List Stmt) → Owns X Y n → (u : View) → reportDue X n t u ≡ reportDue Y n t u
+  due-own : {X : List Stmt} → Owns X Y n → (u : View) → reportDue X n t u ≡ reportDue Y n t u
   unfolding reportDue
-  due-own X y u = rw (owns-at y 5 u)
+  due-own y u = rw (owns-at y 5 u)
 
-  first : (o : Option View) → o ≡ find (reportDue Y n t) (viewsOf (s .greatest) (s .length))
-      → Is Y s rule1 (given o (λ u. some (sign (report n u w (bindingIs (s .binding)) (when (s .certified) (s .payload)) H))))
-  unfolding rule1
-  first o e X y d k = rw (find-cong _ _ _ (λ u. due-cong X d k u ∙ due-own X y u), k .greatest, ← e, k .certificate, k .wished, k .candidates, k .number, k .binding)
+  module _ (G : List ℕ) where
+    reporting : (o : Option View) → o ≡ find (reportDue Y n t) (viewsIn G (s .shown .length)) → (d : Controller) (X : List Stmt) → SituationOf d X s → AllHold s d X (ownStatements Y ∷ greatestViews G ∷ [])
+        → turn.rule1 d X ≡ given o (λ u. some (turn.sign (report n u w (bindingIs (s .binding)) (certificateOf (s .shown)) (candidates (d .ring) X))))
+    unfolding turn.rule1
+    reporting o e d X k h = rw (find-cong _ _ _ (λ u. due-cong d X k u ∙ due-own (h .0) u), ← h .1 .0, ← e, k .certificate, k .wished, k .number, k .binding)
 
-  module _ (r : Due) (e : dueIs r ≡ find (reportDue Y n t) (viewsOf (s .greatest) (s .length))) where
-    pub first-none : r ≡ Nothing → Is Y s rule1 none
-    first-none q = first none (ap dueIs (sym q) ∙ e)
+    pub first-none : none ≡ find (reportDue Y n t) (viewsIn G (s .shown .length)) → Is (ownStatements Y ∷ greatestViews G ∷ []) s turn.rule1 Rest
+    unfolding actionIs
+    first-none e d X k h = reporting none e d X k h
 
-    pub first-on : (u : held.View) {K : List View} → r ≡ On u → K ≡ H → Is Y s rule1 (some (sign (report n (viewIs u) w (bindingIs (s .binding)) (when (s .certified) (s .payload)) K)))
-    first-on u q h X y d k = rw h (first (some (viewIs u)) (ap dueIs (sym q) ∙ e) X y d k)
+    pub first-on : (u : held.View) → some (viewIs u) ≡ find (reportDue Y n t) (viewsIn G (s .shown .length)) → Is (ownStatements Y ∷ greatestViews G ∷ []) s turn.rule1 (Report u)
+    unfolding actionIs signedBy
+    first-on u e d X k h = reporting (some (viewIs u)) e d X k h
 
-  pub third : Is Y s rule3 (each (s .stands ∷ hasMembers 16 w ∷ not (sameView w t) ∷ not (any (sameStmt (agreeView n t w)) Y) ∷ []) (sign (agreeView n t w)))
-  unfolding rule3 hasSigned
-  third X y d k = rw (owns-same y (agreeView n t w) refl, k .stands, k .wished, k .top, k .width, k .number) (all4 _ _ _ _ _)
+  pub third : Is (ownStatements Y ∷ []) s turn.rule3 (each (s .stands ∷ hasMembers 16 w ∷ not (sameView w t) ∷ not (any (sameStmt (agreeView n t w)) Y) ∷ []) AgreeView)
+  unfolding turn.rule3 turn.hasSigned actionIs signedBy
+  third d X k h = rw (owns-same (h .0) (agreeView n t w) refl, k .stands, k .wished, k .top, ap (λ i. hasMembers i w) (width-is k), k .number) (all4 s (candidates (d .ring) X) AgreeView refl _ _ _ _)
 
-  newest : (u : View) → 0 < s .count → viewOf (getD (s .candidates) (s .count - 1) 0) ≡ last u H
-  unfolding viewsOf
-  newest u h = last-some _ (s .count) u (λ e. omega arith)
+  module _ (C : List ℕ) where
+    newest : (u : View) → 0 < s .shown .count → viewIn (getD C (s .shown .count - 1) 0) ≡ last u (viewsIn C (s .shown .count))
+    unfolding viewsIn
+    newest u h = last-some _ (s .shown .count) u (λ e. omega arith)
 
-  pub fourth : {K : List View} → K ≡ H → 0 < s .count
-      → Is Y s rule4 (each (s .stands ∷ not (sameView (viewOf (getD (s .candidates) (s .count - 1) 0)) t) ∷ not (any (sameStmt (agreeHistory n t K)) Y) ∷ []) (sign (agreeHistory n t K)))
-  unfolding rule4 hasSigned
-  fourth {K} q h X y d k = rw (owns-same y (agreeHistory n t K) refl, q, k .stands, k .candidates, k .top, ← newest (d .ring .init) h, k .number) (all3 _ _ _ _)
+    agreeing : (d : Controller) (X : List Stmt) → SituationOf d X s → Owns X Y n → (H : List View) → H ≡ candidates (d .ring) X → (v : View) → v ≡ last (d .ring .init) H
+        → turn.rule4 d X ≡ actionIs s H (each (s .stands ∷ not (sameView v t) ∷ not (any (sameStmt (agreeHistory n t H)) Y) ∷ []) AgreeHistory)
+    unfolding turn.rule4 turn.hasSigned actionIs signedBy
+    agreeing d X k y H e v q = rw (owns-same y (agreeHistory n t H) refl, q, e, k .stands, k .top, k .number) (all3 s (candidates (d .ring) X) AgreeHistory refl _ _ _)
 
-  storing : (X : List Stmt) (d : Controller) → SightOf d X s
-      → when (Turn.stands d X && not (own d X (storesAt (Turn.T d X)))) (sign (store (d .number) (Turn.T d X) (s .payload))) ≡ each (s .stands ∷ not (any (ownAt n 8 t) X) ∷ []) (sign (store n t (s .payload)))
-  unfolding own ownAt
-  storing X d k = rw (k .stands, k .top, k .number) (all2 _ _ _)
+    pub fourth : {K : List View} → K ≡ viewsIn C (s .shown .count) → 0 < s .shown .count
+        → Is (ownStatements Y ∷ candidateViews C ∷ []) s turn.rule4 (each (s .stands ∷ not (sameView (viewIn (getD C (s .shown .count - 1) 0)) t) ∷ not (any (sameStmt (agreeHistory n t K)) Y) ∷ []) AgreeHistory)
+    fourth {K} q l d X k h =
+        agreeing d X k (h .0) (candidates (d .ring) X) refl (viewIn (getD C (s .shown .count - 1) 0)) (newest (d .ring .init) l ∙ ap (last (d .ring .init)) (h .1 .0))
+        ∙ ap (λ K. actionIs s (candidates (d .ring) X) (each (s .stands ∷ not (sameView (viewIn (getD C (s .shown .count - 1) 0)) t) ∷ not (any (sameStmt (agreeHistory n t K)) Y) ∷ []) AgreeHistory)) (sym (q ∙ h .1 .0))
 
-  pub sixth : Is Y s rule6 (each (s .certified ∷ s .stands ∷ not (any (ownAt n 8 t) Y) ∷ []) (sign (store n t (s .payload))))
-  unfolding rule6
-  sixth X y d k =
-      rw (owns-at y 8 t, k .certificate) (given-when (s .certified) (s .payload) (λ m. when (Turn.stands d X && not (own d X (storesAt (Turn.T d X)))) (sign (store (d .number) (Turn.T d X) m))) _ _ (λ c. storing X d k))
+  storing : (d : Controller) (X : List Stmt) → SituationOf d X s → Owns X Y n
+      → when (turn.stands d X && not (turn.own d X (storesAt (turn.T d X)))) (turn.sign (store (d .number) (turn.T d X) m)) ≡ actionIs s (candidates (d .ring) X) (each (s .stands ∷ not (any (ownAt n 8 t) Y) ∷ []) (Store m))
+  unfolding turn.own ownAt actionIs signedBy
+  storing d X k y = rw (owns-at y 8 t, k .stands, k .top, k .number) (all2 s (candidates (d .ring) X) (Store m) refl _ _)
 
-  delivering : (X : List Stmt) (d : Controller) → SightOf d X s → s .certified ≡ true
-      → when (ltb 0 (length (d .entered)) && not (bit (Turn.T d X .left) (d .number)) && not (d .delivered) && isStored (d .ring) X (s .payload)) (deliver (s .payload))
-      ≡ each (s .active ∷ not (bit (s .top .left) n) ∷ not (s .delivered) ∷ s .stored ∷ []) (deliver (s .payload))
-  delivering X d k c = rw (k .top, k .stored c, k .active, k .number, k .delivered) (all4 _ _ _ _ _)
+  pub sixth : Is (ownStatements Y ∷ []) s turn.rule6 (each (s .shown .certified ∷ s .stands ∷ not (any (ownAt n 8 t) Y) ∷ []) (Store m))
+  unfolding turn.rule6
+  sixth d X k h =
+      ap (λ o. given o (λ m. when (turn.stands d X && not (turn.own d X (storesAt (turn.T d X)))) (turn.sign (store (d .number) (turn.T d X) m)))) (k .certificate)
+      ∙ given-when s (candidates (d .ring) X) (s .shown .certified) m (λ m. when (turn.stands d X && not (turn.own d X (storesAt (turn.T d X)))) (turn.sign (store (d .number) (turn.T d X) m))) _ _ (λ c. storing d X k (h .0))
 
-  pub seventh : Is Y s rule7 (each (s .certified ∷ s .active ∷ not (bit (s .top .left) n) ∷ not (s .delivered) ∷ s .stored ∷ []) (deliver (s .payload)))
-  unfolding rule7
-  seventh X y d k =
-      rw (k .certificate)
-      (given-when (s .certified) (s .payload) (λ m. when (ltb 0 (length (d .entered)) && not (bit (Turn.T d X .left) (d .number)) && not (d .delivered) && isStored (d .ring) X m) (deliver m)) _ _
-      (delivering X d k))
+  pub eighth : Is (ownStatements Y ∷ []) s turn.rule8 (each (s .joining ∷ not (any (sameStmt (join n)) Y) ∷ []) Join)
+  unfolding turn.rule8 turn.hasSigned actionIs signedBy
+  eighth d X k h = rw (owns-same (h .0) (join n) refl, k .joining, k .number) (all2 s (candidates (d .ring) X) Join refl _ _)
 
-  pub eighth : Is Y s rule8 (each (s .joining ∷ not (any (sameStmt (join n)) Y) ∷ []) (sign (join n)))
-  unfolding rule8 hasSigned
-  eighth X y d k = rw (owns-same y (join n) refl, k .joining, k .number) (all2 _ _ _)
+  pub ninth : Is (ownStatements Y ∷ []) s turn.rule9 (each (s .leaving ∷ not (any (sameStmt (leave n)) Y) ∷ (s .delivered || not (s .shown .certified || any (ownKind n 6) Y)) ∷ []) Leave)
+  unfolding turn.rule9 turn.hasSigned turn.own ownKind actionIs signedBy
+  ninth d X k h =
+      rw (owns-same (h .0) (leave n) refl, owns-kind (h .0) 6, k .certificate, some-when (s .shown .certified) m, k .leaving, k .number, k .delivered) (all3 s (candidates (d .ring) X) Leave refl _ _ _)
 
-  leaving : (X : List Stmt) (d : Controller) → SightOf d X s
-      → rule9 d X ≡ each (s .leaving ∷ not (any (sameStmt (leave n)) X) ∷ (s .delivered || not (s .certified || any (ownKind n 6) X)) ∷ []) (sign (leave n))
-  unfolding rule9 hasSigned own ownKind
-  leaving X d k = rw (k .certificate, some-when (s .certified) (s .payload), k .leaving, k .number, k .delivered) (all3 _ _ _ _)
+  pub tenth-none : s .sending ≡ Nothing → Is (ownStatements Y ∷ []) s turn.rule10 Rest
+  unfolding turn.rule10 actionIs
+  tenth-none e d X k h = rw (k .sending ∙ ap sendIs e)
 
-  pub ninth : Is Y s rule9 (each (s .leaving ∷ not (any (sameStmt (leave n)) Y) ∷ (s .delivered || not (s .certified || any (ownKind n 6) Y)) ∷ []) (sign (leave n)))
-  ninth X y d k = rw (owns-same y (leave n) refl, owns-kind y 6) (leaving X d k)
+  preparing : (d : Controller) (X : List Stmt) → SituationOf d X s → Owns X Y n → (p : ℕ)
+      → when (turn.stands d X && not (turn.hasSigned d X (leave (d .number))) && not (turn.hasSigned d X (prepare (d .number) p))) (turn.sign (prepare (d .number) p))
+      ≡ actionIs s (candidates (d .ring) X) (each (s .stands ∷ not (any (sameStmt (leave n)) Y) ∷ not (any (sameStmt (prepare n p)) Y) ∷ []) (Prepare p))
+  unfolding turn.hasSigned actionIs signedBy
+  preparing d X k y p = rw (owns-same y (leave n) refl, owns-same y (prepare n p) refl, k .stands, k .number) (all3 s (candidates (d .ring) X) (Prepare p) refl _ _ _)
 
-  preparing : (X : List Stmt) → Owns X Y n → (d : Controller) → SightOf d X s → (m : ℕ)
-      → when (Turn.stands d X && not (hasSigned d X (leave (d .number))) && not (hasSigned d X (prepare (d .number) m))) (sign (prepare (d .number) m))
-      ≡ each (s .stands ∷ not (any (sameStmt (leave n)) Y) ∷ not (any (sameStmt (prepare n m)) Y) ∷ []) (sign (prepare n m))
-  unfolding hasSigned
-  preparing X y d k m = rw (owns-same y (leave n) refl, owns-same y (prepare n m) refl, k .stands, k .number) (all3 _ _ _ _)
+  pub tenth : (p : ℕ) → s .sending ≡ Payload p
+      → Is (ownStatements Y ∷ []) s turn.rule10 (each (s .stands ∷ not (any (sameStmt (leave n)) Y) ∷ not (any (sameStmt (prepare n p)) Y) ∷ []) (Prepare p))
+  unfolding turn.rule10
+  tenth p e d X k h =
+      ap (λ o. given o (λ p. when (turn.stands d X && not (turn.hasSigned d X (leave (d .number))) && not (turn.hasSigned d X (prepare (d .number) p))) (turn.sign (prepare (d .number) p)))) (k .sending ∙ ap sendIs e)
+      ∙ preparing d X k (h .0) p
 
-  pub tenth-none : s .sending ≡ send.Nothing → Is Y s rule10 none
-  unfolding rule10
-  tenth-none e X y d k = rw (k .sending ∙ ap sendIs e)
+-- ---- rule 7
 
-  pub tenth : (m : ℕ) → s .sending ≡ Payload m
-      → Is Y s rule10 (each (s .stands ∷ not (any (sameStmt (leave n)) Y) ∷ not (any (sameStmt (prepare n m)) Y) ∷ []) (sign (prepare n m)))
-  unfolding rule10
-  tenth m e X y d k = ap (λ o. given o (λ m. when (Turn.stands d X && not (hasSigned d X (leave (d .number))) && not (hasSigned d X (prepare (d .number) m))) (sign (prepare (d .number) m)))) (k .sending ∙ ap sendIs e) ∙ preparing X y d k m
+module _ (s : Situation) where
+  delivering : (d : Controller) (X : List Stmt) → SituationOf d X s → s .shown .certified ≡ true
+      → when (ltb 0 (length (d .entered)) && not (bit (turn.T d X .left) (d .number)) && not (d .delivered) && isStored (d .ring) X (s .shown .payload)) (turn.deliver (s .shown .payload))
+      ≡ actionIs s (candidates (d .ring) X) (each (s .active ∷ not (bit (viewIs (s .top) .left) (s .number)) ∷ not (s .delivered) ∷ s .shown .stored ∷ []) (Deliver (s .shown .payload)))
+  unfolding actionIs
+  delivering d X k c = rw (k .top, k .stored c, k .active, k .number, k .delivered) (all4 s (candidates (d .ring) X) (Deliver (s .shown .payload)) refl _ _ _ _)
+
+  pub seventh : Is [] s turn.rule7 (each (s .shown .certified ∷ s .active ∷ not (bit (viewIs (s .top) .left) (s .number)) ∷ not (s .delivered) ∷ s .shown .stored ∷ []) (Deliver (s .shown .payload)))
+  unfolding turn.rule7
+  seventh d X k h =
+      ap (λ o. given o (λ m. when (ltb 0 (length (d .entered)) && not (bit (turn.T d X .left) (d .number)) && not (d .delivered) && isStored (d .ring) X m) (turn.deliver m))) (k .certificate)
+      ∙ given-when s (candidates (d .ring) X) (s .shown .certified) (s .shown .payload) (λ m. when (ltb 0 (length (d .entered)) && not (bit (turn.T d X .left) (d .number)) && not (d .delivered) && isStored (d .ring) X m) (turn.deliver m)) _ _ (delivering d X k)
 
 -- ---- rule 5
 
-module _ (X Y : List Stmt) (s : Sight) where
-  -- "bound to m, or unbound [..]: bind to m and sign"
-  acking : (d : Controller) → SightOf d X s → (m : ℕ)
-      → when (Turn.stands d X && not (own d X (acksAt (Turn.T d X)))) (bindAndSign m (ack (d .number) (Turn.T d X) m)) ≡ each (s .stands ∷ not (any (ownAt (s .number) 7 (viewIs (s .top))) X) ∷ []) (bindAndSign m (ack (s .number) (viewIs (s .top)) m))
-  unfolding own ownAt
-  acking d k m = rw (k .stands, k .top, k .number) (all2 _ _ _)
+module _ (X Y : List Stmt) (s : Situation) where
+  abbrev ackTests : List Bool
+  ackTests = s .stands ∷ not (any (ownAt (s .number) 7 (viewIs (s .top))) Y) ∷ []
 
-  acking-own : Owns X Y (s .number) → (d : Controller) → SightOf d X s → (m : ℕ)
-      → when (Turn.stands d X && not (own d X (acksAt (Turn.T d X)))) (bindAndSign m (ack (d .number) (Turn.T d X) m)) ≡ each (s .stands ∷ not (any (ownAt (s .number) 7 (viewIs (s .top))) Y) ∷ []) (bindAndSign m (ack (s .number) (viewIs (s .top)) m))
-  acking-own y d k m = acking d k m ∙ ap (λ b. each (s .stands ∷ not b ∷ []) (bindAndSign m (ack (s .number) (viewIs (s .top)) m))) (sym (owns-at y 7 (viewIs (s .top))))
+  abbrev Is5 : Action → Type 0
+  Is5 a = Is (statements X ∷ ownStatements Y ∷ []) s turn.rule5 a
+
+  -- "bound to m, or unbound [..]: bind to m and sign"
+  acking : (d : Controller) → SituationOf d X s → Owns X Y (s .number) → (m : ℕ)
+      → when (turn.stands d X && not (turn.own d X (acksAt (turn.T d X)))) (turn.bindAndSign m (ack (d .number) (turn.T d X) m)) ≡ actionIs s (candidates (d .ring) X) (each ackTests (Ack m))
+  unfolding turn.own ownAt actionIs signedBy
+  acking d k y m = rw (owns-at y 7 (viewIs (s .top)), k .stands, k .top, k .number) (all2 s (candidates (d .ring) X) (Ack m) refl _ _)
 
   module _ (r : Send) (a : Acks X s r) where
-    pub fifth-none : r ≡ send.Nothing → IsIn X Y s rule5 none
-    unfolding rule5
-    fifth-none q y d k = rw (a .means d k ∙ ap sendIs q)
+    pub fifth-none : r ≡ Nothing → Is5 Rest
+    unfolding turn.rule5 actionIs
+    fifth-none q = with-record (ownStatements Y ∷ []) turn.rule5 Rest X (λ d k h. rw (a .means d k ∙ ap sendIs q))
 
-    pub fifth-on : (m : ℕ) → r ≡ Payload m → IsIn X Y s rule5 (each (s .stands ∷ not (any (ownAt (s .number) 7 (viewIs (s .top))) Y) ∷ []) (bindAndSign m (ack (s .number) (viewIs (s .top)) m)))
-    unfolding rule5
-    fifth-on m q y d k = rw (a .means d k ∙ ap sendIs q) (acking-own y d k m)
+    pub fifth-on : (m : ℕ) → r ≡ Payload m → Is5 (each ackTests (Ack m))
+    unfolding turn.rule5
+    fifth-on m q = with-record (ownStatements Y ∷ []) turn.rule5 (each ackTests (Ack m)) X (λ d k h. rw (a .means d k ∙ ap sendIs q) (acking d k (h .0) m))
 
   -- whatever there is to ack
-  pub fifth-off : _≡_ {A = Option ℕ} none (each (s .stands ∷ not (any (ownAt (s .number) 7 (viewIs (s .top))) Y) ∷ []) 0) → IsIn X Y s rule5 none
-  unfolding rule5
-  fifth-off h y d k = given-off (toAck d X (d .binding)) _ (λ m. acking-own y d k m ∙ each-off (s .stands ∷ not (any (ownAt (s .number) 7 (viewIs (s .top))) Y) ∷ []) 0 (bindAndSign m (ack (s .number) (viewIs (s .top)) m)) h)
+  pub fifth-off : Rest ≡ each ackTests (Ack 0) → Is5 Rest
+  unfolding turn.rule5 actionIs
+  fifth-off e = with-record (ownStatements Y ∷ []) turn.rule5 Rest X (λ d k h. given-off (turn.toAck d X (d .binding)) _ (λ m. acking d k (h .0) m ∙ ap (actionIs s (candidates (d .ring) X)) (each-off ackTests (Ack 0) (Ack m) (λ q. false≢true (ap acts q)) e)))
 
-module _ (X : List Stmt) (s : Sight) where
+module _ (X : List Stmt) (s : Situation) where
   -- ---- what there is to ack
 
-  acks-by : (b : bindings.Binding) (r : Send) → s .binding ≡ b → ((d : Controller) → SightOf d X s → toAck d X (bindingIs b) ≡ sendIs r) → Acks X s r
-  acks-by b r e h = record { means = λ d k. ap (toAck d X) (k .binding ∙ ap bindingIs e) ∙ h d k }
+  acks-by : (b : bindings.Binding) (r : Send) → s .binding ≡ b → ((d : Controller) → SituationOf d X s → turn.toAck d X (bindingIs b) ≡ sendIs r) → Acks X s r
+  acks-by b r e h = record { means = λ d k. ap (turn.toAck d X) (k .binding ∙ ap bindingIs e) ∙ h d k }
 
   pub ack-bound : (m : ℕ) → s .binding ≡ Bound m → Acks X s (Payload m)
-  unfolding toAck
+  unfolding turn.toAck
   ack-bound m e = acks-by (Bound m) (Payload m) e (λ d k. refl)
 
-  pub ack-barred : s .binding ≡ Barred → Acks X s send.Nothing
-  unfolding toAck
-  ack-barred e = acks-by Barred send.Nothing e (λ d k. refl)
+  pub ack-barred : s .binding ≡ Barred → Acks X s Nothing
+  unfolding turn.toAck
+  ack-barred e = acks-by Barred Nothing e (λ d k. refl)
 
-  module _ (b : Bool) (e : s .binding ≡ Unbound) (is : b ≡ member (viewIs (s .top)) (s .sender)) where
-    the-payload : b ≡ true → (d : Controller) → SightOf d X s → (x : Stmt) → when (member (Turn.T d X) (d .sender)) (x .payload) ≡ some (x .payload)
+  module _ (b : Bool) (e : s .binding ≡ Unbound) (is : b ≡ member (viewIs (s .top)) (s .ring .sender)) where
+    the-payload : b ≡ true → (d : Controller) → SituationOf d X s → (x : Stmt) → when (member (turn.T d X) (d .sender)) (x .payload) ≡ some (x .payload)
     the-payload f d k x = rw (k .top, k .sender, sym is ∙ f)
 
-    no-payload : b ≡ false → (d : Controller) → SightOf d X s → (x : Stmt) → when (member (Turn.T d X) (d .sender)) (x .payload) ≡ none
+    no-payload : b ≡ false → (d : Controller) → SituationOf d X s → (x : Stmt) → when (member (turn.T d X) (d .sender)) (x .payload) ≡ none
     no-payload f d k x = rw (k .top, k .sender, sym is ∙ f)
 
-    pub ack-outside : b ≡ false → Acks X s send.Nothing
-    unfolding toAck
-    ack-outside f = acks-by Unbound send.Nothing e (λ d k. given-off (find (prepares (d .sender)) X) (λ x. when (member (Turn.T d X) (d .sender)) (x .payload)) (no-payload f d k))
+    pub ack-outside : b ≡ false → Acks X s Nothing
+    unfolding turn.toAck
+    ack-outside f = acks-by Unbound Nothing e (λ d k. given-off (find (prepares (d .sender)) X) (λ x. when (member (turn.T d X) (d .sender)) (x .payload)) (no-payload f d k))
 
-    pub ack-first : (r : Send) → b ≡ true → sendIs r ≡ firstPrepare (s .sender) X → Acks X s r
-    unfolding toAck firstPrepare
+    pub ack-first : (r : Send) → b ≡ true → sendIs r ≡ firstPrepare (s .ring .sender) X → Acks X s r
+    unfolding turn.toAck firstPrepare
     ack-first r f q = acks-by Unbound r e (λ d k.
-        given-cong (find (prepares (d .sender)) X) (λ x. when (member (Turn.T d X) (d .sender)) (x .payload)) (λ x. some (x .payload)) (the-payload f d k)
+        given-cong (find (prepares (d .sender)) X) (λ x. when (member (turn.T d X) (d .sender)) (x .payload)) (λ x. some (x .payload)) (the-payload f d k)
         ∙ ap (λ x. given (find (prepares x) X) (λ y. some (y .payload))) (k .sender) ∙ sym q)
-
--- what rule 7 asks is all in s
-pub delivers : {s : Sight} {o : Option Action} {r : Step} → o ≡ each (s .certified ∷ s .active ∷ not (bit (s .top .left) (s .number)) ∷ not (s .delivered) ∷ s .stored ∷ []) (deliver (s .payload)) → Steps o r → Delivers s r
-delivers {s} e t = record { does = λ X Y. does-in (seventh Y s X) e t }
 
 -- a statement of its own at the view of a word
 module _ (X : List Stmt) (b : Bool) (k kind u : ℕ) {v : View} (is : viewOf u ≡ v) (e : b ≡ any (ownAt k kind (viewOf u)) X) where
@@ -321,45 +411,47 @@ module _ (b : Bool) (t : View) {u v : View} (is : v ≡ u) (e : b ≡ sameView v
   pub not-top : b ≡ false → not (sameView u t) ≡ true
   not-top f = ap not (top-asked ∙ f)
 
+-- whether the view u, which v is, has members
+pub members-asked : (b c : Bool) {u v : View} → v ≡ u → b ≡ hasMembers 16 v → b ≡ c → hasMembers 16 u ≡ c
+members-asked b c is e f = ap (hasMembers 16) (sym is) ∙ sym e ∙ f
+
 -- ---- rule 2
 
-module _ (s : Sight) (reported : Bool) (m : Binding) where
-  abbrev mayEnter : Bool
-  mayEnter = member (viewIs (s .top)) (s .number) && not (s .entered)
+module _ (X : List Stmt) (s : Situation) where
+  abbrev Is2 : Action → Type 0
+  Is2 a = Is (statements X ∷ []) s turn.rule2 a
 
-  second : (d : Controller) (X : List Stmt) → SightOf d X s → isReported d X ≡ reported → mergeAll (d .binding) (countedReports d X) ≡ m
-      → rule2 d X ≡ each (mayEnter ∷ reported ∷ []) (enter (viewIs (s .top)) m)
-  unfolding rule2
-  second d X k e f = rw (e, f, k .top, k .entered, k .number) (all2 _ _ _)
+  entering : (d : Controller) → SituationOf d X s → (reported : Bool) → turn.isReported d X ≡ reported
+      → turn.rule2 d X ≡ when (member (viewIs (s .top)) (s .number) && not (s .entered) && reported) (turn.enter (viewIs (s .top)) (turn.mergeAll (d .binding) (turn.countedReports d X)))
+  unfolding turn.rule2
+  entering d k reported e = rw (e, k .top, k .entered, k .number)
 
-pub enters : (s : Sight) (reported : Bool) (merged : bindings.Binding) {o : Option Action} {r : Step}
-    → o ≡ each (mayEnter s reported (bindingIs merged) ∷ reported ∷ []) (enter (viewIs (s .top)) (bindingIs merged)) → Steps o r → Enters s reported merged r
-enters s reported merged e t = record { means = λ d X k p q. t .means ∙ e ∙ sym (second s reported (bindingIs merged) d X k p q); short = t .short }
+  -- what the evidence says of the reports
+  in-ring : (d : Controller) → SituationOf d X s → (b : Bool) → b ≡ reportedAll (ringOf (s .ring)) (s .ring .sender) X → turn.isReported d X ≡ b
+  in-ring d k b e = reported-turn d X ∙ ap₂ (λ x y. reportedAll x y X) (k .ring) (k .sender) ∙ sym e
 
--- rule 2 in the ring R, with what the evidence says of the reports
-in-ring : {X : List Stmt} {R : Ring} {s : Sight} (reported : Bool) (d : Controller) → SightOf d X s → d .ring ≡ R → reported ≡ reportedAll R (s .sender) X → isReported d X ≡ reported
-in-ring {X} reported d k q e = reported-turn d X ∙ ap₂ (λ x y. reportedAll x y X) q (k .sender) ∙ sym e
+  merging : (d : Controller) → SituationOf d X s → (b : bindings.Binding) → bindingIs b ≡ turn.mergeAll (bindingIs (s .binding)) (reportsBelow (ringOf (s .ring)) (s .ring .sender) X)
+      → turn.mergeAll (d .binding) (turn.countedReports d X) ≡ bindingIs b
+  merging d k b e = ap₂ turn.mergeAll (k .binding) (counted-turn d X ∙ ap₂ (λ x y. reportsBelow x y X) (k .ring) (k .sender)) ∙ sym e
 
-module _ {X : List Stmt} {R : Ring} {s : Sight} {r : Step} where
-  pub not-entering : (b : Bool) → b ≡ (member (viewIs (s .top)) (s .number) && not (s .entered)) → b ≡ false → Steps none r → Entering X R s r
-  not-entering b e f t = record {
-    means = λ d k q. t .means ∙ stop _ (isReported d X ∷ []) (enter (viewIs (s .top)) (mergeAll (d .binding) (countedReports d X))) (sym e ∙ f) ∙ sym (second s (isReported d X) (mergeAll (d .binding) (countedReports d X)) d X k refl refl);
-    short = t .short;
-  }
+  module _ (inside : Bool) (i : inside ≡ member (viewIs (s .top)) (s .number)) where
+    pub outside : inside ≡ false → Is2 Rest
+    unfolding actionIs
+    outside f = with-record [] turn.rule2 Rest X (λ d k h. entering d k (turn.isReported d X) refl ∙ rw (sym i ∙ f))
 
-  pub not-reported : (b c : Bool) → b ≡ (member (viewIs (s .top)) (s .number) && not (s .entered)) → b ≡ true → c ≡ reportedAll R (s .sender) X → c ≡ false → Steps none r → Entering X R s r
-  not-reported b c e f g h t = record {
-    means = λ d k q.
-        t .means ∙ go _ (c ∷ []) (enter (viewIs (s .top)) (mergeAll (d .binding) (countedReports d X))) none (sym e ∙ f) (stop c [] (enter (viewIs (s .top)) (mergeAll (d .binding) (countedReports d X))) h)
-        ∙ sym (second s c (mergeAll (d .binding) (countedReports d X)) d X k (in-ring c d k q g) refl);
-    short = t .short;
-  }
+    module _ (f : inside ≡ true) where
+      pub entered-already : s .entered ≡ true → Is2 Rest
+      unfolding actionIs
+      entered-already g = with-record [] turn.rule2 Rest X (λ d k h. entering d k (turn.isReported d X) refl ∙ rw (sym i ∙ f, g))
 
-  pub entering : (c : Bool) (merged : bindings.Binding) → c ≡ reportedAll R (s .sender) X → bindingIs merged ≡ mergeAll (bindingIs (s .binding)) (reportsBelow R (s .sender) X) → Enters s c merged r → Entering X R s r
-  entering c merged g h n = record {
-    means = λ d k q. n .means d X k (in-ring c d k q g) (ap₂ mergeAll (k .binding) (counted-turn d X ∙ ap₂ (λ x y. reportsBelow x y X) q (k .sender)) ∙ sym h);
-    short = n .short;
-  }
+      module _ (g : s .entered ≡ false) (reported : Bool) (e : reported ≡ reportedAll (ringOf (s .ring)) (s .ring .sender) X) where
+        pub not-reported : reported ≡ false → Is2 Rest
+        unfolding actionIs
+        not-reported b = with-record [] turn.rule2 Rest X (λ d k h. entering d k reported (in-ring d k reported e) ∙ rw (sym i ∙ f, g, b))
+
+        pub enters : reported ≡ true → (merged : bindings.Binding) → bindingIs merged ≡ turn.mergeAll (bindingIs (s .binding)) (reportsBelow (ringOf (s .ring)) (s .ring .sender) X) → Is2 (Enter (s .top) merged)
+        unfolding actionIs
+        enters b merged q = with-record [] turn.rule2 (Enter (s .top) merged) X (λ d k h. entering d k reported (in-ring d k reported e) ∙ rw (sym i ∙ f, g, b, merging d k merged q))
 
 -- ---- the parts of a rule
 
@@ -372,13 +464,6 @@ leave-waits a b x e f = rw (e, f)
 pub leave-free : (a b x y : Bool) → a ≡ false → b ≡ false → y ≡ x → not y ≡ (a || not (b || x))
 leave-free a b x y e f g = rw (e, f, g)
 
-pub entered-already : (a b : Bool) → b ≡ true → false ≡ (a && not b)
-entered-already true b e = rw e
-entered-already false b e = refl
-
-pub not-entered : (a b r : Bool) → b ≡ false → r ≡ a → r ≡ (a && not b)
-not-entered a b r e f = rw e (f ∙ sym (and-true a))
-
 module _ (X : List Stmt) (k : ℕ) (t u : View) where
   pub due-above : (b : Bool) → b ≡ below 16 u t → b ≡ false → false ≡ reportDue X k t u
   unfolding reportDue
@@ -388,6 +473,6 @@ module _ (X : List Stmt) (k : ℕ) (t u : View) where
   unfolding reportDue
   due-outside b c e f g h = rw (sym e ∙ f, sym g ∙ h)
 
-  pub due-open : (b c r : Bool) → b ≡ below 16 u t → b ≡ true → c ≡ member u k → c ≡ true → r ≡ any (ownAt k 5 u) X → not r ≡ reportDue X k t u
+  pub due-open : (b c r : Bool) (w : ℕ) → b ≡ below 16 u t → b ≡ true → c ≡ member u k → c ≡ true → viewOf w ≡ u → r ≡ any (ownAt k 5 (viewOf w)) X → not r ≡ reportDue X k t u
   unfolding reportDue
-  due-open b c r e f g h p = rw (sym e ∙ f, sym g ∙ h, p)
+  due-open b c r w e f g h q p = rw (sym e ∙ f, sym g ∙ h, p ∙ ap (λ v. any (ownAt k 5 v) X) q)

@@ -3,7 +3,7 @@
 use mathlib.Core.Path.{_≡_, refl, sym, ap, ap₂, _∙_}
 use mathlib.Core.Bool.{Bool, true, false, _&&_, _||_, and-comm, and-assoc, true≢false}
 use mathlib.Core.List.{List, [], _∷_, _++_, append-nil}
-use mathlib.Core.Option.{Option, some, none}
+use mathlib.Core.Option.{some, none}
 use Prim.Native.Nat.{ℕ, zero, suc, _+_, _≤_, _<_, min}
 use native.Mathlib.Decide.{decLt}
 use native.Mathlib.Numerals.{add-one}
@@ -20,14 +20,14 @@ use Rattle.protocol.proofs.Asked.{says-same-stmt}
 use Rattle.views.specs.declared.View as held
 use Rattle.views.specs.declared.History.{History}
 use Rattle.views.specs.Table.{table}
-use Rattle.views.specs.View.{viewOf}
+use Rattle.views.specs.View.{viewIn}
 use Rattle.views.specs.Held.{viewIs, heldAt, viewsIs}
 use Rattle.views.proofs.Tables.{any-zero, any-more}
 use Rattle.views.proofs.Held.{views-of, cut-is}
 use Rattle.pool.specs.Pool.{recordOf}
 use Rattle.pool.proofs.Records as records
-use Rattle.ranking.specs.Slots.{viewsOf}
 use Rattle.evidence.proofs.Sifted.{any-among}
+use Rattle.rules.specs.Actions.{viewsIn}
 use Rattle.rules.specs.Rules.{ownKind, ownAt, Owns, firstPrepare}
 
 -- ---- one statement
@@ -149,18 +149,18 @@ module _ (W ids : List ℕ) (sender len i : ℕ) (so-far : any (prepares sender)
 -- the first i places of l hold the views of the first i words of W
 pub record Slots (l : List held.View) (W : List ℕ) (i : ℕ) : Type 0 where
   pub size : length l ≡ 16
-  pub same : table i (heldAt l) ≡ viewsOf W i
+  pub same : table i (heldAt l) ≡ viewsIn W i
 
-slots-grown : (W : List ℕ) (i : ℕ) → viewsOf W (i + 1) ≡ viewsOf W i ++ (viewOf (getD W i 0) ∷ [])
-unfolding viewsOf table
+slots-grown : (W : List ℕ) (i : ℕ) → viewsIn W (i + 1) ≡ viewsIn W i ++ (viewIn (getD W i 0) ∷ [])
+unfolding viewsIn table
 slots-grown W i = rw add-one
 
 module _ {l : List held.View} {W : List ℕ} where
   pub slots-none : length l ≡ 16 → Slots l W 0
-  unfolding table viewsOf
+  unfolding table viewsIn
   slots-none s = record { size = s; same = refl }
 
-  pub slots-next : {i : ℕ} (v : held.View) → i < 16 → viewIs v ≡ viewOf (getD W i 0) → Slots l W i → Slots (set l i v) W (i + 1)
+  pub slots-next : {i : ℕ} (v : held.View) → i < 16 → viewIs v ≡ viewIn (getD W i 0) → Slots l W i → Slots (set l i v) W (i + 1)
   slots-next {i} v h e s = record {
     size = length-set l i v ∙ s .size;
     same = views-of made (i + 1) (omega arith) ∙ cut-is l i v made (s .size) h refl refl ∙ ap₂ (λ k u. k ++ (u ∷ [])) (s .same) e ∙ sym (slots-grown W i);
@@ -169,23 +169,23 @@ module _ {l : List held.View} {W : List ℕ} where
       made : History
       made = record { views = set l i v; len = i + 1 }
 
-  pub slots-whole : (n i : ℕ) → i ≡ n → n ≤ 16 → Slots l W i → viewsIs (record { views = l; len = n }) ≡ viewsOf W n
+  pub slots-whole : (n i : ℕ) → i ≡ n → n ≤ 16 → Slots l W i → viewsIs (record { views = l; len = n }) ≡ viewsIn W n
   slots-whole n i e h s = sym (views-of (record { views = l; len = n }) n (omega arith)) ∙ (rw e at (s .same))
 
 -- ---- the first of the views of words that has p
 
 module _ (p : View → Bool) (W : List ℕ) where
-  pub slots-any-none : any p (viewsOf W 0) ≡ false
-  unfolding viewsOf
+  pub slots-any-none : any p (viewsIn W 0) ≡ false
+  unfolding viewsIn
   slots-any-none = any-zero p _
 
-  pub slots-any-more : (i : ℕ) → any p (viewsOf W i) ≡ false → p (viewOf (getD W i 0)) ≡ false → any p (viewsOf W (i + 1)) ≡ false
-  unfolding viewsOf
+  pub slots-any-more : (i : ℕ) → any p (viewsIn W i) ≡ false → p (viewIn (getD W i 0)) ≡ false → any p (viewsIn W (i + 1)) ≡ false
+  unfolding viewsIn
   slots-any-more i e g = any-more p _ i e g
 
-  pub slots-found : (n i : ℕ) (v : held.View) → i < n → any p (viewsOf W i) ≡ false → p (viewOf (getD W i 0)) ≡ true → viewIs v ≡ viewOf (getD W i 0) → some (viewIs v) ≡ find p (viewsOf W n)
-  unfolding viewsOf
-  slots-found n i v l e g q = ap some q ∙ sym (find-at p (λ j. viewOf (getD W j 0)) n i l e g)
+  pub slots-found : (n i : ℕ) (v : held.View) → i < n → any p (viewsIn W i) ≡ false → p (viewIn (getD W i 0)) ≡ true → viewIs v ≡ viewIn (getD W i 0) → some (viewIs v) ≡ find p (viewsIn W n)
+  unfolding viewsIn
+  slots-found n i v l e g q = ap some q ∙ sym (find-at p (λ j. viewIn (getD W j 0)) n i l e g)
 
-  pub slots-nothing : (n i : ℕ) → i ≡ n → any p (viewsOf W i) ≡ false → none ≡ find p (viewsOf W n)
-  slots-nothing n i q e = sym (find-nothing p (viewsOf W n) (rw q at e))
+  pub slots-nothing : (n i : ℕ) → i ≡ n → any p (viewsIn W i) ≡ false → none ≡ find p (viewsIn W n)
+  slots-nothing n i q e = sym (find-nothing p (viewsIn W n) (rw q at e))

@@ -1,3 +1,3 @@
 -- What the rules of a turn look at and promise, each by itself.
-pub mod Deeds
+pub mod Actions
 pub mod Rules

@@ -1,32 +1,26 @@
 -- What the rules of a turn look at, and what each promises.
 -- Assumes nothing.
 use mathlib.Core.Path.{_≡_}
-use mathlib.Core.Bool.{Bool, true, false, not, _&&_}
-use mathlib.Core.List.{List, map}
-use mathlib.Core.Option.{Option, some, none}
-use Prim.Native.Nat.{ℕ, _≤_}
+use mathlib.Core.Bool.{Bool, true, not, _&&_}
+use mathlib.Core.List.{List, [], _∷_, map}
+use mathlib.Core.Option.{Option, some}
+use Prim.Native.Nat.{ℕ}
 use lib.Dec.{eqb, ltb}
 use lib.ListN.{length}
-use Rattle.protocol.specs.Lists.{any, find, when, given, firstOf}
-use Rattle.protocol.specs.View.{View, Ring, sameView, member, below}
+use Rattle.protocol.specs.Lists.{any, find, given, firstOf}
+use Rattle.protocol.specs.View.{View, sameView, member, below}
 use Rattle.protocol.specs.Statement.{Stmt}
 use Rattle.protocol.specs.Evidence.{prepares, wished, candidates, isStored}
 use Rattle.protocol.specs.Controller.{Controller}
-use Rattle.protocol.specs.Turn.{Action, G, T, hasEntered, stands, certificate, toAck, isReported, countedReports, mergeAll, rule2, rule7, firstRule}
+use Rattle.protocol.specs.Turn as turn
+use Rattle.views.specs.View.{viewIn}
 use Rattle.views.specs.Held.{viewIs}
-use Rattle.statements.specs.declared.Binding.{Binding}
 use Rattle.statements.specs.Meaning.{bindingIs}
-use Rattle.evidence.specs.declared.Evidence.{Evidence}
-use Rattle.evidence.specs.Evidence.{Settled}
-use Rattle.ranking.specs.Slots.{viewsOf}
+use Rattle.evidence.specs.Evidence.{ringOf, certificateOf}
 use Rattle.rules.specs.declared.Send.{Send}
-use Rattle.rules.specs.declared.Deed.{Deed}
-use Rattle.rules.specs.declared.Deed.the-variants.{Rest, Sign, Bind, Enter, Deliver}
-use Rattle.rules.specs.declared.Step.{Step}
-use Rattle.rules.specs.declared.Sight.{Sight}
-use Rattle.rules.specs.declared.Due.{Due}
-use Rattle.rules.specs.declared.Due.the-variants.{Nothing, On}
-use Rattle.rules.specs.Deeds.{sendIs, actionIs}
+use Rattle.rules.specs.declared.Situation.{Situation}
+use Rattle.rules.specs.declared.Action.{Action}
+use Rattle.rules.specs.Actions.{sendIs, viewsIn, actionIs}
 
 -- ---- what is asked of the record
 
@@ -50,95 +44,57 @@ reportDue X k t u = below 16 u t && member u k && not (any (ownAt k 5 u) X)
 pub record Owns (X Y : List Stmt) (k : ℕ) : Type 0 where
   pub asked : (p : Stmt → Bool) → ((s : Stmt) → p s ≡ true → s .origin ≡ k) → any p Y ≡ any p X
 
-abbrev pub dueIs : Due → Option View
-dueIs Nothing = none
-dueIs (On u) = some (viewIs u)
-
 -- ---- what the rules look at
 
--- s is what the rules look at, of the controller d with the record X.
-pub record SightOf (d : Controller) (X : List Stmt) (s : Sight) : Type 0 where
+-- s is the situation of the controller d with the record X.
+pub record SituationOf (d : Controller) (X : List Stmt) (s : Situation) : Type 0 where
   pub number : d .number ≡ s .number
-  pub width : d .ring .width ≡ 16
-  pub sender : d .sender ≡ s .sender
+  pub ring : d .ring ≡ ringOf (s .ring)
+  pub sender : d .sender ≡ s .ring .sender
   pub binding : d .binding ≡ bindingIs (s .binding)
   pub delivered : d .delivered ≡ s .delivered
   pub joining : d .joinRequested ≡ s .joining
   pub leaving : d .leaveRequested ≡ s .leaving
   pub sending : d .sendRequested ≡ sendIs (s .sending)
   pub active : ltb 0 (length (d .entered)) ≡ s .active
-  pub entered : hasEntered d X (viewIs (s .top)) ≡ s .entered
-  pub stands : stands d X ≡ s .stands
-  pub top : T d X ≡ viewIs (s .top)
-  pub wished : wished (d .ring) X ≡ viewIs (s .wished)
-  pub candidates : candidates (d .ring) X ≡ viewsOf (s .candidates) (s .count)
-  pub greatest : G d X ≡ viewsOf (s .greatest) (s .length)
-  pub certificate : certificate d X ≡ when (s .certified) (s .payload)
-  pub stored : s .certified ≡ true → isStored (d .ring) X (s .payload) ≡ s .stored
+  pub entered : turn.hasEntered d X (viewIs (s .top)) ≡ s .entered
+  pub stands : turn.stands d X ≡ s .stands
+  pub top : turn.T d X ≡ viewIs (s .top)
+  pub wished : wished (d .ring) X ≡ viewIn (s .shown .wished)
+  pub certificate : turn.certificate d X ≡ certificateOf (s .shown)
+  pub stored : s .shown .certified ≡ true → isStored (d .ring) X (s .shown .payload) ≡ s .shown .stored
 
--- e is the evidence of the record X in the ring R, a rule is done for it, and s has its histories.
-pub record Seen (X : List Stmt) (R : Ring) (e : Evidence) (s : Sight) : Type 0 where
-  pub settled : Settled R (s .sender) X e
-  pub count : s .count ≡ e .count
-  pub length : s .length ≡ e .length
+-- What is lent to a rule: the record; a list in which the controller's own statements are; words of which the first are the views of all candidates, or of the greatest history.
+pub data Lent : Type 0 where
+  statements : List Stmt → Lent
+  ownStatements : List Stmt → Lent
+  candidateViews : List ℕ → Lent
+  greatestViews : List ℕ → Lent
+
+-- What is lent is what it says, of the controller d with the record X.
+abbrev pub Holds : Situation → Controller → List Stmt → Lent → Type 0
+Holds s d X (statements Z) = Z ≡ X
+Holds s d X (ownStatements Y) = Owns X Y (s .number)
+Holds s d X (candidateViews C) = viewsIn C (s .shown .count) ≡ candidates (d .ring) X
+Holds s d X (greatestViews G) = viewsIn G (s .shown .length) ≡ turn.G d X
+
+abbrev pub AllHold : Situation → Controller → List Stmt → List Lent → Type 0
+AllHold s d X [] = Unit {0}
+AllHold s d X (l ∷ L) = Holds s d X l × AllHold s d X L
 
 -- ---- what a rule promises
 
 abbrev pub Rule : Type 0
-Rule = Controller → List Stmt → Option Action
+Rule = Controller → List Stmt → Option turn.Action
 
--- r is the action o.
-pub record Steps (o : Option Action) (r : Step) : Type 0 where
-  pub means : actionIs r ≡ o
-  pub short : r .statement .history .len ≤ 16
+-- What the first of the rules that applies has a controller do.
+unfoldable pub firstAmong : List Rule → Rule
+firstAmong rules d X = firstOf (map (λ rule. rule d X) rules)
 
--- For every controller that s is of, with the record X and its own statements Y, r is what the rule has it do.
-pub record Does (X Y : List Stmt) (s : Sight) (rule : Rule) (r : Step) : Type 0 where
-  pub means : Owns X Y (s .number) → (d : Controller) → SightOf d X s → actionIs r ≡ rule d X
-  pub short : r .statement .history .len ≤ 16
-
--- Of a rule that asks its own statements alone: the record may be any.
-pub record Owned (Y : List Stmt) (s : Sight) (rule : Rule) (r : Step) : Type 0 where
-  pub does : (X : List Stmt) → Does X Y s rule r
-
--- And r is what the first of the rules that applies has it do.
-pub record Firsts (X Y : List Stmt) (s : Sight) (rules : List Rule) (r : Step) : Type 0 where
-  pub means : Owns X Y (s .number) → (d : Controller) → SightOf d X s → actionIs r ≡ firstOf (map (λ rule. rule d X) rules)
-  pub short : r .statement .history .len ≤ 16
-
--- Of rules that ask its own statements alone.
-pub record OwnedFirsts (Y : List Stmt) (s : Sight) (rules : List Rule) (r : Step) : Type 0 where
-  pub firsts : (X : List Stmt) → Firsts X Y s rules r
-
--- Of rule 2: where `reported` and `merged` say whether the older views are reported on, and what is merged of the reports.
-pub record Enters (s : Sight) (reported : Bool) (merged : Binding) (r : Step) : Type 0 where
-  pub means : (d : Controller) (X : List Stmt) → SightOf d X s → isReported d X ≡ reported → mergeAll (d .binding) (countedReports d X) ≡ bindingIs merged → actionIs r ≡ rule2 d X
-  pub short : r .statement .history .len ≤ 16
-
--- Of rule 2 in the ring R.
-pub record Entering (X : List Stmt) (R : Ring) (s : Sight) (r : Step) : Type 0 where
-  pub means : (d : Controller) → SightOf d X s → d .ring ≡ R → actionIs r ≡ rule2 d X
-  pub short : r .statement .history .len ≤ 16
-
--- Of rule 7, which asks nothing more of the record.
-pub record Delivers (s : Sight) (r : Step) : Type 0 where
-  pub does : (X Y : List Stmt) → Does X Y s rule7 r
+-- For every controller whose situation s is, and of whom L is lent, r is what the rule has it do.
+pub record Does (L : List Lent) (s : Situation) (rule : Rule) (r : Action) : Type 0 where
+  pub means : (d : Controller) (X : List Stmt) → SituationOf d X s → AllHold s d X L → actionIs s (candidates (d .ring) X) r ≡ rule d X
 
 -- Of rule 5: what there is to ack.
-pub record Acks (X : List Stmt) (s : Sight) (r : Send) : Type 0 where
-  pub means : (d : Controller) → SightOf d X s → toAck d X (d .binding) ≡ sendIs r
-
--- A deed is done.
-abbrev pub acts : Deed → Bool
-acts Rest = false
-acts Sign = true
-acts (Bind m) = true
-acts (Enter v b) = true
-acts (Deliver m) = true
-
--- ---- the turn's step
-
--- For every controller of the ring R that s is of, with the record X, r is what the first rule that applies has it do.
-pub record Chosen (X : List Stmt) (R : Ring) (s : Sight) (r : Step) : Type 0 where
-  pub means : (d : Controller) → SightOf d X s → d .ring ≡ R → actionIs r ≡ firstRule d X
-  pub short : r .statement .history .len ≤ 16
+pub record Acks (X : List Stmt) (s : Situation) (r : Send) : Type 0 where
+  pub means : (d : Controller) → SituationOf d X s → turn.toAck d X (d .binding) ≡ sendIs r

@@ -1,12 +1,16 @@
 // The rules of a turn, each by itself: what it has a controller do, from what the controller is and what its record shows.
+mod made;
 mod membership;
 mod notice;
 mod requests;
 mod signed;
-mod steps;
 
-pub use membership::entered;
+use evidence::Evidence;
+use evidence::Ring;
+pub use made::acts;
+pub use made::statement;
 pub use membership::rule1;
+pub use membership::rule2;
 pub use membership::rule3;
 pub use membership::rule4;
 pub use notice::has_left;
@@ -18,8 +22,6 @@ pub use requests::rule9;
 pub use requests::rule10;
 pub use signed::own_of;
 use statements::Binding;
-use statements::Statement;
-pub use steps::acts;
 use views::View;
 
 // A payload that is to be sent, or none.
@@ -28,25 +30,25 @@ pub enum Send {
     Payload(u64),
 }
 
-// What a rule has the controller do.
-pub enum Deed {
+// What a rule has the controller do. Most turns rest, so an action holds no statement: `statement` makes the one that is signed.
+pub enum Action {
     Rest,
-    Sign,
-    Bind(u64),
+    Report(View),
     Enter(View, Binding),
+    AgreeView,
+    AgreeHistory,
+    Ack(u64),
+    Store(u64),
     Deliver(u64),
+    Join,
+    Leave,
+    Prepare(u64),
 }
 
-// A deed with the statement that it signs.
-pub struct Step {
-    pub deed: Deed,
-    pub statement: Statement,
-}
-
-// What the rules look at: the controller's own fields, and what its record shows.
-pub struct Sight {
+// What the rules look at: the controller's own fields, and what its record shows. The views that it shows are lent beside it.
+pub struct Situation {
     pub number: u8,
-    pub sender: u8,
+    pub ring: Ring,
     pub binding: Binding,
     pub delivered: bool,
     pub joining: bool,
@@ -57,18 +59,5 @@ pub struct Sight {
     pub entered: bool,
     pub stands: bool,
     pub top: View,
-    pub wished: View,
-    pub candidates: [u32; View::LIMIT],
-    pub count: usize,
-    pub greatest: [u32; View::LIMIT],
-    pub length: usize,
-    pub certified: bool,
-    pub payload: u64,
-    pub stored: bool,
-}
-
-// The least view that is to be reported on.
-pub enum Due {
-    Nothing,
-    On(View),
+    pub shown: Evidence,
 }

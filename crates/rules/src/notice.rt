@@ -1,31 +1,34 @@
 // Rules 5 to 7: the notice is acked, stored and delivered.
-// A rule that is given one list of numbers is given those of the controller's own statements, since it asks for no others.
+// A rule that is lent `own` is lent the controller's own statements, since it asks for no others.
 ghost use mathlib.Core.Path.{_≡_};
+ghost use mathlib.Core.List.{[], _∷_};
 ghost use Rattle.protocol.specs.Sets.{bit};
 ghost use Rattle.protocol.specs.Turn as turn;
-ghost use Rattle.pool.specs.Pool.{recordOf};
-ghost use Rattle.rules.specs.Rules.{Does, Owned, Acks, Delivers};
+ghost use Rattle.views.specs.Held.{viewIs};
+ghost use Rattle.pool.specs.Pool.{recordIn};
+ghost use Rattle.rules.specs.Rules.{statements, ownStatements, Does, Acks};
+use crate::Action;
 use crate::Send;
-use crate::Sight;
-use crate::Step;
+use crate::Situation;
 use crate::signed;
-use crate::steps;
 use pool::POOL_WORDS;
+use pool::RECORD;
 use statements::Binding;
 use views::View;
 
 // What there is to ack.
-pub fn to_ack(words: &[u64; POOL_WORDS], ids: &[u16; 512], len: usize, s: Sight) -> Send
-    ensures { λ r. ⌜ Acks (recordOf (now (words .entry)) (now (ids .entry)) len) s r ⌝ }
+pub fn to_ack(words: &[u64; POOL_WORDS], ids: &[u16; RECORD], s: Situation) -> Send
+    ensures { λ r. ⌜ Acks (recordIn (now (words .entry)) (now (ids .entry))) s r ⌝ }
 {
     let t = s.top;
     let b = s.binding;
+    let ring = s.ring;
     match b {
         Binding::Bound(m) => Send::Payload(m),
         Binding::Barred => Send::Nothing,
         Binding::Unbound => {
-            if t.has_member(s.sender) {
-                signed::first_prepare(words, ids, len, s.sender)
+            if t.has_member(ring.sender) {
+                signed::first_prepare(words, ids, ring.sender)
             } else {
                 Send::Nothing
             }
@@ -36,73 +39,73 @@ pub fn to_ack(words: &[u64; POOL_WORDS], ids: &[u16; 512], len: usize, s: Sight)
 // Rule 5: bind to a payload and ack it, once at each top.
 pub fn rule5(
     words: &[u64; POOL_WORDS],
-    ids: &[u16; 512],
-    len: usize,
-    own: &[u16; 512],
-    count: usize,
-    s: Sight,
-) -> Step
-    ensures { λ r. ⌜ Does (recordOf (now (words .entry)) (now (ids .entry)) len) (recordOf (now (words .entry)) (now (own .entry)) count) s turn.rule5 r ⌝ }
+    ids: &[u16; RECORD],
+    own: &[u16; RECORD],
+    s: Situation,
+) -> Action
+    ensures { λ r. ⌜ Does (statements (recordIn (now (words .entry)) (now (ids .entry))) ∷ ownStatements (recordIn (now (words .entry)) (now (own .entry))) ∷ []) s turn.rule5 r ⌝ }
 {
     if !s.stands {
-        return steps::rest();
+        return Action::Rest;
     }
     let t = s.top;
-    if signed::signed_at(words, own, count, s.number, 7, t.word()) {
-        return steps::rest();
+    if signed::signed_at(words, own, s.number, 7, t.word()) {
+        return Action::Rest;
     }
-    let Send::Payload(m) = to_ack(words, ids, len, s) else {
-        return steps::rest();
+    let Send::Payload(m) = to_ack(words, ids, s) else {
+        return Action::Rest;
     };
-    steps::bind(m, statements::ack(s.number, t, m))
+    Action::Ack(m)
 }
 
 // Rule 6: store what has a certificate, once at each top.
-pub fn rule6(words: &[u64; POOL_WORDS], ids: &[u16; 512], len: usize, s: Sight) -> Step
-    ensures { λ r. ⌜ Owned (recordOf (now (words .entry)) (now (ids .entry)) len) s turn.rule6 r ⌝ }
+pub fn rule6(words: &[u64; POOL_WORDS], own: &[u16; RECORD], s: Situation) -> Action
+    ensures { λ r. ⌜ Does (ownStatements (recordIn (now (words .entry)) (now (own .entry))) ∷ []) s turn.rule6 r ⌝ }
 {
-    if !s.certified {
-        return steps::rest();
+    let e = s.shown;
+    if !e.certified {
+        return Action::Rest;
     }
     if !s.stands {
-        return steps::rest();
+        return Action::Rest;
     }
     let t = s.top;
-    if signed::signed_at(words, ids, len, s.number, 8, t.word()) {
-        return steps::rest();
+    if signed::signed_at(words, own, s.number, 8, t.word()) {
+        return Action::Rest;
     }
-    steps::sign(statements::store(s.number, t, s.payload))
+    Action::Store(e.payload)
 }
 
 // Whether controller k is in the left set of v.
 pub fn has_left(v: View, k: u8) -> bool
-    ensures { λ r. ⌜ r ≡ bit (v .left) k ⌝ }
+    ensures { λ r. ⌜ r ≡ bit (viewIs v .left) k ⌝ }
 {
     if k >= View::WIDTH {
         return false;
     }
-    (v.left >> k) % 2 == 1
+    (v.left_set() >> k) % 2 == 1
 }
 
 // Rule 7: deliver what a quorum stored.
-pub fn rule7(s: Sight) -> Step
-    ensures { λ r. ⌜ Delivers s r ⌝ }
+pub fn rule7(s: Situation) -> Action
+    ensures { λ r. ⌜ Does [] s turn.rule7 r ⌝ }
 {
-    if !s.certified {
-        return steps::rest();
+    let e = s.shown;
+    if !e.certified {
+        return Action::Rest;
     }
     if !s.active {
-        return steps::rest();
+        return Action::Rest;
     }
     let t = s.top;
     if has_left(t, s.number) {
-        return steps::rest();
+        return Action::Rest;
     }
     if s.delivered {
-        return steps::rest();
+        return Action::Rest;
     }
-    if !s.stored {
-        return steps::rest();
+    if !e.stored {
+        return Action::Rest;
     }
-    steps::deliver(s.payload)
+    Action::Deliver(e.payload)
 }

@@ -2,12 +2,12 @@
 ghost use mathlib.Core.Path.{_≡_};
 ghost use Rattle.protocol.specs.Lists.{any};
 ghost use Rattle.views.specs.View.{viewOf};
-ghost use Rattle.pool.specs.Pool.{stmtAt, recordOf};
-ghost use Rattle.rules.specs.Deeds.{sendIs};
+ghost use Rattle.pool.specs.Pool.{stmtAt, recordIn};
+ghost use Rattle.rules.specs.Actions.{sendIs};
 ghost use Rattle.rules.specs.Rules.{ownKind, ownAt, firstPrepare, Owns};
 use crate::Send;
 use pool::POOL_WORDS;
-use pool::Record;
+use pool::RECORD;
 
 // Whether statement n is one of controller k, of this kind.
 pub fn is_own(words: &[u64; POOL_WORDS], n: u16, k: u8, kind: u64) -> bool
@@ -20,7 +20,7 @@ pub fn is_own(words: &[u64; POOL_WORDS], n: u16, k: u8, kind: u64) -> bool
 }
 
 // Whether it is at t too.
-pub fn is_own_at(words: &[u64; POOL_WORDS], n: u16, k: u8, kind: u64, t: u32) -> bool
+pub fn is_own_at(words: &[u64; POOL_WORDS], n: u16, k: u8, kind: u64, t: u64) -> bool
     ensures { λ r. ⌜ r ≡ ownAt k kind (viewOf t) (stmtAt (now (words .entry)) n) ⌝ }
 {
     if !is_own(words, n, k, kind) {
@@ -30,16 +30,10 @@ pub fn is_own_at(words: &[u64; POOL_WORDS], n: u16, k: u8, kind: u64, t: u32) ->
 }
 
 // Whether the record has a statement of controller k, of this kind.
-pub fn signed_kind(
-    words: &[u64; POOL_WORDS],
-    ids: &[u16; 512],
-    len: usize,
-    k: u8,
-    kind: u64,
-) -> bool
-    ensures { λ r. ⌜ r ≡ any (ownKind k kind) (recordOf (now (words .entry)) (now (ids .entry)) len) ⌝ }
+pub fn signed_kind(words: &[u64; POOL_WORDS], ids: &[u16; RECORD], k: u8, kind: u64) -> bool
+    ensures { λ r. ⌜ r ≡ any (ownKind k kind) (recordIn (now (words .entry)) (now (ids .entry))) ⌝ }
 {
-    let end = pool::limit(len);
+    let end = pool::record_length(ids);
     let mut i = 0usize;
     while i < end {
         if is_own(words, ids[i], k, kind) {
@@ -51,17 +45,10 @@ pub fn signed_kind(
 }
 
 // Whether it has one that is at t too.
-pub fn signed_at(
-    words: &[u64; POOL_WORDS],
-    ids: &[u16; 512],
-    len: usize,
-    k: u8,
-    kind: u64,
-    t: u32,
-) -> bool
-    ensures { λ r. ⌜ r ≡ any (ownAt k kind (viewOf t)) (recordOf (now (words .entry)) (now (ids .entry)) len) ⌝ }
+pub fn signed_at(words: &[u64; POOL_WORDS], ids: &[u16; RECORD], k: u8, kind: u64, t: u64) -> bool
+    ensures { λ r. ⌜ r ≡ any (ownAt k kind (viewOf t)) (recordIn (now (words .entry)) (now (ids .entry))) ⌝ }
 {
-    let end = pool::limit(len);
+    let end = pool::record_length(ids);
     let mut i = 0usize;
     while i < end {
         if is_own_at(words, ids[i], k, kind, t) {
@@ -73,10 +60,10 @@ pub fn signed_at(
 }
 
 // The payload of the sender's first prepare in the record.
-pub fn first_prepare(words: &[u64; POOL_WORDS], ids: &[u16; 512], len: usize, sender: u8) -> Send
-    ensures { λ r. ⌜ sendIs r ≡ firstPrepare sender (recordOf (now (words .entry)) (now (ids .entry)) len) ⌝ }
+pub fn first_prepare(words: &[u64; POOL_WORDS], ids: &[u16; RECORD], sender: u8) -> Send
+    ensures { λ r. ⌜ sendIs r ≡ firstPrepare sender (recordIn (now (words .entry)) (now (ids .entry))) ⌝ }
 {
-    let end = pool::limit(len);
+    let end = pool::record_length(ids);
     let mut i = 0usize;
     while i < end {
         let n = ids[i];
@@ -88,12 +75,13 @@ pub fn first_prepare(words: &[u64; POOL_WORDS], ids: &[u16; 512], len: usize, se
     Send::Nothing
 }
 
-// The statements of controller k in the record, for the rules that ask for no others: they are few. Every number is written, and stays only if it counts, so that the loop has no branch.
-pub fn own_of(words: &[u64; POOL_WORDS], ids: &[u16; 512], len: usize, k: u8) -> Record
-    ensures { λ r. ⌜ Owns (recordOf (now (words .entry)) (now (ids .entry)) len) (recordOf (now (words .entry)) (r .ids) (r .len)) k ⌝ }
+// Fills `own` with the statements of controller k in the record, for the rules that ask for no others: they are few.
+// Every number is written, and stays only if it counts, so that the loop has no branch.
+pub fn own_of(words: &[u64; POOL_WORDS], ids: &[u16; RECORD], k: u8, own: &mut [u16; RECORD])
+    ensures { λ _. ⌜ Owns (recordIn (now (words .entry)) (now (ids .entry))) (recordIn (now (words .entry)) (now (own .exit))) k ⌝ }
 {
-    let end = pool::limit(len);
-    let mut own = [0u16; 512];
+    pool::record_clear(own);
+    let end = pool::record_length(ids);
     let mut count = 0usize;
     let mut i = 0usize;
     while i < end {
@@ -103,8 +91,5 @@ pub fn own_of(words: &[u64; POOL_WORDS], ids: &[u16; 512], len: usize, k: u8) ->
         count += mine as usize;
         i += 1;
     }
-    Record {
-        ids: own,
-        len: count,
-    }
+    own[512] = count as u16;
 }

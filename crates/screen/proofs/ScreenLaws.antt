@@ -1,7 +1,7 @@
 -- The text of a service screen: its lines in runs, how long they are, and that they are what the record shows.
 --     lines-shown   the lines of the evidence are the text of what it is of
 -- Assumes nothing.
-use Prim.Native.Nat.{ℕ, _+_, _*_, _<_, _≤_}
+use Prim.Native.Nat.{ℕ, suc, _+_, _*_, _/_, _%_, _<_, _≤_}
 use native.Mathlib.Omega.{arith}
 use native.Mathlib.Numerals.{add-one}
 use mathlib.Core.Path.{_≡_, refl, sym, ap, ap₂, subst, _∙_}
@@ -11,7 +11,7 @@ use lib.Dec.{T, ltb}
 use lib.ListN.{length, take, getD, set, length-append}
 use lib.Seq.{sets, take-suc, length-take-le}
 use borrow.Author.Tests.{ltb-false}
-use Rattle.text.specs.Text.{decText}
+use Rattle.text.specs.Text.{glyph, decText, hexText}
 use Rattle.text.proofs.Decimal.{long-below, most-long}
 use Rattle.text.proofs.Stores.{sets-append}
 use Rattle.protocol.specs.Lists.{if_then_else_, first, when}
@@ -21,7 +21,7 @@ use Rattle.protocol.specs.Evidence.{wished, candidates, greatest, certificates,
 use Rattle.protocol.proofs.Histories.{sealed-short}
 use Rattle.protocol.proofs.Asked.{greatest-holds}
 use Rattle.views.specs.Table.{table}
-use Rattle.views.specs.View.{viewOf}
+use Rattle.views.specs.View.{viewOf, viewIn}
 use Rattle.views.proofs.Tables.{table-length}
 use Rattle.statements.specs.Text.{parted, viewText}
 use Rattle.statements.specs.Parts.{tailText}
@@ -40,6 +40,23 @@ byte-next out₀ out t at i h e =
     ap (λ (o : List ℕ). set o (at + i) (getD t i 0)) e ∙ ap (λ (k : ℕ). sets (sets out₀ at (take i t)) (at + k) (getD t i 0 ∷ [])) (sym n)
     ∙ sym (sets-append (take i t) (getD t i 0 ∷ []) out₀ at) ∙ ap (sets out₀ at) (sym (ap (λ (k : ℕ). take k t) (add-one i) ∙ take-suc t i 0 h))
 
+-- ---- the text of a view is that of its sets' sixteen low bits
+hex-more : (k a b : ℕ) → hexText k (a / 16) ≡ hexText k (b / 16) → a % 16 ≡ b % 16 → hexText (suc k) a ≡ hexText (suc k) b
+unfolding hexText
+hex-more k a b e f = ap₂ (λ (t : List ℕ) (d : ℕ). t ++ (glyph d ∷ [])) e f
+
+hex-low : (a b : ℕ) → a % 65536 ≡ b % 65536 → hexText 4 a ≡ hexText 4 b
+unfolding hexText
+hex-low a b e = hex-more 3 a b (hex-more 2 (a / 16) (b / 16) (hex-more 1 (a / 16 / 16) (b / 16 / 16) (hex-more 0 (a / 16 / 16 / 16) (b / 16 / 16 / 16) refl (omega arith)) (omega arith)) (omega arith)) (omega arith)
+
+view-text : (w : ℕ) → viewText (viewIn w) ≡ viewText (viewOf w)
+unfolding viewText viewIn viewOf
+view-text w = ap₂ (λ (a : List ℕ) (b : List ℕ). a ++ b) (hex-low (w % 65536) (w % 4294967296) (omega arith)) (hex-low (w / 4294967296 % 65536) (w / 4294967296 % 4294967296) (omega arith))
+
+-- a struct read from the word w, which is the word x of a list
+pub word-text : (w x : ℕ) (v : View) → v ≡ viewIn w → w ≡ x → viewText v ≡ viewText (viewOf x)
+word-text w x v e f = ap viewText e ∙ view-text w ∙ ap (λ (u : ℕ). viewText (viewOf u)) f
+
 -- ---- one view more of some words
 pub words-first : (out ws : List ℕ) (from : ℕ) → out ≡ sets out from (tailText (viewsOf ws 0))
 unfolding tailText viewsOf table
@@ -56,13 +73,13 @@ words-more : (ws : List ℕ) (i : ℕ) → viewsOf ws (i + 1) ≡ viewsOf ws i +
 unfolding viewsOf table
 words-more ws i = rw (add-one i)
 
-pub words-next : (out₀ out ws : List ℕ) (from at i : ℕ) (v : View) → out ≡ sets out₀ from (tailText (viewsOf ws i)) → at ≡ from + 9 * i → v ≡ viewOf (getD ws i 0)
+pub words-next : (out₀ out ws : List ℕ) (from at i : ℕ) (v : View) → out ≡ sets out₀ from (tailText (viewsOf ws i)) → at ≡ from + 9 * i → viewText v ≡ viewText (viewOf (getD ws i 0))
     → sets out at (44 ∷ viewText v) ≡ sets out₀ from (tailText (viewsOf ws (i + 1)))
 words-next out₀ out ws from at i v e p f =
     let t : List ℕ = tailText (viewsOf ws i) in
     let u : List ℕ = 44 ∷ viewText (viewOf (getD ws i 0)) in
     let place : at ≡ from + length t = p ∙ ap (λ k. from + k) (sym (words-long ws i)) in
-    ap (λ (w : View). sets out at (44 ∷ viewText w)) f ∙ ap (λ (o : List ℕ). sets o at u) e ∙ ap (λ (k : ℕ). sets (sets out₀ from t) k u) place ∙ sym (sets-append t u out₀ from)
+    ap (λ (x : List ℕ). sets out at (44 ∷ x)) f ∙ ap (λ (o : List ℕ). sets o at u) e ∙ ap (λ (k : ℕ). sets (sets out₀ from t) k u) place ∙ sym (sets-append t u out₀ from)
     ∙ ap (sets out₀ from) (sym (ap tailText (words-more ws i) ∙ tail-append (viewsOf ws i) (viewOf (getD ws i 0) ∷ []) ∙ ap (λ (x : List ℕ). t ++ x) (tail-one (viewOf (getD ws i 0)))))
 
 -- ---- texts one after the other
@@ -75,8 +92,8 @@ both {out₀} {out₁} {out₂} {s} {t} {at} {a} {b} v w = record {
 pub number-wrote : (out after : List ℕ) (at n r : ℕ) → (r ≡ at + 1 + length (decText n)) × (after ≡ sets out at (44 ∷ decText n)) → Wrote out at (44 ∷ decText n) r after
 number-wrote out after at n r w = record { next = w .0 ∙ omega arith; is = w .1 }
 
-pub view-wrote : (out after : List ℕ) (at r : ℕ) (u v : View) → u ≡ v → (r ≡ at + 9) × (after ≡ sets out at (44 ∷ viewText u)) → Wrote out at (44 ∷ viewText v) r after
-view-wrote out after at r u v e w = record { next = w .0 ∙ omega (arith, view-long v); is = w .1 ∙ ap (λ x. sets out at (44 ∷ viewText x)) e }
+pub view-wrote : (out after : List ℕ) (at r : ℕ) (u v : View) → viewText u ≡ viewText v → (r ≡ at + 9) × (after ≡ sets out at (44 ∷ viewText u)) → Wrote out at (44 ∷ viewText v) r after
+view-wrote out after at r u v e w = record { next = w .0 ∙ omega (arith, view-long v); is = w .1 ∙ ap (λ (x : List ℕ). sets out at (44 ∷ x)) e }
 
 -- ---- lines in runs
 parted-tail : (a : List ℕ) (l : List View) → parted (a ∷ map viewText l) ≡ a ++ tailText l
@@ -159,14 +176,14 @@ unfolding conflictLine line parted
 conflict-size = refl
 
 -- ---- the lines one after the other
-module _ {out₀ out₁ out₂ : List ℕ} {a b : ℕ} (e : Evidence) (w : Wrote out₀ 0 (wishedLine (viewOf (e .wished))) a out₁) where
-  pub conflict-wrote : e .conflict ≡ true → Wrote out₁ a conflictLine b out₂ → Wrote out₀ 0 (linesOf e) b out₂ × (b ≤ 512)
+module _ {out₀ out₁ out₂ : List ℕ} {a b : ℕ} (e : Evidence) (C G : List ℕ) (w : Wrote out₀ 0 (wishedLine (viewOf (e .wished))) a out₁) where
+  pub conflict-wrote : e .conflict ≡ true → Wrote out₁ a conflictLine b out₂ → Wrote out₀ 0 (linesOf e C G) b out₂ × (b ≤ 512)
   unfolding linesOf
   conflict-wrote p x = (rw p (both w x), omega (arith, x .next, w .next, wished-size (viewOf (e .wished)), conflict-size))
 
   pub lines-wrote : {out₃ out₄ : List ℕ} {c d : ℕ} → e .conflict ≡ false → Few e → e .payload < 18446744073709551616
-      → Wrote out₁ a (candidatesLine (e .many) (viewsOf (e .candidates) (e .count))) b out₂ → Wrote out₂ b (viewsLine greatestWord (viewsOf (e .greatest) (e .length))) c out₃
-      → Wrote out₃ c (certifiedLine (e .certified) (e .payload) (e .stored)) d out₄ → Wrote out₀ 0 (linesOf e) d out₄ × (d ≤ 512)
+      → Wrote out₁ a (candidatesLine (e .many) (viewsOf C (e .count))) b out₂ → Wrote out₂ b (viewsLine greatestWord (viewsOf G (e .length))) c out₃
+      → Wrote out₃ c (certifiedLine (e .certified) (e .payload) (e .stored)) d out₄ → Wrote out₀ 0 (linesOf e C G) d out₄ × (d ≤ 512)
   unfolding linesOf agreedLines
   lines-wrote p f h x y z = (
     rw p (both w (both x (both y z))),
@@ -177,8 +194,8 @@ module _ {out₀ out₁ out₂ : List ℕ} {a b : ℕ} (e : Evidence) (w : Wrote
       y .next,
       z .next,
       wished-size (viewOf (e .wished)),
-      candidates-most (e .many) (e .candidates) (e .count) (f .candidates p),
-      views-most greatestWord (e .greatest) (e .length) (f .greatest p),
+      candidates-most (e .many) C (e .count) (f .candidates p),
+      views-most greatestWord G (e .length) (f .greatest p),
       certified-most (e .certified) (e .payload) (e .stored) h,
     ),
   )
@@ -189,37 +206,37 @@ unfolding certificateLine
 certified-same true m stored f e = ap (λ b. line (certificateWord ∷ decText m ∷ (if b then storedWord else keptWord) ∷ [])) (e refl)
 certified-same false m stored f e = refl
 
-module _ (R : Ring) (sender : ℕ) (X : List Stmt) (e : Evidence) (of : EvidenceOf R sender X e) where
+module _ (R : Ring) (sender : ℕ) (X : List Stmt) (C G : List ℕ) (e : Evidence) (of : EvidenceOf R sender X C G e) where
   module _ (p : e .conflict ≡ false) where
-    candidates-shown : (many : Bool) → e .many ≡ many → candidatesLine (e .many) (viewsOf (e .candidates) (e .count)) ≡ candidatesLine (ltb 16 (length (candidates R X))) (candidates R X)
+    candidates-shown : (many : Bool) → e .many ≡ many → candidatesLine (e .many) (viewsOf C (e .count)) ≡ candidatesLine (ltb 16 (length (candidates R X))) (candidates R X)
     unfolding candidatesLine
-    candidates-shown true q = ap (λ b. candidatesLine b (viewsOf (e .candidates) (e .count))) q ∙ sym (ap (λ b. candidatesLine b (candidates R X)) (sym (of .many p) ∙ q))
+    candidates-shown true q = ap (λ b. candidatesLine b (viewsOf C (e .count))) q ∙ sym (ap (λ b. candidatesLine b (candidates R X)) (sym (of .many p) ∙ q))
     candidates-shown false q = ap₂ candidatesLine (of .many p) (of .candidates p q)
 
     certificate-shown : certifiedLine (e .certified) (e .payload) (e .stored) ≡ certificateLine (first (certificates R sender X)) (isStored R X)
     unfolding certifiedLine
     certificate-shown = certified-same (e .certified) (e .payload) (e .stored) (isStored R X) (of .stored p) ∙ ap (λ o. certificateLine o (isStored R X)) (of .certificate p)
 
-    agreed-shown : agreedLines e ≡ agreedText R sender X
+    agreed-shown : agreedLines e C G ≡ agreedText R sender X
     unfolding agreedLines agreedText
     agreed-shown = ap₂ _++_ (candidates-shown (e .many) refl) (ap₂ _++_ (ap (viewsLine greatestWord) (of .greatest p)) certificate-shown)
 
-  rest-shown : (conflict : Bool) → e .conflict ≡ conflict → (if e .conflict then conflictLine else agreedLines e) ≡ (if isConflict R sender X then conflictLine else agreedText R sender X)
-  rest-shown true p = ap (λ b. if b then conflictLine else agreedLines e) p ∙ sym (ap (λ b. if b then conflictLine else agreedText R sender X) (sym (of .conflict) ∙ p))
-  rest-shown false p = ap (λ b. if b then conflictLine else agreedLines e) p ∙ agreed-shown p ∙ sym (ap (λ b. if b then conflictLine else agreedText R sender X) (sym (of .conflict) ∙ p))
+  rest-shown : (conflict : Bool) → e .conflict ≡ conflict → (if e .conflict then conflictLine else agreedLines e C G) ≡ (if isConflict R sender X then conflictLine else agreedText R sender X)
+  rest-shown true p = ap (λ b. if b then conflictLine else agreedLines e C G) p ∙ sym (ap (λ b. if b then conflictLine else agreedText R sender X) (sym (of .conflict) ∙ p))
+  rest-shown false p = ap (λ b. if b then conflictLine else agreedLines e C G) p ∙ agreed-shown p ∙ sym (ap (λ b. if b then conflictLine else agreedText R sender X) (sym (of .conflict) ∙ p))
 
   -- THE LINES OF THE EVIDENCE ARE THE TEXT
-  pub lines-shown : linesOf e ≡ shownText R sender X
+  pub lines-shown : linesOf e C G ≡ shownText R sender X
   unfolding linesOf shownText
   lines-shown = ap₂ _++_ (ap wishedLine (of .wished)) (rest-shown (e .conflict) refl)
 
   pub few-views : Few e
   few-views = record {
-    candidates = λ p q. omega (arith, words-count (e .candidates) (e .count), ap length (of .candidates p q), ltb-false 16 (length (candidates R X)) (sym (of .many p) ∙ q));
-    greatest = λ p. omega (arith, words-count (e .greatest) (e .length), ap length (of .greatest p), sealed-short (greatest-holds R sender X (subst (λ b. T (not b)) (sym p ∙ of .conflict) tt) .0));
+    candidates = λ p q. omega (arith, words-count C (e .count), ap length (of .candidates p q), ltb-false 16 (length (candidates R X)) (sym (of .many p) ∙ q));
+    greatest = λ p. omega (arith, words-count G (e .length), ap length (of .greatest p), sealed-short (greatest-holds R sender X (subst (λ b. T (not b)) (sym p ∙ of .conflict) tt) .0));
   }
 
-  pub shows : (out after : List ℕ) (n : ℕ) → 512 ≤ length out → Wrote out 0 (linesOf e) n after × (n ≤ 512) → Shows R sender X out n after
+  pub shows : (out after : List ℕ) (n : ℕ) → 512 ≤ length out → Wrote out 0 (linesOf e C G) n after × (n ≤ 512) → Shows R sender X out n after
   shows out after n room w =
       let v : Wrote out 0 (shownText R sender X) n after = subst (λ t. Wrote out 0 t n after) lines-shown (w .0) in
       let size : n ≡ length (shownText R sender X) = v .next ∙ omega arith in

@@ -21,14 +21,14 @@ pub record Wrote (out : List ℕ) (at : ℕ) (t : List ℕ) (n : ℕ) (after : L
 unfoldable pub certifiedLine : Bool → ℕ → Bool → List ℕ
 certifiedLine certified payload stored = certificateLine (when certified payload) (λ _. stored)
 
--- The lines of the evidence, without a conflict and in all.
+-- The lines of the evidence e with the candidates C and the greatest history G, without a conflict and in all.
 
-unfoldable pub agreedLines : Evidence → List ℕ
-agreedLines e =
-    candidatesLine (e .many) (viewsOf (e .candidates) (e .count)) ++ (viewsLine greatestWord (viewsOf (e .greatest) (e .length)) ++ certifiedLine (e .certified) (e .payload) (e .stored))
+unfoldable pub agreedLines : Evidence → List ℕ → List ℕ → List ℕ
+agreedLines e C G =
+    candidatesLine (e .many) (viewsOf C (e .count)) ++ (viewsLine greatestWord (viewsOf G (e .length)) ++ certifiedLine (e .certified) (e .payload) (e .stored))
 
-unfoldable pub linesOf : Evidence → List ℕ
-linesOf e = wishedLine (viewOf (e .wished)) ++ (if e .conflict then conflictLine else agreedLines e)
+unfoldable pub linesOf : Evidence → List ℕ → List ℕ → List ℕ
+linesOf e C G = wishedLine (viewOf (e .wished)) ++ (if e .conflict then conflictLine else agreedLines e C G)
 
 -- No more views are to be written than an array holds.
 pub record Few (e : Evidence) : Type 0 where

@@ -2,17 +2,20 @@
 ghost use mathlib.Core.Path.{_≡_};
 ghost use mathlib.Core.Bool.{false};
 ghost use mathlib.Core.List.{[], _∷_, _++_};
-ghost use Prim.Native.Nat.{_+_, _*_, _≤_};
-ghost use lib.ListN.{length};
+ghost use Prim.Native.Nat.{_+_, _*_, _≤_, _<_};
+ghost use lib.ListN.{length, getD};
 ghost use Rattle.text.specs.Text.{decText};
 ghost use Rattle.statements.specs.Parts.{tailText};
-ghost use Rattle.views.specs.View.{viewOf, ring};
-ghost use Rattle.pool.specs.Pool.{recordOf};
+ghost use Rattle.views.specs.View.{viewOf};
+ghost use Rattle.pool.specs.Pool.{recordIn};
 ghost use Rattle.ranking.specs.Slots.{viewsOf};
+ghost use Rattle.evidence.specs.Evidence.{ringOf};
 ghost use Rattle.screen.specs.Screen.{wishedLine, candidatesLine, viewsLine, greatestWord, Shows};
 ghost use Rattle.screen.specs.ScreenParts.{Wrote, certifiedLine, linesOf, Few};
 use evidence::Evidence;
+use evidence::Ring;
 use pool::POOL_WORDS;
+use pool::RECORD;
 use views::View;
 
 // No text is longer: 16 bytes of the wished view, 158 of sixteen candidates, 156 of sixteen views of a history and 40 of a certificate.
@@ -30,15 +33,23 @@ fn put_text(out: &mut [u8], at: usize, t: &[u8]) -> usize
     at + i
 }
 
-// A comma and a view for each of the first `n` words.
-fn put_words(out: &mut [u8], from: usize, words: [u32; View::LIMIT], n: usize) -> usize
+// View i of a list.
+fn view_in(list: &[u64; View::LIMIT], i: usize) -> u64
+    requires { ⌜ i < 16 ⌝ }
+    ensures { λ r. ⌜ r ≡ getD (now (list .entry)) i 0 ⌝ }
+{
+    list[i]
+}
+
+// A comma and a view for each of the first `n` of a list.
+fn put_list(out: &mut [u8], from: usize, list: &[u64; View::LIMIT], n: usize) -> usize
     requires { ⌜ (n ≤ 16) × (from + 9 * n ≤ length (now out)) ⌝ }
-    ensures { λ r. ⌜ Wrote (now (out .entry)) from (tailText (viewsOf words n)) r (now (out .exit)) ⌝ }
+    ensures { λ r. ⌜ Wrote (now (out .entry)) from (tailText (viewsOf (now (list .entry)) n)) r (now (out .exit)) ⌝ }
 {
     let mut at = from;
     let mut i = 0usize;
     while i < n {
-        let v = View::of_word(words[i]);
+        let v = View::of_word(view_in(list, i));
         at = statements::put_view(out, at, v);
         i += 1;
     }
@@ -46,16 +57,16 @@ fn put_words(out: &mut [u8], from: usize, words: [u32; View::LIMIT], n: usize) -
 }
 
 // The rest of a line of views: their count and they themselves, in at most 148 bytes.
-fn put_views(out: &mut [u8], at: usize, words: [u32; View::LIMIT], n: usize) -> usize
+fn put_views(out: &mut [u8], at: usize, list: &[u64; View::LIMIT], n: usize) -> usize
     requires { ⌜ (n ≤ 16) × (at + 148 ≤ length (now out)) ⌝ }
-    ensures { λ r. ⌜ Wrote (now (out .entry)) at ((44 ∷ decText n) ++ (tailText (viewsOf words n) ++ (10 ∷ []))) r (now (out .exit)) ⌝ }
+    ensures { λ r. ⌜ Wrote (now (out .entry)) at ((44 ∷ decText n) ++ (tailText (viewsOf (now (list .entry)) n) ++ (10 ∷ []))) r (now (out .exit)) ⌝ }
 {
     let a = statements::put_number(out, at, n as u64);
-    let b = put_words(out, a, words, n);
+    let b = put_list(out, a, list, n);
     put_text(out, b, b"\n")
 }
 
-fn put_wished(out: &mut [u8], wished: u32) -> usize
+fn put_wished(out: &mut [u8], wished: u64) -> usize
     requires { ⌜ 16 ≤ length (now out) ⌝ }
     ensures { λ r. ⌜ Wrote (now (out .entry)) 0 (wishedLine (viewOf wished)) r (now (out .exit)) ⌝ }
 {
@@ -69,25 +80,25 @@ fn put_candidates(
     out: &mut [u8],
     at: usize,
     many: bool,
-    words: [u32; View::LIMIT],
+    list: &[u64; View::LIMIT],
     n: usize,
 ) -> usize
     requires { ⌜ (many ≡ false → n ≤ 16) × (at + 158 ≤ length (now out)) ⌝ }
-    ensures { λ r. ⌜ Wrote (now (out .entry)) at (candidatesLine many (viewsOf words n)) r (now (out .exit)) ⌝ }
+    ensures { λ r. ⌜ Wrote (now (out .entry)) at (candidatesLine many (viewsOf (now (list .entry)) n)) r (now (out .exit)) ⌝ }
 {
     if many {
         return put_text(out, at, b"candidates,many\n");
     }
     let a = put_text(out, at, b"candidates");
-    put_views(out, a, words, n)
+    put_views(out, a, list, n)
 }
 
-fn put_greatest(out: &mut [u8], at: usize, words: [u32; View::LIMIT], n: usize) -> usize
+fn put_greatest(out: &mut [u8], at: usize, list: &[u64; View::LIMIT], n: usize) -> usize
     requires { ⌜ (n ≤ 16) × (at + 156 ≤ length (now out)) ⌝ }
-    ensures { λ r. ⌜ Wrote (now (out .entry)) at (viewsLine greatestWord (viewsOf words n)) r (now (out .exit)) ⌝ }
+    ensures { λ r. ⌜ Wrote (now (out .entry)) at (viewsLine greatestWord (viewsOf (now (list .entry)) n)) r (now (out .exit)) ⌝ }
 {
     let a = put_text(out, at, b"greatest");
-    put_views(out, a, words, n)
+    put_views(out, a, list, n)
 }
 
 fn put_certificate(out: &mut [u8], at: usize, certified: bool, payload: u64, stored: bool) -> usize
@@ -105,36 +116,33 @@ fn put_certificate(out: &mut [u8], at: usize, certified: bool, payload: u64, sto
     put_text(out, b, b",kept\n")
 }
 
-fn put_evidence(out: &mut [u8], e: Evidence) -> usize
+fn put_evidence(
+    out: &mut [u8],
+    e: Evidence,
+    candidates: &[u64; View::LIMIT],
+    greatest: &[u64; View::LIMIT],
+) -> usize
     requires { ⌜ (512 ≤ length (now out)) × Few e ⌝ }
-    ensures { λ r. ⌜ Wrote (now (out .entry)) 0 (linesOf e) r (now (out .exit)) × (r ≤ 512) ⌝ }
+    ensures { λ r. ⌜ Wrote (now (out .entry)) 0 (linesOf e (now (candidates .entry)) (now (greatest .entry))) r (now (out .exit)) × (r ≤ 512) ⌝ }
 {
     let a = put_wished(out, e.wished);
     if e.conflict {
         return put_text(out, a, b"conflict\n");
     }
-    let candidates = e.candidates;
-    let greatest = e.greatest;
     let b = put_candidates(out, a, e.many, candidates, e.count);
     let c = put_greatest(out, b, greatest, e.length);
     put_certificate(out, c, e.certified, e.payload, e.stored)
 }
 
-// Writes what the record of the first `len` numbers shows from the start of `out`, in lines, and answers the text's length; 0, and `out` as
-// it was, where `out` has fewer than 512 bytes.
-pub fn shown(
-    words: &[u64; POOL_WORDS],
-    ids: &[u16; 512],
-    len: usize,
-    init: u32,
-    sender: u8,
-    out: &mut [u8],
-) -> usize
-    ensures { λ r. ⌜ Shows (ring init) sender (recordOf (now (words .entry)) (now (ids .entry)) len) (now (out .entry)) r (now (out .exit)) ⌝ }
+// Writes what a record shows from the start of `out`, in lines, and answers the text's length; 0, and `out` as it was, where `out` has fewer than 512 bytes.
+pub fn shown(words: &[u64; POOL_WORDS], ids: &[u16; RECORD], ring: Ring, out: &mut [u8]) -> usize
+    ensures { λ r. ⌜ Shows (ringOf ring) (ring .sender) (recordIn (now (words .entry)) (now (ids .entry))) (now (out .entry)) r (now (out .exit)) ⌝ }
 {
     if out.len() < SHOWN_BYTES {
         return 0;
     }
-    let e = evidence::of_record(words, ids, len, init, sender);
-    put_evidence(out, e)
+    let mut candidates = [0u64; View::LIMIT];
+    let mut greatest = [0u64; View::LIMIT];
+    let e = evidence::of_record(words, ids, ring, &mut candidates, &mut greatest);
+    put_evidence(out, e, &candidates, &greatest)
 }

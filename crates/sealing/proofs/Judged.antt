@@ -4,73 +4,70 @@ use mathlib.Core.Path.{_≡_, sym, ap, _∙_, subst}
 use mathlib.Core.Bool.{Bool, true, false}
 use mathlib.Core.List.{List}
 use Prim.Native.Nat.{ℕ, _+_, _≤_, _<_}
-use native.Mathlib.Decide.{decLt}
+use native.Mathlib.Decide.{decLt, ℕ-discrete}
 use native.Mathlib.Omega.{arith}
 use lib.Dec.{eqb}
-use lib.ListN.{length, getD, set, length-set, replicate, getD-replicate, length-replicate, List·getD-eq-default}
+use lib.ListN.{length, getD, set, replicate, getD-replicate, length-replicate, List·getD-eq-default}
 use lib.Seq.{getD-set-same, getD-set-other}
 use borrow.Author.Tests.{eq-eqb, ne-eqb}
+use Rattle.protocol.specs.Statement.{Stmt}
 use Rattle.views.specs.View.{viewOf}
-use Rattle.votes.specs.Tables.{high, sealsAt, Verdicts}
-use Rattle.sealing.specs.Memos.{Memos, Choices, Agreements}
-use Rattle.sealing.proofs.Laws.{cand}
+use Rattle.tables.specs.Index.{keyAt}
+use Rattle.votes.specs.Tables.{sealsAt, Tables, Verdicts}
+use Rattle.sealing.specs.Memos.{Memos, Later, Known, Blank}
+use Rattle.sealing.proofs.Laws.{cand, about-choice, about-agreement, write}
 
--- what is written at n
-module _ (q : ℕ → Bool) where
-  mark-next : (m : List ℕ) (n x : ℕ) → n < length m → ((i : ℕ) → i < n → eqb (getD m i 0) 1 ≡ q i) → eqb x 1 ≡ q n → (i : ℕ) → i < n + 1 → eqb (getD (set m n x) i 0) 1 ≡ q i
-  mark-next m n x l h e i k = go (decLt i n)
-    where
-      go : Dec (i < n) → eqb (getD (set m n x) i 0) 1 ≡ q i
-      go (yes j) = ap (λ y. eqb y 1) (getD-set-other m n i x 0 (omega arith)) ∙ h i j
-      go (no j) =
-          let f : i ≡ n = omega arith in
-          subst (λ (k : ℕ). eqb (getD (set m n x) k 0) 1 ≡ q k) (sym f) (ap (λ y. eqb y 1) (getD-set-same m n x 0 l) ∙ e)
+-- ---- places that remember something
 
-module _ {W ids : List ℕ} {len init : ℕ} where
-  pub choices-first : {C m : List ℕ} → length m ≡ 512 → Choices W ids len init C 0 m
-  choices-first l = record { long = l; right = λ c k. absurd (omega arith) }
+pub known-first : {n : ℕ} {M : List ℕ} → Known n n M
+known-first = record { known = λ k l m. absurd (omega arith) }
 
-  pub choices-next : (x : ℕ) {C m : List ℕ} {c v : ℕ} {r : Bool} → Choices W ids len init C c m → c < 512 → v ≡ high (getD C c 0) → r ≡ cand W ids len init (viewOf v) → eqb x 1 ≡ r
-      → Choices W ids len init C (c + 1) (set m c x)
-  choices-next x {C} {m} {c} w l e f g = record {
-    long = length-set m c x ∙ w .long;
-    right = mark-next (λ i. cand W ids len init (viewOf (high (getD C i 0)))) m c x (omega (arith, w .long)) (w .right) (g ∙ f ∙ ap (λ y. cand W ids len init (viewOf y)) e);
-  }
+pub known-kept : {W : List ℕ} {X : List Stmt} {init : ℕ} {K R : List ℕ} {from n : ℕ} {M N : List ℕ} → Known from n M → Later W X init K R M N → Known from n N
+known-kept w l = record { known = λ k h m e. w .known k h m (l .kept k e) }
 
-  pub choices-all : {C m : List ℕ} {nc c : ℕ} → Choices W ids len init C c m → nc ≤ c → Choices W ids len init C nc m
-  choices-all w l = record { long = w .long; right = λ i k. w .right i (omega arith) }
-
-  pub agreements-first : {A E m : List ℕ} → length m ≡ 512 → Agreements W ids len init A E 0 m
-  agreements-first l = record { long = l; right = λ c k. absurd (omega arith) }
-
-  pub agreements-next : (x : ℕ) {A E m : List ℕ} {a : ℕ} {r : Bool} → Agreements W ids len init A E a m → a < 512 → r ≡ sealsAt W ids len init A E a → eqb x 1 ≡ r
-      → Agreements W ids len init A E (a + 1) (set m a x)
-  agreements-next x {A} {E} {m} {a} w l e g = record {
-    long = length-set m a x ∙ w .long;
-    right = mark-next (sealsAt W ids len init A E) m a x (omega (arith, w .long)) (w .right) (g ∙ e);
-  }
-
-  pub agreements-all : {A E m : List ℕ} {na a : ℕ} → Agreements W ids len init A E a m → na ≤ a → Agreements W ids len init A E na m
-  agreements-all w l = record { long = w .long; right = λ i k. w .right i (omega arith) }
-
-  pub verdicts-of : {C A E mc ma : List ℕ} {nc na : ℕ} → Choices W ids len init C nc mc → Agreements W ids len init A E na ma → Verdicts W ids len init C nc A E na mc ma
-  verdicts-of c a = record { candidate = c .right; sealed = a .right }
-
--- nothing is remembered yet
-fresh : (n i : ℕ) → _≡_ {A = ℕ} (getD (replicate n 0) i 0) 0
-fresh n i = go (decLt i n)
+pub known-next : (x : ℕ) {from n m : ℕ} {M : List ℕ} → Known from n M → length M ≡ 1024 → n < 1024 → (x ≡ 0 → ⊥) → m ≤ n + 1 → Known from m (set M n x)
+known-next x {from} {n} {m} {M} w e l d b = record { known = λ k h i q. go k h i q (ℕ-discrete k n) }
   where
-    go : Dec (i < n) → _≡_ {A = ℕ} (getD (replicate n 0) i 0) 0
-    go (yes l) = getD-replicate n i 0 0 l
-    go (no l) = List·getD-eq-default (replicate n 0) 0 (omega (arith, length-replicate {A = ℕ} n 0))
+    go : (k : ℕ) → from ≤ k → k < m → getD (set M n x) k 0 ≡ 0 → Dec (k ≡ n) → ⊥
+    go k h i q (yes f) = d (sym (getD-set-same M n x 0 (omega arith)) ∙ subst (λ (j : ℕ). getD (set M n x) j 0 ≡ 0) f q)
+    go k h i q (no f) = w .known k h (omega (arith, f)) (sym (getD-set-other M n k x 0 f) ∙ q)
 
-pub memos-first : (n : ℕ) {W ids : List ℕ} {len init : ℕ} {C A E : List ℕ} → Memos W ids len init C A E (replicate n 0)
-memos-first n = record { right = λ k d. absurd (d (fresh n k)) }
+pub known-all : {from n m : ℕ} {M : List ℕ} → Known from m M → n ≤ m → Known from n M
+known-all w l = record { known = λ k h i. w .known k h (omega arith) }
 
--- what the verdict on agreement a says
-module _ {W ids : List ℕ} {len init : ℕ} {A E m : List ℕ} {na : ℕ} (ok : Agreements W ids len init A E na m) where
-  pub says-yes : {a : ℕ} → a < na → getD m a 0 ≡ 1 → sealsAt W ids len init A E a ≡ true
-  says-yes {a} l e = sym (ok .right a l) ∙ eq-eqb (getD m a 0) 1 e
+-- ---- nothing is remembered yet
 
-  pub says-no : {a : ℕ} → a < na → (getD m a 0 ≡ 1 → ⊥) → false ≡ sealsAt W ids len init A E a
-  says-no {a} l e = sym (ne-eqb (getD m a 0) 1 e) ∙ ok .right a l
+-- an array that was just made
+pub blank-made : (n : ℕ) → Blank (replicate n 0)
+blank-made n = record { none = λ i. go i (decLt i n) }
+  where
+    go : (i : ℕ) → Dec (i < n) → _≡_ {A = ℕ} (getD (replicate n 0) i 0) 0
+    go i (yes l) = getD-replicate n i 0 0 l
+    go i (no l) = List·getD-eq-default (replicate n 0) 0 (omega (arith, length-replicate {A = ℕ} n 0))
+
+pub memos-first : {W : List ℕ} {X : List Stmt} {init : ℕ} {K R M : List ℕ} → Blank M → Memos W X init K R M
+memos-first b = record { right = λ k d. absurd (d (b .none k)) }
+
+-- ---- a verdict that is written down
+
+module _ {W : List ℕ} {X : List Stmt} {init : ℕ} {K R M N : List ℕ} (ok : Later W X init K R M N) where
+  pub choice-next : (x : ℕ) {c v : ℕ} {r : Bool} → c < 512 → v ≡ keyAt K 0 c → r ≡ cand X init (viewOf v) → eqb x 1 ≡ r → (x ≡ 0 → ⊥) → Later W X init K R M (set N c x)
+  choice-next x l e f g d = write ok x (about-choice l) (g ∙ f ∙ ap (λ y. cand X init (viewOf y)) e) d
+
+  pub agreement-next : (x a : ℕ) {r : Bool} → r ≡ sealsAt W X init K R a → eqb x 1 ≡ r → (x ≡ 0 → ⊥) → Later W X init K R M (set N (512 + a) x)
+  agreement-next x a f g d = write ok x (about-agreement a) (g ∙ f) d
+
+-- ---- what the verdicts say
+
+module _ {W : List ℕ} {X : List Stmt} {init : ℕ} {K R : List ℕ} {nc na : ℕ} where
+  pub verdicts-of : {M : List ℕ} → Tables W X init K R nc na → Memos W X init K R M → Known 0 nc M → Known 512 (512 + na) M → Verdicts W X init K R nc na M
+  verdicts-of {M} ok m c a = record {
+    candidate = λ i l. m .right i (c .known i (omega arith) l) ∙ about-choice (omega (arith, ok .chosen .few)) .so;
+    sealed = λ i l. m .right (512 + i) (a .known (512 + i) (omega arith) (omega arith)) ∙ about-agreement i .so;
+  }
+
+  pub says-yes : {M : List ℕ} {a : ℕ} → Verdicts W X init K R nc na M → a < na → getD M (512 + a) 0 ≡ 1 → sealsAt W X init K R a ≡ true
+  says-yes {M} {a} ok l e = sym (ok .sealed a l) ∙ eq-eqb (getD M (512 + a) 0) 1 e
+
+  pub says-no : {M : List ℕ} {a : ℕ} → Verdicts W X init K R nc na M → a < na → (getD M (512 + a) 0 ≡ 1 → ⊥) → false ≡ sealsAt W X init K R a
+  says-no {M} {a} ok l e = sym (ne-eqb (getD M (512 + a) 0) 1 e) ∙ ok .sealed a l

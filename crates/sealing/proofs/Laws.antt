@@ -3,27 +3,28 @@
 use mathlib.Core.Path.{_≡_, refl, sym, ap, ap₂, _∙_, subst}
 use mathlib.Core.Bool.{Bool, true, false, _&&_, _||_}
 use mathlib.Core.List.{List}
-use Prim.Native.Nat.{ℕ, _+_, _-_, _≤_, _<_}
+use Prim.Native.Nat.{ℕ, zero, suc, _+_, _-_, _≤_, _<_}
 use native.Mathlib.Decide.{ℕ-discrete, decLt}
 use native.Mathlib.Omega.{arith}
-use lib.Dec.{eqb, ltb}
+use lib.Dec.{eqb}
 use lib.ListN.{length, getD, set}
 use lib.Seq.{getD-set-same, getD-set-other, set-out}
 use borrow.Author.Tests.{eq-eqb, ne-eqb, lt-ltb, le-ltb}
 use Rattle.protocol.specs.Lists.{any, all, if_then_else_}
 use Rattle.protocol.specs.View.{View, sameView, size}
+use Rattle.protocol.specs.Statement.{Stmt}
 use Rattle.protocol.specs.Evidence.{isCandidate}
 use Rattle.protocol.specs.Grounds.{isTop}
 use Rattle.protocol.proofs.Decided.{says-in}
 use Rattle.views.specs.Table.{table}
 use Rattle.views.specs.View.{viewOf, ring}
-use Rattle.views.proofs.Tables.{any-at, all-zero, all-more, all-miss}
+use Rattle.views.proofs.Tables.{any-zero, any-suc, any-at, all-zero, all-more, all-miss}
 use Rattle.views.proofs.Views.{same-yes}
-use Rattle.pool.specs.Pool.{viewAt, countOf, stmtAt, recordOf}
-use Rattle.votes.specs.Tables.{low, high, upTo, gives, sealsAt, ends, Tables}
-use Rattle.sealing.specs.Rows.{Next, Passed}
-use Rattle.sealing.specs.Memos.{asked, Memos}
-use Rattle.sealing.proofs.Searches.{passed-first, passed-next, none-has}
+use Rattle.pool.specs.Pool.{viewAt, countOf, stmtAt}
+use Rattle.tables.specs.Index.{keyAt, numberAt, Indexed, Latest, Passed}
+use Rattle.tables.proofs.Searches.{passed-first, passed-next}
+use Rattle.votes.specs.Tables.{upTo, IsWord, choiceAt, agreementAt, gives, sealsAt, ends, Tables}
+use Rattle.sealing.specs.Memos.{asked, Memos, Later}
 
 or-none : (a b : Bool) → a ≡ false → b ≡ false → (a || b) ≡ false
 or-none a b e f = rw (e, f)
@@ -36,141 +37,171 @@ and-none : (a b : Bool) → b ≡ false → (a && b) ≡ false
 and-none true b e = e
 and-none false b e = refl
 
+-- none of n rows has p
+none-has : {p : ℕ → Bool} (n : ℕ) → ((i : ℕ) → i < n → p i ≡ false) → any p (upTo n) ≡ false
+none-has {p} zero h = any-zero p (λ i. i)
+none-has {p} (suc n) h = any-suc p (λ i. i) n ∙ ap₂ _||_ (none-has n (λ i l. h i (omega arith))) (h n (omega arith))
+
 -- ---- rows
 
-module _ (W ids : List ℕ) (len init : ℕ) where
+module _ (X : List Stmt) (init : ℕ) where
   abbrev pub cand : View → Bool
-  cand v = isCandidate (ring init) (recordOf W ids len) v
+  cand v = isCandidate (ring init) X v
 
-  abbrev pub tops : ℕ → Bool
-  tops t = isTop (ring init) (recordOf W ids len) (viewOf t)
+  abbrev pub tops : View → Bool
+  tops t = isTop (ring init) X t
 
-  -- the search for a choice that gives v has come to c, and the search for a sealed history with the top t to a
-  pub record Tried (C : List ℕ) (nc v c : ℕ) : Type 0 where
-    pub so : Passed (gives W ids len init C v) C nc v c
+module _ (W : List ℕ) (X : List Stmt) (init : ℕ) (K R : List ℕ) where
+  -- the search for a choice that gives v has come down to x, and the search for an agreement to a history with the top t that seals it to y
 
-  pub record Sought (A E : List ℕ) (na t a : ℕ) : Type 0 where
-    pub so : Passed (ends W ids len init A E t) A na t a
+  pub record Tried (v x : ℕ) : Type 0 where
+    pub so : (n : ℕ) → Indexed K R 0 n → Passed (gives W X init K R v) K 0 v n x
+
+  pub record Sought (t y : ℕ) : Type 0 where
+    pub so : (n : ℕ) → Indexed K R 1 n → Passed (ends W X init K R t) K 1 t n y
 
   -- the first p views of statement n are candidates
   pub record AllTo (n p : ℕ) : Type 0 where
-    pub are : all cand (table p (viewAt W n)) ≡ true
+    pub are : all (cand X init) (table p (viewAt W n)) ≡ true
 
-module _ (W ids : List ℕ) (len init : ℕ) where
-  give-other : (C : List ℕ) (v i : ℕ) → (high (getD C i 0) ≡ v → ⊥) → gives W ids len init C v i ≡ false
+  give-other : (v i : ℕ) → (keyAt K 0 i ≡ v → ⊥) → gives W X init K R v i ≡ false
   unfolding gives
-  give-other C v i d = ap (λ b. b && tops W ids len init (low (getD C i 0))) (ne-eqb (high (getD C i 0)) v d)
+  give-other v i d = ap (λ b. b && tops X init (choiceAt W R i .at)) (ne-eqb (keyAt K 0 i) v d)
 
-  give-is : (C : List ℕ) (v i t : ℕ) (r : Bool) → high (getD C i 0) ≡ v → t ≡ low (getD C i 0) → tops W ids len init t ≡ r → gives W ids len init C v i ≡ r
+  give-is : (v i t : ℕ) (r : Bool) → keyAt K 0 i ≡ v → viewOf t ≡ choiceAt W R i .at → tops X init (viewOf t) ≡ r → gives W X init K R v i ≡ r
   unfolding gives
-  give-is C v i t r e f g = ap₂ _&&_ (eq-eqb (high (getD C i 0)) v e) (ap (tops W ids len init) (sym f) ∙ g)
+  give-is v i t r e f g = ap₂ _&&_ (eq-eqb (keyAt K 0 i) v e) (ap (tops X init) (sym f) ∙ g)
 
-  end-other : (A E : List ℕ) (t i : ℕ) → (high (getD A i 0) ≡ t → ⊥) → ends W ids len init A E t i ≡ false
+  end-other : (t i : ℕ) → (keyAt K 1 i ≡ t → ⊥) → ends W X init K R t i ≡ false
   unfolding ends
-  end-other A E t i d = ap (λ b. b && sealsAt W ids len init A E i) (ne-eqb (high (getD A i 0)) t d)
+  end-other t i d = ap (λ b. b && sealsAt W X init K R i) (ne-eqb (keyAt K 1 i) t d)
 
-  end-is : (A E : List ℕ) (t i : ℕ) (r : Bool) → high (getD A i 0) ≡ t → sealsAt W ids len init A E i ≡ r → ends W ids len init A E t i ≡ r
+  end-is : (t i : ℕ) (r : Bool) → keyAt K 1 i ≡ t → sealsAt W X init K R i ≡ r → ends W X init K R t i ≡ r
   unfolding ends
-  end-is A E t i r e f = ap₂ _&&_ (eq-eqb (high (getD A i 0)) t e) f
+  end-is t i r e f = ap₂ _&&_ (eq-eqb (keyAt K 1 i) t e) f
 
-module _ {W ids : List ℕ} {len init : ℕ} where
-  pub try-first : {C : List ℕ} {nc v c : ℕ} → Next C nc v 0 c → Tried W ids len init C nc v c
-  try-first {C} {nc} {v} s = record { so = passed-first (give-other W ids len init C v) s }
+module _ {W : List ℕ} {X : List Stmt} {init : ℕ} {K R : List ℕ} where
+  pub try-first : {v x : ℕ} → ((n : ℕ) → Indexed K R 0 n → Latest K 0 v n x) → Tried W X init K R v x
+  try-first {v} s = record { so = λ n i. passed-first (give-other W X init K R v) (s n i) }
 
-  pub seek-first : {A E : List ℕ} {na t a : ℕ} → Next A na t 0 a → Sought W ids len init A E na t a
-  seek-first {A} {E} {na} {t} s = record { so = passed-first (end-other W ids len init A E t) s }
+  pub seek-first : {t y : ℕ} → ((n : ℕ) → Indexed K R 1 n → Latest K 1 t n y) → Sought W X init K R t y
+  seek-first {t} s = record { so = λ n i. passed-first (end-other W X init K R t) (s n i) }
 
-  pub seek-next : {A E : List ℕ} {na t a b : ℕ} {r : Bool} → Sought W ids len init A E na t a → a < na → r ≡ sealsAt W ids len init A E a → r ≡ false → Next A na t (a + 1) b
-      → Sought W ids len init A E na t b
-  seek-next {A} {E} {na} {t} {a} w l e f s = record { so = passed-next (end-other W ids len init A E t) (w .so) (end-is W ids len init A E t a false (w .so .here l) (sym e ∙ f)) s }
+  pub seek-next : {t y z : ℕ} {r : Bool} → Sought W X init K R t y → 0 < y → r ≡ sealsAt W X init K R (y - 1) → r ≡ false → Latest K 1 (keyAt K 1 (y - 1)) (y - 1) z → Sought W X init K R t z
+  seek-next {t} {y} w l e f s = record {
+    so = λ n i. passed-next (end-other W X init K R t) (w .so n i) l (end-is W X init K R t (y - 1) false (w .so n i .here l) (sym e ∙ f)) s;
+  }
 
-module _ {W ids : List ℕ} {len init : ℕ} {C : List ℕ} {nc : ℕ} {A E : List ℕ} {na : ℕ} (ok : Tables W ids len init C nc A E na) where
+module _ {W : List ℕ} {X : List Stmt} {init : ℕ} {K R : List ℕ} {nc na : ℕ} (ok : Tables W X init K R nc na) where
+  -- what is found is a row
+
+  pub choice-row : {v x : ℕ} → Tried W X init K R v x → x ≤ nc
+  choice-row w = w .so nc (ok .chosen) .most
+
+  pub agreement-row : {t y : ℕ} → Sought W X init K R t y → y ≤ na
+  agreement-row w = w .so na (ok .agreed) .most
+
   -- ---- sealed tops
 
-  pub top-init : {t : ℕ} → t < 4294967296 → t ≡ init → tops W ids len init t ≡ true
-  top-init {t} l e = ok .tops t l ∙ ap (λ b. b || any (ends W ids len init A E t) (upTo na)) (eq-eqb t init e)
+  pub top-init : {t : ℕ} → IsWord t → t ≡ init → tops X init (viewOf t) ≡ true
+  top-init {t} l e = ok .tops t l ∙ ap (λ b. b || any (ends W X init K R t) (upTo na)) (eq-eqb t init e)
 
-  pub top-found : {t a : ℕ} → t < 4294967296 → Sought W ids len init A E na t a → a < na → sealsAt W ids len init A E a ≡ true → tops W ids len init t ≡ true
-  top-found {t} {a} l w m e =
-      ok .tops t l ∙ or-right (eqb t init) (any (ends W ids len init A E t) (upTo na)) (any-at (ends W ids len init A E t) (λ i. i) na m (end-is W ids len init A E t a true (w .so .here m) e))
+  pub top-found : {t y : ℕ} → IsWord t → Sought W X init K R t y → 0 < y → sealsAt W X init K R (y - 1) ≡ true → tops X init (viewOf t) ≡ true
+  top-found {t} {y} l w m e =
+      let k : y - 1 < na = omega (arith, agreement-row w) in
+      ok .tops t l ∙ or-right (eqb t init) (any (ends W X init K R t) (upTo na))
+      (any-at (ends W X init K R t) (λ i. i) na k (end-is W X init K R t (y - 1) true (w .so na (ok .agreed) .here m) e))
 
-  pub top-none : {t a : ℕ} → t < 4294967296 → (t ≡ init → ⊥) → Sought W ids len init A E na t a → na ≤ a → tops W ids len init t ≡ false
-  top-none {t} {a} l d w m = ok .tops t l ∙ or-none (eqb t init) (any (ends W ids len init A E t) (upTo na)) (ne-eqb t init d) (none-has na (λ i h. w .so .none i (omega arith)))
+  pub top-none : {t y : ℕ} → IsWord t → (t ≡ init → ⊥) → Sought W X init K R t y → y ≤ 0 → tops X init (viewOf t) ≡ false
+  top-none {t} l d w m =
+      ok .tops t l ∙ or-none (eqb t init) (any (ends W X init K R t) (upTo na)) (ne-eqb t init d) (none-has na (λ i h. w .so na (ok .agreed) .none i (omega arith) h))
 
   -- ---- candidates
 
-  pub cand-init : {v : ℕ} → v < 4294967296 → v ≡ init → true ≡ cand W ids len init (viewOf v)
-  cand-init {v} l e = sym (ok .candidates v l ∙ ap (λ b. b || any (gives W ids len init C v) (upTo nc)) (eq-eqb v init e))
+  pub cand-init : {v : ℕ} → IsWord v → v ≡ init → true ≡ cand X init (viewOf v)
+  cand-init {v} l e = sym (ok .candidates v l ∙ ap (λ b. b || any (gives W X init K R v) (upTo nc)) (eq-eqb v init e))
 
-  pub cand-none : {v c : ℕ} → v < 4294967296 → (v ≡ init → ⊥) → Tried W ids len init C nc v c → nc ≤ c → cand W ids len init (viewOf v) ≡ false
-  cand-none {v} l d w m = ok .candidates v l ∙ or-none (eqb v init) (any (gives W ids len init C v) (upTo nc)) (ne-eqb v init d) (none-has nc (λ i h. w .so .none i (omega arith)))
+  pub cand-none : {v x : ℕ} → IsWord v → (v ≡ init → ⊥) → Tried W X init K R v x → x ≤ 0 → cand X init (viewOf v) ≡ false
+  cand-none {v} l d w m =
+      ok .candidates v l ∙ or-none (eqb v init) (any (gives W X init K R v) (upTo nc)) (ne-eqb v init d) (none-has nc (λ i h. w .so nc (ok .chosen) .none i (omega arith) h))
 
-  pub cand-rowless : {v f : ℕ} → v < 4294967296 → (v ≡ init → ⊥) → Next C nc v 0 f → f ≡ nc → false ≡ cand W ids len init (viewOf v)
+  pub cand-rowless : {v x : ℕ} → IsWord v → (v ≡ init → ⊥) → ((n : ℕ) → Indexed K R 0 n → Latest K 0 v n x) → x ≡ 0 → false ≡ cand X init (viewOf v)
   cand-rowless l d s e = sym (cand-none l d (try-first s) (omega arith))
 
-  chosen-at : {v c t : ℕ} → v < 4294967296 → Tried W ids len init C nc v c → c < nc → t ≡ low (getD C c 0) → tops W ids len init t ≡ true → cand W ids len init (viewOf v) ≡ true
-  chosen-at {v} {c} {t} l w m e f =
-      ok .candidates v l ∙ or-right (eqb v init) (any (gives W ids len init C v) (upTo nc)) (any-at (gives W ids len init C v) (λ i. i) nc m (give-is W ids len init C v c t true (w .so .here m) e f))
+  chosen-at : {v x : ℕ} (t : ℕ) → IsWord v → Tried W X init K R v x → 0 < x → viewOf t ≡ choiceAt W R (x - 1) .at → tops X init (viewOf t) ≡ true → cand X init (viewOf v) ≡ true
+  chosen-at {v} {x} t l w m e f =
+      let k : x - 1 < nc = omega (arith, choice-row w) in
+      ok .candidates v l ∙ or-right (eqb v init) (any (gives W X init K R v) (upTo nc))
+      (any-at (gives W X init K R v) (λ i. i) nc k (give-is W X init K R v (x - 1) t true (w .so nc (ok .chosen) .here m) e f))
 
-  pub cand-at-init : {v c t : ℕ} → v < 4294967296 → Tried W ids len init C nc v c → c < nc → t ≡ low (getD C c 0) → t ≡ init → cand W ids len init (viewOf v) ≡ true
-  cand-at-init l w m e f = chosen-at l w m e (top-init (omega arith) f)
+  pub cand-at-init : {v x : ℕ} (t : ℕ) → IsWord v → Tried W X init K R v x → 0 < x → viewOf t ≡ choiceAt W R (x - 1) .at → IsWord t → t ≡ init → cand X init (viewOf v) ≡ true
+  cand-at-init t l w m e k f = chosen-at t l w m e (top-init k f)
 
-  pub cand-at : {v c t a : ℕ} {r : Bool} → v < 4294967296 → Tried W ids len init C nc v c → c < nc → t ≡ low (getD C c 0) → Sought W ids len init A E na t a → a < na
-      → r ≡ sealsAt W ids len init A E a → r ≡ true → cand W ids len init (viewOf v) ≡ true
-  cand-at l w m e s k f g = chosen-at l w m e (top-found (omega arith) s k (sym f ∙ g))
+  pub cand-at : {v x y : ℕ} {r : Bool} (t : ℕ) → IsWord v → Tried W X init K R v x → 0 < x → viewOf t ≡ choiceAt W R (x - 1) .at → IsWord t
+      → Sought W X init K R t y → 0 < y → r ≡ sealsAt W X init K R (y - 1) → r ≡ true → cand X init (viewOf v) ≡ true
+  cand-at t l w m e k s h f g = chosen-at t l w m e (top-found k s h (sym f ∙ g))
 
-  pub try-next : {v c t a d : ℕ} → Tried W ids len init C nc v c → c < nc → t ≡ low (getD C c 0) → (t ≡ init → ⊥) → Sought W ids len init A E na t a → na ≤ a → Next C nc v (c + 1) d
-      → Tried W ids len init C nc v d
-  try-next {v} {c} {t} w m e n s k q = record { so = passed-next (give-other W ids len init C v) (w .so) (give-is W ids len init C v c t false (w .so .here m) e (top-none (omega arith) n s k)) q }
+  pub try-next : {v x y z : ℕ} (t : ℕ) → Tried W X init K R v x → 0 < x → viewOf t ≡ choiceAt W R (x - 1) .at → IsWord t → (t ≡ init → ⊥) → Sought W X init K R t y → y ≤ 0
+      → Latest K 0 (keyAt K 0 (x - 1)) (x - 1) z → Tried W X init K R v z
+  try-next {v} {x} t w m e k d s h q = record {
+    so = λ n i. passed-next (give-other W X init K R v) (w .so n i) m (give-is W X init K R v (x - 1) t false (w .so n i .here m) e (top-none k d s h)) q;
+  }
 
   -- ---- what falls from call to call
 
   same-size : {x y : ℕ} → x ≡ y → size 16 (viewOf x) ≡ size 16 (viewOf y)
   same-size e = ap (λ x. size 16 (viewOf x)) e
 
-  pub seal-less : {v c t a : ℕ} → Tried W ids len init C nc v c → c < nc → t ≡ low (getD C c 0) → Sought W ids len init A E na t a → a < na
-      → size 16 (viewOf (high (getD A a 0))) < size 16 (viewOf v)
-  seal-less {v} {c} w m e s k = omega (arith, ok .rises c m, same-size (w .so .here m), same-size e, same-size (s .so .here k))
+  pub seal-less : {v x y : ℕ} (t : ℕ) → Tried W X init K R v x → 0 < x → viewOf t ≡ choiceAt W R (x - 1) .at → Sought W X init K R t y → 0 < y
+      → size 16 (viewOf (keyAt K 1 (y - 1))) < size 16 (viewOf v)
+  seal-less {v} {x} {y} t w m e s k =
+      omega (
+        arith,
+        ok .rises (x - 1) (omega (arith, choice-row w)),
+        same-size (w .so nc (ok .chosen) .here m),
+        ap (size 16) e,
+        same-size (s .so na (ok .agreed) .here k),
+      )
 
-  pub top-less : {a t b : ℕ} → a < na → t ≡ low (getD A a 0) → Sought W ids len init A E na t b → b < na → size 16 (viewOf (high (getD A b 0))) < size 16 (viewOf (high (getD A a 0)))
-  top-less {a} l e s k = omega (arith, ok .climbs a l, same-size e, same-size (s .so .here k))
+  pub top-less : {a n y : ℕ} (t : ℕ) → a < na → n ≡ numberAt R 1 a → viewOf t ≡ stmtAt W n .at → Sought W X init K R t y → 0 < y → size 16 (viewOf (keyAt K 1 (y - 1))) < size 16 (viewOf (keyAt K 1 a))
+  top-less {a} t l q e s k = omega (arith, ok .climbs a l, ap (size 16) (e ∙ ap (λ x. stmtAt W x .at) q), same-size (s .so na (ok .agreed) .here k))
 
-  pub view-less : {a n e p : ℕ} (v : ℕ) → a < na → n ≡ getD E a 0 → e ≡ countOf W n → p < e → viewOf v ≡ viewAt W n p → size 16 (viewOf v) ≤ size 16 (viewOf (high (getD A a 0)))
+  pub view-less : {a n e p : ℕ} (v : ℕ) → a < na → n ≡ numberAt R 1 a → e ≡ countOf W n → p < e → viewOf v ≡ viewAt W n p → size 16 (viewOf v) ≤ size 16 (viewOf (keyAt K 1 a))
   unfolding stmtAt
   view-less {a} {n} {e} {p} v m q f l y =
       ok .within a m (viewOf v) (rw (sym q) (says-in .sound (rw (any-at (sameView (viewOf v)) (viewAt W n) (countOf W n) (omega arith) (same-yes (viewOf v) (viewAt W n p) y)) tt)))
 
   -- ---- one agreement
 
-  pub seal-not : (a v : ℕ) {n e p : ℕ} {r : Bool} → n ≡ getD E a 0 → e ≡ countOf W n → p < e → viewOf v ≡ viewAt W n p → r ≡ cand W ids len init (viewOf v) → r ≡ false → sealsAt W ids len init A E a ≡ false
+  pub seal-not : (a v : ℕ) {n e p : ℕ} {r : Bool} → n ≡ numberAt R 1 a → e ≡ countOf W n → p < e → viewOf v ≡ viewAt W n p → r ≡ cand X init (viewOf v) → r ≡ false → sealsAt W X init K R a ≡ false
   unfolding sealsAt stmtAt
   seal-not a v {n} {e} {p} {r} q f l y z w =
-      and-none (tops W ids len init (low (getD A a 0))) (all (cand W ids len init) (table (countOf W (getD E a 0)) (viewAt W (getD E a 0))))
-      (rw (sym q) (all-miss (cand W ids len init) (viewAt W n) (countOf W n) (omega arith) (ap (cand W ids len init) (sym y) ∙ sym z ∙ w)))
+      and-none (tops X init (agreementAt W R a .at)) (all (cand X init) (table (countOf W (numberAt R 1 a)) (viewAt W (numberAt R 1 a))))
+      (rw (sym q) (all-miss (cand X init) (viewAt W n) (countOf W n) (omega arith) (ap (cand X init) (sym y) ∙ sym z ∙ w)))
 
-  pub all-first : (n : ℕ) → AllTo W ids len init n 0
-  all-first n = record { are = all-zero (cand W ids len init) (viewAt W n) }
+  pub all-first : (n : ℕ) → AllTo W X init K R n 0
+  all-first n = record { are = all-zero (cand X init) (viewAt W n) }
 
-  pub all-next : (v : ℕ) {n p : ℕ} {r : Bool} → AllTo W ids len init n p → viewOf v ≡ viewAt W n p → r ≡ cand W ids len init (viewOf v) → r ≡ true → AllTo W ids len init n (p + 1)
-  all-next v {n} {p} {r} a y z w = record { are = all-more (cand W ids len init) (viewAt W n) p (a .are) (ap (cand W ids len init) (sym y) ∙ sym z ∙ w) }
+  pub all-next : (v : ℕ) {n p : ℕ} {r : Bool} → AllTo W X init K R n p → viewOf v ≡ viewAt W n p → r ≡ cand X init (viewOf v) → r ≡ true → AllTo W X init K R n (p + 1)
+  all-next v {n} {p} {r} a y z w = record { are = all-more (cand X init) (viewAt W n) p (a .are) (ap (cand X init) (sym y) ∙ sym z ∙ w) }
 
-  seal-by : (a : ℕ) {n e p t : ℕ} → n ≡ getD E a 0 → e ≡ countOf W n → p ≤ e → e ≤ p → AllTo W ids len init n p → t ≡ low (getD A a 0) → tops W ids len init t ≡ true → sealsAt W ids len init A E a ≡ true
+  seal-by : (a t : ℕ) {n e p : ℕ} → n ≡ numberAt R 1 a → e ≡ countOf W n → p ≤ e → e ≤ p → AllTo W X init K R n p → viewOf t ≡ stmtAt W n .at → tops X init (viewOf t) ≡ true → sealsAt W X init K R a ≡ true
   unfolding sealsAt stmtAt
-  seal-by a {n} {e} {p} {t} q f l m al g h =
+  seal-by a t {n} {e} {p} q f l m al g h =
       let d : countOf W n ≡ p = omega arith in
-      ap₂ _&&_ (ap (tops W ids len init) (sym g) ∙ h) (rw (sym q) (ap (λ m. all (cand W ids len init) (table m (viewAt W n))) d ∙ al .are))
+      rw (sym q) (ap₂ _&&_ (ap (tops X init) (sym g) ∙ h) (ap (λ m. all (cand X init) (table m (viewAt W n))) d ∙ al .are))
 
-  pub seal-init : (a : ℕ) {n e p t : ℕ} → n ≡ getD E a 0 → e ≡ countOf W n → p ≤ e → e ≤ p → AllTo W ids len init n p → t ≡ low (getD A a 0) → t ≡ init → sealsAt W ids len init A E a ≡ true
-  seal-init a q f l m al g h = seal-by a q f l m al g (top-init (omega arith) h)
+  pub seal-init : (a t : ℕ) {n e p : ℕ} → n ≡ numberAt R 1 a → e ≡ countOf W n → p ≤ e → e ≤ p → AllTo W X init K R n p → viewOf t ≡ stmtAt W n .at → IsWord t → t ≡ init → sealsAt W X init K R a ≡ true
+  seal-init a t q f l m al g k h = seal-by a t q f l m al g (top-init k h)
 
-  pub seal-found : (a : ℕ) {n e p t b : ℕ} {r : Bool} → n ≡ getD E a 0 → e ≡ countOf W n → p ≤ e → e ≤ p → AllTo W ids len init n p → t ≡ low (getD A a 0)
-      → Sought W ids len init A E na t b → b < na → r ≡ sealsAt W ids len init A E b → r ≡ true → sealsAt W ids len init A E a ≡ true
-  seal-found a q f l m al g s k h j = seal-by a q f l m al g (top-found (omega arith) s k (sym h ∙ j))
+  pub seal-found : (a t : ℕ) {n e p y : ℕ} {r : Bool} → n ≡ numberAt R 1 a → e ≡ countOf W n → p ≤ e → e ≤ p → AllTo W X init K R n p → viewOf t ≡ stmtAt W n .at → IsWord t
+      → Sought W X init K R t y → 0 < y → r ≡ sealsAt W X init K R (y - 1) → r ≡ true → sealsAt W X init K R a ≡ true
+  seal-found a t q f l m al g k s h i j = seal-by a t q f l m al g (top-found k s h (sym i ∙ j))
 
-  pub seal-none : (a : ℕ) {t b : ℕ} → t ≡ low (getD A a 0) → (t ≡ init → ⊥) → Sought W ids len init A E na t b → na ≤ b → sealsAt W ids len init A E a ≡ false
+  pub seal-none : (a t : ℕ) {n y : ℕ} → n ≡ numberAt R 1 a → viewOf t ≡ stmtAt W n .at → IsWord t → (t ≡ init → ⊥) → Sought W X init K R t y → y ≤ 0 → sealsAt W X init K R a ≡ false
   unfolding sealsAt
-  seal-none a {t} g d s k =
-      ap (λ b. b && all (cand W ids len init) (stmtAt W (getD E a 0) .views)) (ap (tops W ids len init) (sym g) ∙ top-none (omega arith) d s k)
+  seal-none a t {n} q g k d s h =
+      ap (λ b. b && all (cand X init) (agreementAt W R a .views)) (ap (λ x. tops X init (stmtAt W x .at)) (sym q) ∙ ap (tops X init) (sym g) ∙ top-none k d s h)
 
 -- ---- what is remembered
 
@@ -189,35 +220,48 @@ pick b x y e = rw e
 skip : {A : Type 0} (b : Bool) (x y : A) → b ≡ false → (if b then x else y) ≡ y
 skip b x y e = rw e
 
-module _ (W ids : List ℕ) (len init : ℕ) (C A E : List ℕ) where
+module _ (W : List ℕ) (X : List Stmt) (init : ℕ) (K R : List ℕ) where
   -- place k is about b
   pub record About (k : ℕ) (b : Bool) : Type 0 where
-    pub so : asked W ids len init C A E k ≡ b
+    pub so : asked W X init K R k ≡ b
 
-module _ {W ids : List ℕ} {len init : ℕ} {C A E : List ℕ} where
-  about-choice : {c : ℕ} → c < 512 → About W ids len init C A E c (cand W ids len init (viewOf (high (getD C c 0))))
+module _ {W : List ℕ} {X : List Stmt} {init : ℕ} {K R : List ℕ} where
+  pub about-choice : {c : ℕ} → c < 512 → About W X init K R c (cand X init (viewOf (keyAt K 0 c)))
   unfolding asked
   about-choice l = record { so = pick _ _ _ (lt-ltb _ _ l) }
 
-  pub about-agreement : (a : ℕ) → About W ids len init C A E (512 + a) (sealsAt W ids len init A E a)
+  pub about-agreement : (a : ℕ) → About W X init K R (512 + a) (sealsAt W X init K R a)
   unfolding asked
-  about-agreement a = record { so = skip _ _ _ (le-ltb (512 + a) 512 (omega arith)) ∙ ap (sealsAt W ids len init A E) back }
+  about-agreement a = record { so = skip _ _ _ (le-ltb (512 + a) 512 (omega arith)) ∙ ap (sealsAt W X init K R) back }
     where
       back : (512 + a) - 512 ≡ a
       back = omega arith
 
-  pub about-view : {nc v f : ℕ} → nc ≤ 512 → Next C nc v 0 f → (f ≡ nc → ⊥) → About W ids len init C A E f (cand W ids len init (viewOf v))
-  about-view l s d = record { so = about-choice (omega (arith, s .most, d)) .so ∙ ap (λ x. cand W ids len init (viewOf x)) (s .here (omega (arith, s .most, d))) }
+  pub about-view : {nc na v f : ℕ} → Tables W X init K R nc na → ((n : ℕ) → Indexed K R 0 n → Latest K 0 v n f) → (f ≡ 0 → ⊥) → About W X init K R (f - 1) (cand X init (viewOf v))
+  about-view {nc} {na} {v} {f} ok s d =
+      let l : 0 < f = omega (arith, d) in
+      record {
+        so = about-choice (omega (arith, s nc (ok .chosen) .most, ok .chosen .few)) .so ∙ ap (λ x. cand X init (viewOf x)) (s nc (ok .chosen) .here l);
+      }
 
-module _ {W ids : List ℕ} {len init : ℕ} {C A E M : List ℕ} (ok : Memos W ids len init C A E M) where
-  pub known : {k : ℕ} {b : Bool} → About W ids len init C A E k b → (getD M k 0 ≡ 0 → ⊥) → eqb (getD M k 0) 1 ≡ b
-  known {k} a d = ok .right k d ∙ a .so
+  pub later-same : {M : List ℕ} → Memos W X init K R M → Later W X init K R M M
+  later-same m = record { memos = m; kept = λ k e. e }
 
-  write : (x : ℕ) {k : ℕ} {b : Bool} → About W ids len init C A E k b → eqb x 1 ≡ b → Memos W ids len init C A E (set M k x)
-  write x {k} a e = record { right = put (λ c y. (y ≡ 0 → ⊥) → eqb y 1 ≡ asked W ids len init C A E c) M k x (ok .right) (λ q. e ∙ sym (a .so)) }
+  pub later-more : {M N O : List ℕ} → Later W X init K R M N → Later W X init K R N O → Later W X init K R M O
+  later-more m n = record { memos = n .memos; kept = λ k e. m .kept k (n .kept k e) }
 
-  pub put-yes : {k : ℕ} {b : Bool} → About W ids len init C A E k b → b ≡ true → (true ≡ b) × Memos W ids len init C A E (set M k 1)
-  put-yes a e = (sym e, write 1 a (eq-eqb 1 1 refl ∙ sym e))
+  pub known : {M : List ℕ} {k : ℕ} {b : Bool} → Memos W X init K R M → About W X init K R k b → (getD M k 0 ≡ 0 → ⊥) → eqb (getD M k 0) 1 ≡ b
+  known {M} {k} ok a d = ok .right k d ∙ a .so
 
-  pub put-no : {k : ℕ} {b : Bool} → About W ids len init C A E k b → b ≡ false → (false ≡ b) × Memos W ids len init C A E (set M k 2)
-  put-no a e = (sym e, write 2 a (ne-eqb 2 1 (λ q. omega arith) ∙ sym e))
+module _ {W : List ℕ} {X : List Stmt} {init : ℕ} {K R M N : List ℕ} (ok : Later W X init K R M N) where
+  pub write : (x : ℕ) {k : ℕ} {b : Bool} → About W X init K R k b → eqb x 1 ≡ b → (x ≡ 0 → ⊥) → Later W X init K R M (set N k x)
+  write x {k} a e d = record {
+    memos = record { right = put (λ c y. (y ≡ 0 → ⊥) → eqb y 1 ≡ asked W X init K R c) N k x (ok .memos .right) (λ q. e ∙ sym (a .so)) };
+    kept = put (λ c y. y ≡ 0 → getD M c 0 ≡ 0) N k x (ok .kept) (λ q. absurd (d q));
+  }
+
+  pub put-yes : {k : ℕ} {b : Bool} → About W X init K R k b → b ≡ true → (true ≡ b) × Later W X init K R M (set N k 1)
+  put-yes a e = (sym e, write 1 a (eq-eqb 1 1 refl ∙ sym e) (λ q. omega arith))
+
+  pub put-no : {k : ℕ} {b : Bool} → About W X init K R k b → b ≡ false → (false ≡ b) × Later W X init K R M (set N k 2)
+  put-no a e = (sym e, write 2 a (ne-eqb 2 1 (λ q. omega arith) ∙ sym e) (λ q. omega arith))

@@ -1,2 +1,1 @@
 pub mod Memos
-pub mod Rows

@@ -16,17 +16,16 @@ use lib.Seq.{sets, sets-eq, take-append-seam}
 use borrow.Author.Tests.{leb-true}
 use Rattle.text.specs.Text.{decText}
 use Rattle.text.proofs.Decimal.{some-long}
-use Rattle.protocol.specs.View.{View}
 use Rattle.protocol.specs.Statement.{Stmt}
 use Rattle.views.specs.declared.View as held
-use Rattle.views.specs.Held.{viewIs}
 use Rattle.statements.specs.declared.Binding.{Binding}
 use Rattle.statements.specs.declared.Binding.the-variants.{Unbound, Bound, Barred}
 use Rattle.statements.specs.declared.Statement.{Statement}
 use Rattle.statements.specs.declared.ReadStatement.{ReadStatement}
 use Rattle.statements.specs.Text.{text}
-use Rattle.statements.specs.Meaning.{firstViews, bindingNumber, payloadOf, stmtOf, FitsView, EachFits, Fits}
+use Rattle.statements.specs.Meaning.{firstViews, bindingNumber, payloadOf, stmtOf, EachFits, Fits}
 use Rattle.statements.specs.Promise.{ReadOf, hasRoom, writtenCount, written}
+use Rattle.statements.proofs.Fields.{held-fits}
 use Rattle.statements.proofs.Views.{first-long}
 use Rattle.statements.proofs.Whole.{fromOrigin, text-is}
 
@@ -35,15 +34,11 @@ pub refused : {S : List ℕ} {r : ReadStatement} → ReadOf S r → r .ok ≡ fa
 refused p no′ t f e = true≢false (sym (p .back t f e .0) ∙ no′)
 
 -- ---- a Statement fits
-abbrev pub EachHeld : List held.View → Type 0
-EachHeld [] = Unit {0}
-EachHeld (v ∷ l) = FitsView (viewIs v) × EachHeld l
-
-each-fits : (n : ℕ) (l : List held.View) → EachHeld l → EachFits (firstViews n l)
+each-fits : (n : ℕ) (l : List held.View) → EachFits (firstViews n l)
 unfolding firstViews
-each-fits zero l h = tt
-each-fits (suc n) [] h = (record { joined = omega arith; left = omega arith }, each-fits n [] tt)
-each-fits (suc n) (v ∷ l) h = (h .0, each-fits n l (h .1))
+each-fits zero l = tt
+each-fits (suc n) [] = (record { joined = omega arith; left = omega arith }, each-fits n [])
+each-fits (suc n) (v ∷ l) = (held-fits v, each-fits n l)
 
 binding-most : (b : Binding) → bindingNumber b ≤ 2
 binding-most Unbound = omega arith
@@ -64,19 +59,19 @@ bit-most : (b : Bool) → cond b 1 0 ≤ 1
 bit-most true = omega arith
 bit-most false = omega arith
 
-pub fits-of : (s : Statement) → s .kind < 256 → s .origin < 256 → FitsView (viewIs (s .at)) → FitsView (viewIs (s .view)) → BoundFits (s .binding) → s .payload < 2 ^ 64 → s .kept < 2 ^ 64 → EachHeld (s .history .views) → s .history .len ≤ 16 → Fits (stmtOf s)
+pub fits-of : (s : Statement) → s .kind < 256 → s .origin < 256 → BoundFits (s .binding) → s .payload < 2 ^ 64 → s .kept < 2 ^ 64 → s .history .len ≤ 16 → Fits (stmtOf s)
 unfolding stmtOf
-fits-of s k o a v b p e h n = record {
+fits-of s k o b p e n = record {
   kind = k;
   origin = o;
-  at = a;
-  view = v;
+  at = held-fits (s .at);
+  view = held-fits (s .view);
   binding = binding-most (s .binding);
   payload = payload-fits (s .binding) (s .payload) b p;
   stored = bit-most (s .stored);
   kept = e;
   count = omega (arith, n, first-long (s .history .len) (s .history .views));
-  views = each-fits (s .history .len) (s .history .views) h;
+  views = each-fits (s .history .len) (s .history .views);
 }
 
 -- ---- writing

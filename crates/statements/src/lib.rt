@@ -124,8 +124,8 @@ fn view_at(s: &[u8], at: usize) -> ViewPart
         ViewPart {
             ok: p.ok,
             view: View {
-                joined: (p.value / 65536) as u16,
-                left: (p.value % 65536) as u16,
+                joined: (p.value / 65536) as u32,
+                left: (p.value % 65536) as u32,
             },
             next: p.next,
         }
@@ -232,7 +232,12 @@ pub fn put_view(out: &mut [u8], at: usize, v: View) -> usize
     ensures { λ r. ⌜ (r ≡ at + 9) × (now (out .exit) ≡ sets (now (out .entry)) at (44 ∷ viewText (viewIs v))) ⌝ }
 {
     out[at] = 44;
-    text::write_hex(out, at + 1, (v.joined as u64) * 65536 + v.left as u64, 8)
+    text::write_hex(
+        out,
+        at + 1,
+        v.joined_set() as u64 * 65536 + v.left_set() as u64,
+        8,
+    )
 }
 
 fn put_views(out: &mut [u8], from: usize, h: History) -> usize

@@ -3,41 +3,54 @@
 use mathlib.Core.Path.{_≡_, sym, ap, ap₂, _∙_}
 use mathlib.Core.Bool.{Bool, true, false, not, _&&_}
 use mathlib.Core.List.{List, [], _∷_, _++_}
-use Prim.Native.Nat.{ℕ, zero, suc, _+_, _*_, _/_, _%_, _^_, _≤_, _<_, min}
+use Prim.Native.Nat.{ℕ, suc, _+_, _-_, _*_, _/_, _%_, _^_, _≤_, _<_, min}
 use native.Mathlib.Numerals.{add-one}
 use native.Mathlib.Omega.{arith}
 use lib.Dec.{eqb}
-use lib.Bits.{bitAnd}
-use lib.Count.{ones, ones-cat}
+use lib.Bits.{bitAnd, and-mask, mask-lt}
 use lib.ListN.{length, set}
 use lib.Seq.{getD-set-same, getD-set-other}
 use borrow.Author.Tests.{lt-ltb, le-ltb}
 use Rattle.protocol.specs.Sets.{bit, setOf}
 use Rattle.protocol.specs.Lists.{any}
-use Rattle.protocol.specs.View.{View, sameView, member, isView, within, comparable, size}
+use Rattle.protocol.specs.View.{View, sameView, member, isView, within, comparable}
 use Rattle.protocol.specs.History.{holds}
 use Rattle.protocol.specs.Turn.{enteredAfter}
-use Rattle.protocol.proofs.Bits.{bit-setOf, ones-count, subset-and}
+use Rattle.protocol.proofs.Bits.{bit-setOf, subset-and, Fits}
 use Rattle.views.specs.declared.View as held
 use Rattle.views.specs.declared.History.{History}
 use Rattle.views.specs.Table.{table}
-use Rattle.views.specs.View.{viewOf}
+use Rattle.views.specs.View.{viewOf, viewIn}
 use Rattle.views.specs.Held.{viewIs, heldAt, viewsIs}
-use Rattle.views.proofs.Sets.{bit-shift, bit-far}
+use Rattle.views.proofs.Sets.{bit-shift, bit-far, set-without}
 use Rattle.views.proofs.Tables.{table-length, table-cong, take-table, all-zero, all-more, all-miss}
 use Rattle.views.proofs.Views.{pair}
 
 -- ---- one view
 
-pub word-is : (v : held.View) (j l : ℕ) → j ≡ v .joined → j < 65536 → l ≡ v .left → l < 65536 → viewOf (j + l * 65536) ≡ viewIs v
-unfolding viewOf
-word-is v j l a p b q i = record { joined = (low ∙ a) i; left = (high ∙ b) i }
+pub word-is : (v : held.View) (j l w : ℕ) → j ≡ v .joined → j < 4294967296 → l ≡ v .left → l < 4294967296 → viewOf w ≡ viewIn (j + l * 4294967296) → viewOf w ≡ viewIs v
+unfolding viewIn
+word-is v j l w a p b q e = e ∙ (λ i. record { joined = (low ∙ ap (λ x. x % 65536) a) i; left = (high ∙ ap (λ x. x % 65536) b) i })
   where
-    low : (j + l * 65536) % 65536 ≡ j
+    low : (j + l * 4294967296) % 65536 ≡ j % 65536
     low = omega arith
 
-    high : (j + l * 65536) / 65536 % 65536 ≡ l
+    high : (j + l * 4294967296) / 4294967296 % 65536 ≡ l % 65536
     high = omega arith
+
+pub of-word-is : (w : ℕ) → pair (w % 4294967296 % 65536) (w / 4294967296 % 65536) ≡ viewIn w
+unfolding viewIn
+of-word-is w i = record { joined = (let e : w % 4294967296 % 65536 ≡ w % 65536 = omega arith in e) i; left = w / 4294967296 % 65536 }
+
+pub set-low : (a : ℕ) → (bitAnd a 65535 ≡ a % 65536) × (bitAnd a 65535 < 65536)
+set-low a = (and-mask a 16, mask-lt a 16)
+
+-- every struct means a view of the sixteen controllers
+pub held-fits : (v : held.View) → Fits 16 (viewIs v)
+held-fits v = record { joined = omega arith; left = omega arith }
+
+pub members-are : (v : View) (a b : ℕ) → a ≡ v .joined → a < 65536 → b ≡ v .left → a - bitAnd a b ≡ setOf 16 (member v)
+members-are v a b e p f = set-without 16 a b p ∙ ap₂ (λ x y. setOf 16 (λ k. bit x k && not (bit y k))) e f
 
 pub member-far : (a b k : ℕ) → a < 65536 → 16 ≤ k → false ≡ member (pair a b) k
 member-far a b k p l = ap (λ x. x && not (bit b k)) (sym (bit-far 16 a k p l))
@@ -45,15 +58,9 @@ member-far a b k p l = ap (λ x. x && not (bit b k)) (sym (bit-far 16 a k p l))
 pub member-at : (v : View) (r k : ℕ) → r ≡ setOf 16 (member v) → k < 16 → eqb (r / 2 ^ k % 2) 1 ≡ member v k
 member-at v r k e l = bit-shift k r ∙ ap (λ x. bit x k) e ∙ bit-setOf 16 (member v) k l
 
-pub view-test : (a b : ℕ) → a < 65536 → b < 65536 → eqb (bitAnd b a) b ≡ isView 16 (pair a b)
+pub view-test : (v : View) (a b : ℕ) → a ≡ v .joined → a < 65536 → b ≡ v .left → b < 65536 → eqb (bitAnd b a) b ≡ isView 16 v
 unfolding isView
-view-test a b p q = rw (lt-ltb a 65536 p, lt-ltb b 65536 q) (subset-and 16 b a q p)
-
-pub size-word : (v : ℕ) → v < 4294967296 → ones v ≡ size 16 (viewOf v)
-unfolding size viewOf
-size-word v h =
-    let e : v ≡ v / 65536 % 65536 * 65536 + v % 65536 = omega arith in
-    ap ones e ∙ omega (arith, ones-cat 16 (v / 65536 % 65536) (v % 65536) (omega arith), ones-count 16 (v % 65536) (omega arith), ones-count 16 (v / 65536 % 65536) (omega arith))
+view-test v a b e p f q = rw (sym e, sym f, lt-ltb a 65536 p, lt-ltb b 65536 q) (subset-and 16 b a q p)
 
 -- a test of words is the test of their views
 

@@ -1,14 +1,14 @@
 -- Laws of sets of controllers in one word, and of counts.
 -- Assumes nothing.
 use mathlib.Core.Path.{_≡_, refl, sym, ap, ap₂, _∙_}
-use mathlib.Core.Bool.{Bool, true, false, not, _&&_, _||_}
+use mathlib.Core.Bool.{Bool, true, false, not, _&&_, _||_, and-true}
 use Prim.Native.Nat.{ℕ, zero, suc, _+_, _-_, _*_, _/_, _%_, _^_, _≤_, _<_}
 use native.Mathlib.Omega.{arith}
 use lib.Dec.{eqb}
 use native.Mathlib.Nat.{pow-succ', div-div-eq-div-mul}
-use lib.Bits.{bitAnd, bitOr, or-lt, and-lt, or-add-and}
+use lib.Bits.{bitAnd, bitOr, or-lt, and-le-l, and-le-r, and-mask, or-add-and}
 use borrow.Author.Tests.{ne-eqb}
-use Rattle.protocol.specs.Sets.{bit, one, count, setOf}
+use Rattle.protocol.specs.Sets.{bit, one, count, setOf, every, subset}
 use Rattle.protocol.proofs.Bits.{bit-and, bit-or, bit-zero, bit-pow, bit-setOf, bits-ext}
 use Rattle.views.specs.Sets.{IsSet, Noted}
 
@@ -64,6 +64,24 @@ setOf-lt (suc n) q = omega (arith, one-le (q 0), setOf-lt n (λ k. q (suc k)))
 pub set-is : (r : ℕ) (q : ℕ → Bool) → IsSet r q → r ≡ setOf 16 q
 set-is r q s = bits-ext 16 r (setOf 16 q) (s .small) (setOf-lt 16 q) (λ k l. s .bits k l ∙ sym (bit-setOf 16 q k l))
 
+-- ---- the controllers below the width: 65535 is the set of all of them
+
+pub bit-masked : (a k : ℕ) → k < 16 → bit (bitAnd a 65535) k ≡ bit a k
+unfolding setOf
+bit-masked a k l = bit-and k a 65535 ∙ ap (λ b. bit a k && b) (bit-setOf 16 (λ _. true) k l) ∙ and-true (bit a k)
+
+pub bit-low : (a k : ℕ) → k < 16 → bit (a % 65536) k ≡ bit a k
+bit-low a k l = ap (λ x. bit x k) (sym (and-mask a 16)) ∙ bit-masked a k l
+
+every-cong : (n : ℕ) (p q : ℕ → Bool) → ((k : ℕ) → k < n → p k ≡ q k) → every n p ≡ every n q
+unfolding every
+every-cong zero p q f = refl
+every-cong (suc n) p q f = ap₂ _&&_ (f n (omega arith)) (every-cong n p q (λ k l. f k (omega arith)))
+
+pub subset-low : (a b : ℕ) → subset 16 (a % 65536) (b % 65536) ≡ subset 16 a b
+unfolding subset
+subset-low a b = every-cong 16 _ _ (λ k l. ap₂ (λ x y. not x || y) (bit-low a k l) (bit-low b k l))
+
 -- ---- counts
 
 pub count-cong : (n : ℕ) (p q : ℕ → Bool) → ((k : ℕ) → k < n → p k ≡ q k) → count n p ≡ count n q
@@ -75,6 +93,9 @@ pub count-le : (n : ℕ) (p : ℕ → Bool) → count n p ≤ n
 unfolding count
 count-le zero p = omega arith
 count-le (suc n) p = omega (arith, one-le (p n), count-le n p)
+
+pub count-low : (a : ℕ) → count 16 (bit (a % 65536)) ≡ count 16 (bit a)
+count-low a = count-cong 16 _ _ (bit-low a)
 
 -- ---- one set without another, and one bit of a set
 
@@ -89,11 +110,11 @@ bit-far zero a k l h = let e : a ≡ 0 = omega arith in rw e (bit-zero k)
 bit-far (suc n) a zero l h = absurd (omega arith)
 bit-far (suc n) a (suc k) l h = bit-far n (a / 2) k (omega arith) (omega arith)
 
-pub set-without : (a b : ℕ) → a < 65536 → b < 65536 → a - bitAnd a b ≡ setOf 16 (λ k. bit a k && not (bit b k))
-set-without a b p q = omega (arith, or-add-and rest (bitAnd a b), joined, apart)
+pub set-without : (n a b : ℕ) → a < 2 ^ n → a - bitAnd a b ≡ setOf n (λ k. bit a k && not (bit b k))
+set-without n a b p = omega (arith, or-add-and rest (bitAnd a b), joined, apart)
   where
     rest : ℕ
-    rest = setOf 16 (λ k. bit a k && not (bit b k))
+    rest = setOf n (λ k. bit a k && not (bit b k))
 
     without-and : (x y : Bool) → (x && not y || x && y) ≡ x
     without-and true true = refl
@@ -105,16 +126,16 @@ set-without a b p q = omega (arith, or-add-and rest (bitAnd a b), joined, apart)
     both true false = refl
     both false y = refl
 
-    small : bitAnd a b < 65536
-    small = and-lt 16 a b p q
+    small : bitAnd a b < 2 ^ n
+    small = omega (arith, and-le-l a b)
 
-    of-rest : (k : ℕ) → k < 16 → bit rest k ≡ (bit a k && not (bit b k))
-    of-rest k l = bit-setOf 16 (λ k. bit a k && not (bit b k)) k l
+    of-rest : (k : ℕ) → k < n → bit rest k ≡ (bit a k && not (bit b k))
+    of-rest k l = bit-setOf n (λ k. bit a k && not (bit b k)) k l
 
     joined : bitOr rest (bitAnd a b) ≡ a
-    joined = bits-ext 16 (bitOr rest (bitAnd a b)) a (or-lt 16 rest (bitAnd a b) (setOf-lt 16 (λ k. bit a k && not (bit b k))) small) p
+    joined = bits-ext n (bitOr rest (bitAnd a b)) a (or-lt n rest (bitAnd a b) (setOf-lt n (λ k. bit a k && not (bit b k))) small) p
         (λ k l. bit-or k rest (bitAnd a b) ∙ ap₂ _||_ (of-rest k l) (bit-and k a b) ∙ without-and (bit a k) (bit b k))
 
     apart : bitAnd rest (bitAnd a b) ≡ 0
-    apart = bits-ext 16 (bitAnd rest (bitAnd a b)) 0 (and-lt 16 rest (bitAnd a b) (setOf-lt 16 (λ k. bit a k && not (bit b k))) small) (omega arith)
+    apart = bits-ext n (bitAnd rest (bitAnd a b)) 0 (omega (arith, and-le-r rest (bitAnd a b), small)) (pow-pos n)
         (λ k l. bit-and k rest (bitAnd a b) ∙ ap₂ _&&_ (of-rest k l) (bit-and k a b) ∙ both (bit a k) (bit b k) ∙ sym (bit-zero k))

@@ -3,11 +3,11 @@
 use mathlib.Core.Path.{_≡_, refl, sym, ap, ap₂, _∙_}
 use mathlib.Core.Bool.{Bool, true, false, not, _&&_}
 use mathlib.Core.List.{List}
-use Prim.Native.Nat.{ℕ, _/_, _%_, _≤_, _<_}
+use Prim.Native.Nat.{ℕ, _+_, _*_, _/_, _%_, _≤_, _<_}
 use native.Mathlib.Omega.{arith}
-use lib.Dec.{eqb, leb}
-use lib.Bits.{bitAnd, and-le-l, and-mod, and-shr}
-use lib.Count.{ones}
+use lib.Dec.{eqb, leb, ltb}
+use lib.Bits.{bitAnd, and-le-l, and-mask, and-mod, and-shr}
+use lib.Count.{ones, ones-cat}
 use borrow.Author.Tests.{eq-eqb, ne-eqb}
 use Rattle.protocol.specs.Sets.{bit, count, setOf}
 use Rattle.protocol.specs.View.{View, sameView, member, quorum, memberCount, hasMembers, within, below, size}
@@ -17,8 +17,8 @@ use Rattle.protocol.proofs.Says.{Says, says-map, says-unique, says-and, says-no
 use Rattle.protocol.proofs.Bits.{bit-and, bit-setOf, ones-count, subset-and, below-of, Fits}
 use Rattle.protocol.proofs.Decided.{says-same, says-below, says-within}
 use Rattle.views.specs.Sets.{IsSet}
-use Rattle.views.specs.View.{viewOf, quorumHas}
-use Rattle.views.proofs.Sets.{setOf-lt, count-cong, count-le}
+use Rattle.views.specs.View.{viewOf, viewIn, quorumHas}
+use Rattle.views.proofs.Sets.{setOf-lt, count-cong, count-le, bit-low, count-low, subset-low}
 
 -- ---- a test and what it decides
 
@@ -41,34 +41,26 @@ same-no u v n = fails says-same n
 abbrev pub pair : ℕ → ℕ → View
 pair a b = record { joined = a; left = b }
 
-pub view-low : (w : ℕ) → viewOf (w % 4294967296) ≡ viewOf w
-unfolding viewOf
-view-low w i = record { joined = (let e : w % 4294967296 % 65536 ≡ w % 65536 = omega arith in e) i; left = (let e : w % 4294967296 / 65536 % 65536 ≡ w / 65536 % 65536 = omega arith in e) i }
-
-pub view-parts : (v : ℕ) → v < 4294967296 → pair (v % 65536) (v / 65536) ≡ viewOf v
-unfolding viewOf
-view-parts v h i = record { joined = v % 65536; left = (let e : v / 65536 ≡ v / 65536 % 65536 = omega arith in e) i }
-
--- words of 32 bits are the same if their views are
-pub view-inj : (a b : ℕ) → a < 4294967296 → b < 4294967296 → viewOf a ≡ viewOf b → a ≡ b
+-- words of 64 bits are the same if their views are
+pub view-inj : (a b : ℕ) → a < 18446744073709551616 → b < 18446744073709551616 → viewOf a ≡ viewOf b → a ≡ b
 unfolding viewOf
 view-inj a b p q e =
-    let j : a % 65536 ≡ b % 65536 = ap (λ v. v .joined) e in
-    let l : a / 65536 % 65536 ≡ b / 65536 % 65536 = ap (λ v. v .left) e in
+    let j : a % 4294967296 ≡ b % 4294967296 = ap (λ v. v .joined) e in
+    let l : a / 4294967296 % 4294967296 ≡ b / 4294967296 % 4294967296 = ap (λ v. v .left) e in
     omega arith
 
-pub same-view : (a b : ℕ) → a < 4294967296 → b < 4294967296 → eqb a b ≡ sameView (viewOf a) (viewOf b)
+pub same-view : (a b : ℕ) → a < 18446744073709551616 → b < 18446744073709551616 → eqb a b ≡ sameView (viewOf a) (viewOf b)
 same-view a b p q = says-unique (says-map (ap viewOf) (view-inj a b p q) says-eqb) says-same
 
 -- the word a is of the view A: it is compared with the word t
 
-pub view-is : (a : ℕ) (A : View) (t : ℕ) → viewOf a ≡ A → a ≡ t → a < 4294967296 → t < 4294967296 → sameView A (viewOf t) ≡ true
+pub view-is : (a : ℕ) (A : View) (t : ℕ) → viewOf a ≡ A → a ≡ t → a < 18446744073709551616 → t < 18446744073709551616 → sameView A (viewOf t) ≡ true
 view-is a A t e f p q = rw (sym e) (sym (same-view a t p q) ∙ eq-eqb a t f)
 
-pub view-not : (a : ℕ) (A : View) (t : ℕ) → viewOf a ≡ A → (a ≡ t → ⊥) → a < 4294967296 → t < 4294967296 → sameView A (viewOf t) ≡ false
+pub view-not : (a : ℕ) (A : View) (t : ℕ) → viewOf a ≡ A → (a ≡ t → ⊥) → a < 18446744073709551616 → t < 18446744073709551616 → sameView A (viewOf t) ≡ false
 view-not a A t e f p q = rw (sym e) (sym (same-view a t p q) ∙ ne-eqb a t f)
 
-pub view-eqb : (a : ℕ) (A : View) (t : ℕ) → viewOf a ≡ A → a < 4294967296 → t < 4294967296 → eqb a t ≡ sameView A (viewOf t)
+pub view-eqb : (a : ℕ) (A : View) (t : ℕ) → viewOf a ≡ A → a < 18446744073709551616 → t < 18446744073709551616 → eqb a t ≡ sameView A (viewOf t)
 view-eqb a A t e p q = same-view a t p q ∙ ap (λ v. sameView v (viewOf t)) e
 
 -- ---- members and quorums
@@ -106,43 +98,136 @@ pub signed-by-set : (X : List Stmt) (t : View) (p : Stmt → Bool) (seen : ℕ) 
 unfolding quorumHas signedByQuorum
 signed-by-set X t p seen r s e = e ∙ ap (λ n. hasMembers 16 t && leb (quorum (memberCount 16 t)) n) (count-cong 16 _ _ (λ k l. ap (λ b. member t k && b) (s .bits k l)))
 
--- ---- within, strictly within
+-- ---- a view of the controllers below the width alone
 
-pub within-words : (u v : ℕ) → u < 4294967296 → v < 4294967296 → eqb (bitAnd u v) u ≡ within 16 (viewOf u) (viewOf v)
-unfolding within viewOf
-within-words u v p q =
-    says-unique (says-map (λ e. (low e, high e)) (λ h. join (h .0) (h .1)) says-eqb) (says-and says-eqb says-eqb)
-    ∙ ap₂ _&&_ (subset-and 16 (u % 65536) (v % 65536) (omega arith) (omega arith)) (subset-and 16 (u / 65536 % 65536) (v / 65536 % 65536) (omega arith) (omega arith))
+abbrev masked : View → View
+masked v = pair (v .joined % 65536) (v .left % 65536)
+
+pub view-in : (w : ℕ) → viewIn w ≡ masked (viewOf w)
+unfolding viewIn viewOf
+view-in w i = record {
+  joined = (let e : w % 65536 ≡ w % 4294967296 % 65536 = omega arith in e) i;
+  left = (let e : w / 4294967296 % 65536 ≡ w / 4294967296 % 4294967296 % 65536 = omega arith in e) i;
+}
+
+-- the view that a word is of has no other bits, where it is a view of the sixteen controllers
+pub view-whole : (w : ℕ) {v : View} → viewOf w ≡ v → Fits 16 v → viewIn w ≡ v
+view-whole w {v} e f i = (view-in w ∙ ap masked e ∙ whole) i
   where
-    high-of : (x : ℕ) → x < 4294967296 → x / 65536 % 65536 ≡ x / 65536
+    whole : masked v ≡ v
+    whole i = record { joined = (let e : v .joined % 65536 ≡ v .joined = omega (arith, f .joined) in e) i; left = (let e : v .left % 65536 ≡ v .left = omega (arith, f .left) in e) i }
+
+pub fits-in : (w : ℕ) → Fits 16 (viewIn w)
+unfolding viewIn
+fits-in w = record { joined = omega arith; left = omega arith }
+
+within-masked : (u v : View) → within 16 (masked u) (masked v) ≡ within 16 u v
+unfolding within
+within-masked u v = ap₂ _&&_ (subset-low (u .joined) (v .joined)) (subset-low (u .left) (v .left))
+
+size-masked : (v : View) → size 16 (masked v) ≡ size 16 v
+unfolding size
+size-masked v = ap₂ _+_ (count-low (v .joined)) (count-low (v .left))
+
+below-masked : (u v : View) → below 16 (masked u) (masked v) ≡ below 16 u v
+unfolding below
+below-masked u v = ap₂ _&&_ (within-masked u v) (ap₂ ltb (size-masked u) (size-masked v))
+
+member-masked : (v : View) (k : ℕ) → k < 16 → member (masked v) k ≡ member v k
+member-masked v k l = ap₂ (λ x y. x && not y) (bit-low (v .joined) k l) (bit-low (v .left) k l)
+
+count-masked : (v : View) → memberCount 16 (masked v) ≡ memberCount 16 v
+unfolding memberCount
+count-masked v = count-cong 16 _ _ (member-masked v)
+
+pub members-in : (w : ℕ) → hasMembers 16 (viewIn w) ≡ hasMembers 16 (viewOf w)
+members-in w = ap (hasMembers 16) (view-in w) ∙ ap (leb 1) (count-masked (viewOf w))
+
+pub quorum-in : (w : ℕ) (q : ℕ → Bool) → quorumHas (viewIn w) q ≡ quorumHas (viewOf w) q
+unfolding quorumHas
+quorum-in w q = ap (λ v. quorumHas v q) (view-in w) ∙ of-masked (viewOf w)
+  where
+    of-masked : (v : View) → quorumHas (masked v) q ≡ quorumHas v q
+    of-masked v = ap₂ (λ n m. leb 1 n && leb (quorum n) m) (count-masked v) (count-cong 16 _ _ (λ k l. ap (λ b. b && q k) (member-masked v k l)))
+
+pub narrow-is : (w : ℕ) → viewOf (bitAnd w 281470681808895) ≡ viewIn w
+unfolding viewOf viewIn
+narrow-is w i = record { joined = low i; left = high i }
+  where
+    low : bitAnd w 281470681808895 % 4294967296 ≡ w % 65536
+    low = omega (arith, and-mod w 281470681808895 32, and-mask (w % 4294967296) 16)
+
+    high : bitAnd w 281470681808895 / 4294967296 % 4294967296 ≡ w / 4294967296 % 65536
+    high = omega (arith, and-shr w 281470681808895 32, and-mask (w / 4294967296) 16)
+
+-- ---- the word a is of the view u, of the controllers below the width alone
+
+pub record Narrowed (u a : ℕ) : Type 0 where
+  pub word : a < 18446744073709551616
+  pub view : viewOf a ≡ viewIn u
+
+narrowed-fits : (u a : ℕ) → Narrowed u a → Fits 16 (viewOf a)
+narrowed-fits u a n = rw (n .view) (fits-in u)
+
+narrowed-view : (u a : ℕ) → Narrowed u a → viewOf a ≡ masked (viewOf u)
+narrowed-view u a n = n .view ∙ view-in u
+
+within-fits : (u v : ℕ) → u < 18446744073709551616 → v < 18446744073709551616 → Fits 16 (viewOf u) → Fits 16 (viewOf v) → eqb (bitAnd u v) u ≡ within 16 (viewOf u) (viewOf v)
+unfolding within viewOf
+within-fits u v p q f g =
+    says-unique (says-map (λ e. (low e, high e)) (λ h. join (h .0) (h .1)) says-eqb) (says-and says-eqb says-eqb)
+    ∙ ap₂ _&&_ (subset-and 16 (u % 4294967296) (v % 4294967296) (f .joined) (g .joined)) (subset-and 16 (u / 4294967296 % 4294967296) (v / 4294967296 % 4294967296) (f .left) (g .left))
+  where
+    high-of : (x : ℕ) → x < 18446744073709551616 → x / 4294967296 % 4294967296 ≡ x / 4294967296
     high-of x l = omega arith
 
-    lows : bitAnd u v % 65536 ≡ bitAnd (u % 65536) (v % 65536)
-    lows = and-mod u v 16
+    lows : bitAnd u v % 4294967296 ≡ bitAnd (u % 4294967296) (v % 4294967296)
+    lows = and-mod u v 32
 
-    highs : bitAnd u v / 65536 ≡ bitAnd (u / 65536 % 65536) (v / 65536 % 65536)
-    highs = and-shr u v 16 ∙ ap₂ bitAnd (sym (high-of u p)) (sym (high-of v q))
+    highs : bitAnd u v / 4294967296 ≡ bitAnd (u / 4294967296 % 4294967296) (v / 4294967296 % 4294967296)
+    highs = and-shr u v 32 ∙ ap₂ bitAnd (sym (high-of u p)) (sym (high-of v q))
 
-    low : bitAnd u v ≡ u → bitAnd (u % 65536) (v % 65536) ≡ u % 65536
-    low e = sym lows ∙ ap (λ x. x % 65536) e
+    low : bitAnd u v ≡ u → bitAnd (u % 4294967296) (v % 4294967296) ≡ u % 4294967296
+    low e = sym lows ∙ ap (λ x. x % 4294967296) e
 
-    high : bitAnd u v ≡ u → bitAnd (u / 65536 % 65536) (v / 65536 % 65536) ≡ u / 65536 % 65536
-    high e = sym highs ∙ ap (λ x. x / 65536) e ∙ sym (high-of u p)
+    high : bitAnd u v ≡ u → bitAnd (u / 4294967296 % 4294967296) (v / 4294967296 % 4294967296) ≡ u / 4294967296 % 4294967296
+    high e = sym highs ∙ ap (λ x. x / 4294967296) e ∙ sym (high-of u p)
 
-    join : bitAnd (u % 65536) (v % 65536) ≡ u % 65536 → bitAnd (u / 65536 % 65536) (v / 65536 % 65536) ≡ u / 65536 % 65536 → bitAnd u v ≡ u
+    join : bitAnd (u % 4294967296) (v % 4294967296) ≡ u % 4294967296 → bitAnd (u / 4294967296 % 4294967296) (v / 4294967296 % 4294967296) ≡ u / 4294967296 % 4294967296 → bitAnd u v ≡ u
     join a b = omega (arith, lows ∙ a, highs ∙ b)
 
-pub fits : (v : ℕ) → Fits 16 (viewOf v)
-unfolding viewOf
-fits v = record { joined = omega arith; left = omega arith }
+size-fits : (a : ℕ) → a < 18446744073709551616 → Fits 16 (viewOf a) → ones a ≡ size 16 (viewOf a)
+unfolding size viewOf
+size-fits a h f =
+    let e : a ≡ a / 4294967296 % 4294967296 * 4294967296 + a % 4294967296 = omega arith in
+    ap ones e ∙ omega (arith, ones-cat 32 (a / 4294967296 % 4294967296) (a % 4294967296) (omega arith), ones-count 16 (a % 4294967296) (f .joined), ones-count 16 (a / 4294967296 % 4294967296) (f .left))
+
+pub size-word : (v a : ℕ) → Narrowed v a → ones a ≡ size 16 (viewOf v)
+size-word v a n = size-fits a (n .word) (narrowed-fits v a n) ∙ ap (size 16) (narrowed-view v a n) ∙ size-masked (viewOf v)
+
+pub size-most : (v : View) → size 16 v ≤ 32
+unfolding size
+size-most v = omega (arith, count-le 16 (bit (v .joined)), count-le 16 (bit (v .left)))
+
+-- ---- within, strictly within
 
 pub below-stop : (u v : ℕ) (w : Bool) → w ≡ within 16 (viewOf u) (viewOf v) → w ≡ false → false ≡ below 16 (viewOf u) (viewOf v)
 unfolding below
 below-stop u v w e f = rw (sym e ∙ f)
 
-pub below-words : (u v : ℕ) (w : Bool) → u < 4294967296 → v < 4294967296 → w ≡ within 16 (viewOf u) (viewOf v) → w ≡ true → not (eqb u v) ≡ below 16 (viewOf u) (viewOf v)
-below-words u v w p q e t =
-    says-unique
-    (says-map (λ n. below-of (fits u) (fits v) (says-within .sound (rw (sym e ∙ t) tt)) (λ h. n (view-inj u v p q h)))
-    (λ b h. omega (arith, b .less, ap (λ x. size 16 (viewOf x)) h)) (says-not says-eqb))
-    says-below
+module _ (u v a b : ℕ) (n : Narrowed u a) (m : Narrowed v b) where
+  pub within-words : eqb (bitAnd a b) a ≡ within 16 (viewOf u) (viewOf v)
+  within-words = within-fits a b (n .word) (m .word) (narrowed-fits u a n) (narrowed-fits v b m) ∙ ap₂ (within 16) (narrowed-view u a n) (narrowed-view v b m) ∙ within-masked (viewOf u) (viewOf v)
+
+  lies : (w : Bool) → w ≡ within 16 (viewOf u) (viewOf v) → w ≡ true → within 16 (viewOf a) (viewOf b) ≡ true
+  lies w e t = ap₂ (within 16) (narrowed-view u a n) (narrowed-view v b m) ∙ within-masked (viewOf u) (viewOf v) ∙ sym e ∙ t
+
+  below-fits : within 16 (viewOf a) (viewOf b) ≡ true → not (eqb a b) ≡ below 16 (viewOf a) (viewOf b)
+  below-fits l =
+      says-unique
+      (says-map (λ d. below-of (narrowed-fits u a n) (narrowed-fits v b m) (says-within .sound (rw l tt)) (λ h. d (view-inj a b (n .word) (m .word) h)))
+      (λ l h. omega (arith, l .less, ap (λ x. size 16 (viewOf x)) h)) (says-not says-eqb))
+      says-below
+
+  pub below-words : (w : Bool) → w ≡ within 16 (viewOf u) (viewOf v) → w ≡ true → not (eqb a b) ≡ below 16 (viewOf u) (viewOf v)
+  below-words w e t = below-fits (lies w e t) ∙ ap₂ (below 16) (narrowed-view u a n) (narrowed-view v b m) ∙ below-masked (viewOf u) (viewOf v)

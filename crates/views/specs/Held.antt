@@ -1,7 +1,7 @@
--- What the structs View and History mean: a view and a list of views of the protocol.
+-- What the structs View and History mean: a view and a list of views of the protocol. A struct's set has 32 bits, and those from 16 on stand for no controller: they are not read.
 -- Assumes nothing.
 use mathlib.Core.List.{List}
-use Prim.Native.Nat.{ℕ, min}
+use Prim.Native.Nat.{ℕ, _%_, min}
 use lib.ListN.{getD}
 use Rattle.protocol.specs.View.{View}
 use Rattle.views.specs.declared.View as held
@@ -9,7 +9,7 @@ use Rattle.views.specs.declared.History.{History}
 use Rattle.views.specs.Table.{table}
 
 abbrev pub viewIs : held.View → View
-viewIs v = record { joined = v .joined; left = v .left }
+viewIs v = record { joined = v .joined % 65536; left = v .left % 65536 }
 
 -- View p of an array; past its end 00000000.
 abbrev pub heldAt : List held.View → ℕ → View

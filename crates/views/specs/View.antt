@@ -5,9 +5,13 @@ use Prim.Native.Nat.{ℕ, _/_, _%_}
 use Rattle.protocol.specs.View.{View, Ring}
 use Rattle.protocol.specs.Evidence.{hasQuorum}
 
--- The view of a word: 16 bits of who joined, and above them 16 of who left.
+-- The view of a word: 32 bits of who joined, and above them 32 of who left.
 unfoldable pub viewOf : ℕ → View
-viewOf w = record { joined = w % 65536; left = w / 65536 % 65536 }
+viewOf w = record { joined = w % 4294967296; left = w / 4294967296 % 4294967296 }
+
+-- The same view, of the sixteen controllers alone: other bits of its sets are not read.
+unfoldable pub viewIn : ℕ → View
+viewIn w = record { joined = w % 65536; left = w / 4294967296 % 65536 }
 
 -- A quorum of t has q.
 unfoldable pub quorumHas : View → (ℕ → Bool) → Bool

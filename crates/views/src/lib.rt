@@ -9,23 +9,24 @@ ghost use Rattle.protocol.specs.History.{last, holds};
 ghost use Rattle.protocol.specs.Statement.{isRising};
 ghost use Rattle.protocol.specs.Turn.{enteredAfter};
 ghost use Rattle.views.specs.Table.{table};
-ghost use Rattle.views.specs.View.{viewOf};
+ghost use Rattle.views.specs.View.{viewOf, viewIn};
 ghost use Rattle.views.specs.Held.{viewIs, heldAt, viewsIs};
 
 mod words;
 
 pub use words::below_view;
 pub use words::has_members;
+pub use words::narrow;
 pub use words::note;
 pub use words::quorum_in;
 pub use words::size_view;
 pub use words::union;
 pub use words::within_view;
 
-// Who joined and who left: bit k of each stands for controller k.
+// Who joined and who left: bit k of each stands for controller k. Bits from the width on stand for none and are not read.
 pub struct View {
-    pub joined: u16,
-    pub left: u16,
+    pub joined: u32,
+    pub left: u32,
 }
 
 // The first `len` views count; a len above the limit counts as the limit.
@@ -35,48 +36,64 @@ pub struct History {
 }
 
 // A set as a word: it brings the range of its type.
-fn wide(set: u16) -> u32
-    ensures { λ r. ⌜ (r ≡ set) × (r < 65536) ⌝ }
+fn wide(set: u32) -> u64
+    ensures { λ r. ⌜ (r ≡ set) × (r < 4294967296) ⌝ }
 {
-    set as u32
+    set as u64
 }
 
 impl View {
     // Controllers are numbered below this.
     pub const WIDTH: u8 = 16;
 
+    // The set of all of them.
+    pub const ALL: u32 = 65535;
+
     // A history has at most this many views.
     pub const LIMIT: usize = 16;
 
     // The view in one word.
-    pub fn word(self) -> u32
+    pub fn word(self) -> u64
         ensures { λ r. ⌜ viewOf r ≡ viewIs self ⌝ }
     {
-        wide(self.joined) + wide(self.left) * 65536
+        words::narrow(wide(self.joined) + wide(self.left) * 4294967296)
     }
 
     // The view of a word.
-    pub fn of_word(w: u32) -> View
-        ensures { λ r. ⌜ viewIs r ≡ viewOf w ⌝ }
+    pub fn of_word(w: u64) -> View
+        ensures { λ r. ⌜ viewIs r ≡ viewIn w ⌝ }
     {
         View {
-            joined: (w % 65536) as u16,
-            left: (w / 65536) as u16,
+            joined: (w % 4294967296) as u32,
+            left: (w / 4294967296) as u32,
         }
     }
 
+    pub fn joined_set(self) -> u32
+        ensures { λ r. ⌜ (r ≡ viewIs self .joined) × (r < 65536) ⌝ }
+    {
+        self.joined & View::ALL
+    }
+
+    pub fn left_set(self) -> u32
+        ensures { λ r. ⌜ (r ≡ viewIs self .left) × (r < 65536) ⌝ }
+    {
+        self.left & View::ALL
+    }
+
     // Who joined and has not left.
-    pub fn members(self) -> u16
+    pub fn members(self) -> u32
         ensures { λ r. ⌜ r ≡ setOf 16 (member (viewIs self)) ⌝ }
     {
-        self.joined - (self.joined & self.left)
+        let joined = self.joined_set();
+        joined - (joined & self.left_set())
     }
 
     // How many members there are.
     pub fn count(self) -> u32
         ensures { λ r. ⌜ (r ≡ memberCount 16 (viewIs self)) × (r ≤ 16) ⌝ }
     {
-        u32::count_ones(wide(self.members()))
+        u32::count_ones(self.members())
     }
 
     // How many of the members make a quorum.
@@ -100,7 +117,8 @@ impl View {
     pub fn is_view(self) -> bool
         ensures { λ r. ⌜ r ≡ isView 16 (viewIs self) ⌝ }
     {
-        (self.left & self.joined) == self.left
+        let left = self.left_set();
+        (left & self.joined_set()) == left
     }
 
     pub fn has_member(self, k: u8) -> bool

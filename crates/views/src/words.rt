@@ -1,12 +1,21 @@
-// Sets and views in one word. A set is a word of 16 bits; a view has who joined in the low 16 bits and who left in the next.
+// Sets and views in one word. A set is a word of 32 bits; a view has who joined in the low 32 bits and who left in the high. Tests of views look at the controllers below the width alone.
 ghost use mathlib.Core.Path.{_≡_};
 ghost use Prim.Native.Nat.{_≤_};
 ghost use Rattle.protocol.specs.Sets.{bit};
 ghost use Rattle.protocol.specs.View.{hasMembers, within, below, size};
 ghost use Rattle.views.specs.Sets.{Noted, Joined};
-ghost use Rattle.views.specs.View.{viewOf, quorumHas};
+ghost use Rattle.views.specs.View.{viewOf, viewIn, quorumHas};
 use crate::View;
-use crate::wide;
+
+// All controllers in both sets of a view.
+const BOTH: u64 = View::ALL as u64 * 4294967297;
+
+// The view w without the bits of its sets that stand for no controller.
+pub fn narrow(w: u64) -> u64
+    ensures { λ r. ⌜ viewOf r ≡ viewIn w ⌝ }
+{
+    w & BOTH
+}
 
 // `seen`, and o too where `yes` is true.
 pub fn note(seen: u32, yes: bool, o: u64) -> u32
@@ -29,43 +38,45 @@ pub fn union(a: u32, b: u32) -> u32
 }
 
 // Whether v has members.
-pub fn has_members(v: u32) -> bool
+pub fn has_members(v: u64) -> bool
     ensures { λ r. ⌜ r ≡ hasMembers 16 (viewOf v) ⌝ }
 {
     View::of_word(v).has_members()
 }
 
 // Whether a quorum of t is in `seen`.
-pub fn quorum_in(t: u32, seen: u32) -> bool
+pub fn quorum_in(t: u64, seen: u32) -> bool
     ensures { λ r. ⌜ r ≡ quorumHas (viewOf t) (bit seen) ⌝ }
 {
     let v = View::of_word(t);
     if !v.has_members() {
         return false;
     }
-    v.quorum() <= u32::count_ones(wide(v.members()) & seen)
+    v.quorum() <= u32::count_ones(v.members() & seen)
 }
 
 // Whether u lies within v.
-pub fn within_view(u: u32, v: u32) -> bool
+pub fn within_view(u: u64, v: u64) -> bool
     ensures { λ r. ⌜ r ≡ within 16 (viewOf u) (viewOf v) ⌝ }
 {
-    (u & v) == u
+    let a = narrow(u);
+    let b = narrow(v);
+    (a & b) == a
 }
 
 // Whether u lies strictly within v.
-pub fn below_view(u: u32, v: u32) -> bool
+pub fn below_view(u: u64, v: u64) -> bool
     ensures { λ r. ⌜ r ≡ below 16 (viewOf u) (viewOf v) ⌝ }
 {
     if !within_view(u, v) {
         return false;
     }
-    u != v
+    narrow(u) != narrow(v)
 }
 
 // How many joined in v and how many left.
-pub fn size_view(v: u32) -> u32
+pub fn size_view(v: u64) -> u32
     ensures { λ r. ⌜ (r ≡ size 16 (viewOf v)) × (r ≤ 32) ⌝ }
 {
-    u32::count_ones(v)
+    u64::count_ones(narrow(v))
 }

@@ -1,13 +1,15 @@
--- Laws of votes that are alike, and of their two words.
+-- Laws of votes that are alike, and of their three words.
 -- Assumes nothing.
 use mathlib.Core.Path.{_≡_, refl, sym, ap, ap₂, _∙_}
 use mathlib.Core.Logic.{_⊎_, inl, inr}
 use mathlib.Core.Bool.{Bool, true, false}
 use mathlib.Core.List.{List, [], _∷_, _++_}
-use Prim.Native.Nat.{ℕ, _+_, _-_, _*_, _%_, _≤_, _<_}
+use Prim.Native.Nat.{ℕ, suc, _+_, _*_, _/_, _%_, _≤_, _<_}
+use native.Mathlib.Nat.{mul-le-mul-right}
 use native.Mathlib.Omega.{arith}
 use native.Mathlib.Numerals.{add-one}
 use lib.Dec.{T, eqb}
+use lib.ListN.{length}
 use borrow.Author.Tests.{eq-eqb, ne-eqb}
 use Rattle.protocol.specs.View.{View}
 use Rattle.protocol.specs.History.{sameViews}
@@ -17,10 +19,13 @@ use Rattle.protocol.proofs.Bits.{Fits}
 use Rattle.protocol.proofs.Decided.{says-same, says-sames, says-kind}
 use Rattle.views.specs.Table.{table}
 use Rattle.views.specs.View.{viewOf}
-use Rattle.views.proofs.Views.{passes, fails, fits}
+use Rattle.views.proofs.Tables.{table-length}
+use Rattle.views.proofs.Views.{passes, fails}
 use Rattle.pool.specs.Pool.{stmtAt}
+use Rattle.pool.proofs.Laws.{at-fits, view-fits}
 use Rattle.votes.specs.Votes.{isVote, alike}
-use Rattle.votes.specs.Keys.{wordOf, mixFrom, headOf, tailOf, sameNames, slotOf}
+use Rattle.votes.specs.Tables.{IsWord}
+use Rattle.votes.specs.Keys.{wordOf, folded, weightOf, mixFrom, whatOf, sameNames, slotBy}
 
 -- ---- votes
 
@@ -104,10 +109,7 @@ alike-turned {a} p = alike-both p (alike-self a (p .vote))
 
 -- ---- the words of a vote
 
-word-small : {v : View} → Fits 16 v → wordOf v < 4294967296
-unfolding wordOf
-word-small f = omega (arith, f .joined, f .left)
-
+-- a view of this width has one word
 word-inj : {u v : View} → Fits 16 u → Fits 16 v → wordOf u ≡ wordOf v → u ≡ v
 unfolding wordOf
 word-inj {u} {v} f g e i = record {
@@ -115,35 +117,27 @@ word-inj {u} {v} f g e i = record {
   left = (let p : u .left ≡ v .left = omega (arith, f .joined, f .left, g .joined, g .left) in p) i;
 }
 
-pub word-of : (w : ℕ) (v : View) → w < 4294967296 → viewOf w ≡ v → w ≡ wordOf v
+pub word-of : (w : ℕ) (v : View) → IsWord w → viewOf w ≡ v → w ≡ wordOf v
 unfolding wordOf viewOf
 word-of w v l e = rw (sym e) (omega arith)
 
-pub tail-view : (s : Stmt) → s .kind ≡ 3 → tailOf s ≡ wordOf (s .view)
-unfolding tailOf
-tail-view s e = rw (eq-eqb (s .kind) 3 e)
+pub what-view : (s : Stmt) → s .kind ≡ 3 → whatOf s ≡ wordOf (s .view)
+unfolding whatOf
+what-view s e = rw (eq-eqb (s .kind) 3 e)
 
-pub tail-history : (s : Stmt) → s .kind ≡ 4 → tailOf s ≡ mixFrom 0 (s .views)
-unfolding tailOf
-tail-history s e = rw (ne-eqb (s .kind) 3 (λ q. omega arith), eq-eqb (s .kind) 4 e)
+pub what-history : (s : Stmt) → s .kind ≡ 4 → whatOf s ≡ mixFrom 0 0 (s .views)
+unfolding whatOf
+what-history s e = rw (ne-eqb (s .kind) 3 (λ q. omega arith), eq-eqb (s .kind) 4 e)
 
-pub tail-payload : (s : Stmt) → (s .kind ≡ 3 → ⊥) → (s .kind ≡ 4 → ⊥) → tailOf s ≡ s .payload
-unfolding tailOf
-tail-payload s d e = rw (ne-eqb (s .kind) 3 d, ne-eqb (s .kind) 4 e)
+pub what-payload : (s : Stmt) → (s .kind ≡ 3 → ⊥) → (s .kind ≡ 4 → ⊥) → whatOf s ≡ s .payload
+unfolding whatOf
+what-payload s d e = rw (ne-eqb (s .kind) 3 d, ne-eqb (s .kind) 4 e)
 
-pub head-is : (s : Stmt) (t k : ℕ) → t < 4294967296 → viewOf t ≡ s .at → k ≡ s .kind → t + k * 4294967296 ≡ headOf s
-unfolding headOf
-head-is s t k l e f = ap₂ (λ x y. x + y * 4294967296) (word-of t (s .at) l e) f
-
-head-same : {a s : Stmt} → Alike a s → headOf a ≡ headOf s
-unfolding headOf
-head-same al = ap₂ (λ t k. wordOf t + k * 4294967296) (sym (al .at)) (sym (al .kind))
-
-tail-same : (a s : Stmt) → Alike a s → Vote a → tailOf a ≡ tailOf s
-tail-same a s al (inl (inl (inl k))) = tail-view a k ∙ ap wordOf (sym (al .view k)) ∙ sym (tail-view s (al .kind ∙ k))
-tail-same a s al (inl (inl (inr k))) = tail-history a k ∙ ap (mixFrom 0) (sym (al .views k)) ∙ sym (tail-history s (al .kind ∙ k))
-tail-same a s al (inl (inr k)) = tail-payload a (λ q. omega arith) (λ q. omega arith) ∙ sym (al .acked k) ∙ sym (tail-payload s (λ q. omega (arith, al .kind)) (λ q. omega (arith, al .kind)))
-tail-same a s al (inr k) = tail-payload a (λ q. omega arith) (λ q. omega arith) ∙ sym (al .stored k) ∙ sym (tail-payload s (λ q. omega (arith, al .kind)) (λ q. omega (arith, al .kind)))
+what-same : (a s : Stmt) → Alike a s → Vote a → whatOf a ≡ whatOf s
+what-same a s al (inl (inl (inl k))) = what-view a k ∙ ap wordOf (sym (al .view k)) ∙ sym (what-view s (al .kind ∙ k))
+what-same a s al (inl (inl (inr k))) = what-history a k ∙ ap (mixFrom 0 0) (sym (al .views k)) ∙ sym (what-history s (al .kind ∙ k))
+what-same a s al (inl (inr k)) = what-payload a (λ q. omega arith) (λ q. omega arith) ∙ sym (al .acked k) ∙ sym (what-payload s (λ q. omega (arith, al .kind)) (λ q. omega (arith, al .kind)))
+what-same a s al (inr k) = what-payload a (λ q. omega arith) (λ q. omega arith) ∙ sym (al .stored k) ∙ sym (what-payload s (λ q. omega (arith, al .kind)) (λ q. omega (arith, al .kind)))
 
 -- its views are those of words
 pub record Narrow (s : Stmt) : Type 0 where
@@ -151,26 +145,21 @@ pub record Narrow (s : Stmt) : Type 0 where
   pub view : Fits 16 (s .view)
 
 pub narrow : (W : List ℕ) (n : ℕ) → Narrow (stmtAt W n)
-unfolding stmtAt
-narrow W n = record { at = fits _; view = fits _ }
+narrow W n = record { at = at-fits W n; view = view-fits W n }
 
-words-alike : (a s : Stmt) → Narrow a → Narrow s → Vote a → headOf a ≡ headOf s → tailOf a ≡ tailOf s → (s .kind ≡ 4 → a .views ≡ s .views) → Alike a s
-unfolding headOf
-words-alike a s p q v e f h = record {
+words-alike : (a s : Stmt) → Narrow a → Narrow s → Vote a → a .kind ≡ s .kind → wordOf (a .at) ≡ wordOf (s .at) → whatOf a ≡ whatOf s → (s .kind ≡ 4 → a .views ≡ s .views) → Alike a s
+words-alike a s p q v k e f h = record {
   vote = v;
-  kind = kind;
-  at = word-inj (q .at) (p .at) (omega (arith, e, word-small (p .at), word-small (q .at)));
-  view = λ k. word-inj (q .view) (p .view) (sym (tail-view s (kind ∙ k)) ∙ sym f ∙ tail-view a k);
-  views = λ k. sym (h (kind ∙ k));
-  acked = λ k. same (λ z. omega arith) (λ z. omega arith);
-  stored = λ k. same (λ z. omega arith) (λ z. omega arith);
+  kind = sym k;
+  at = word-inj (q .at) (p .at) (sym e);
+  view = λ z. word-inj (q .view) (p .view) (sym (what-view s (sym k ∙ z)) ∙ sym f ∙ what-view a z);
+  views = λ z. sym (h (sym k ∙ z));
+  acked = λ z. same (λ y. omega arith) (λ y. omega arith);
+  stored = λ z. same (λ y. omega arith) (λ y. omega arith);
 }
   where
-    kind : s .kind ≡ a .kind
-    kind = omega (arith, e, word-small (p .at), word-small (q .at))
-
     same : (a .kind ≡ 3 → ⊥) → (a .kind ≡ 4 → ⊥) → s .payload ≡ a .payload
-    same d c = sym (tail-payload s (λ z. d (sym kind ∙ z)) (λ z. c (sym kind ∙ z))) ∙ sym f ∙ tail-payload a d c
+    same d c = sym (what-payload s (λ z. d (k ∙ z)) (λ z. c (k ∙ z))) ∙ sym f ∙ what-payload a d c
 
 says-names : (a s : Stmt) → Says (sameNames a s) (s .kind ≡ 4 → a .views ≡ s .views)
 unfolding sameNames
@@ -185,14 +174,14 @@ names-both a s k b e f g = rw (eq-eqb (s .kind) 4 (sym e ∙ f)) g
 
 -- what a search finds out of the vote a and the statement s: other words, other histories, alike
 
-pub other-tail : (a s : Stmt) (x y : ℕ) → x ≡ tailOf a → y ≡ tailOf s → (x ≡ y → ⊥) → alike a s ≡ false
-other-tail a s x y e f d = fails (says-alike a s) (λ al. d (e ∙ tail-same a s al (al .vote) ∙ sym f))
+pub other-what : (a s : Stmt) (x y : ℕ) → x ≡ whatOf a → y ≡ whatOf s → (x ≡ y → ⊥) → alike a s ≡ false
+other-what a s x y e f d = fails (says-alike a s) (λ al. d (e ∙ what-same a s al (al .vote) ∙ sym f))
 
-pub other-head : (a s : Stmt) (x y : ℕ) → x ≡ headOf a → y ≡ headOf s → (x ≡ y → ⊥) → alike a s ≡ false
-other-head a s x y e f d = fails (says-alike a s) (λ al. d (e ∙ head-same al ∙ sym f))
+pub other-at : (a s : Stmt) (x y : ℕ) → x ≡ wordOf (a .at) → y ≡ wordOf (s .at) → (x ≡ y → ⊥) → alike a s ≡ false
+other-at a s x y e f d = fails (says-alike a s) (λ al. d (e ∙ ap wordOf (sym (al .at)) ∙ sym f))
 
-pub other-slot : (a s : Stmt) (x y x′ y′ : ℕ) → x ≡ headOf a → y ≡ headOf s → x′ ≡ tailOf a → y′ ≡ tailOf s → (slotOf x x′ ≡ slotOf y y′ → ⊥) → alike a s ≡ false
-other-slot a s x y x′ y′ e f e′ f′ d = fails (says-alike a s) (λ al. d (ap₂ slotOf (e ∙ head-same al ∙ sym f) (e′ ∙ tail-same a s al (al .vote) ∙ sym f′)))
+pub other-tag : (a s : Stmt) (x y : ℕ) → x ≡ a .kind → y ≡ s .kind → (x ≡ y → ⊥) → alike a s ≡ false
+other-tag a s x y e f d = fails (says-alike a s) (λ al. d (e ∙ sym (al .kind) ∙ sym f))
 
 pub other-names : (a s : Stmt) (b : Bool) → b ≡ sameNames a s → b ≡ false → alike a s ≡ false
 other-names a s b e f = fails (says-alike a s) (λ al. away (sym e ∙ f) (says-names a s .complete (λ k. sym (al .views (sym (al .kind) ∙ k)))))
@@ -200,21 +189,54 @@ other-names a s b e f = fails (says-alike a s) (λ al. away (sym e ∙ f) (says-
     away : {c : Bool} → c ≡ false → T c → ⊥
     away z t = rw z at t
 
-pub same-words : (a s : Stmt) (x y x′ y′ : ℕ) (b : Bool) → Narrow a → Narrow s → T (isVote a) → x ≡ headOf a → y ≡ headOf s → x ≡ y → x′ ≡ tailOf a → y′ ≡ tailOf s → x′ ≡ y′ → b ≡ sameNames a s → b ≡ true → alike a s ≡ true
-same-words a s x y x′ y′ b p q v e f g e′ f′ g′ h t =
-    passes (says-alike a s) (words-alike a s p q (says-vote a .sound v) (sym e ∙ g ∙ f) (sym e′ ∙ g′ ∙ f′) (says-names a s .sound (rw (sym h ∙ t) tt)))
+-- the three words x of a and y of s
+pub record Words (a s : Stmt) (x y x′ y′ x″ y″ : ℕ) : Type 0 where
+  pub at : x ≡ wordOf (a .at)
+  pub at-other : y ≡ wordOf (s .at)
+  pub what : x′ ≡ whatOf a
+  pub what-other : y′ ≡ whatOf s
+  pub tag : x″ ≡ a .kind
+  pub tag-other : y″ ≡ s .kind
+
+pub other-slot : (a s : Stmt) {x y x′ y′ x″ y″ : ℕ} → Words a s x y x′ y′ x″ y″ → (slotBy x x′ x″ ≡ slotBy y y′ y″ → ⊥) → alike a s ≡ false
+other-slot a s w d = fails (says-alike a s) (λ al. d (slots (w .at ∙ ap wordOf (sym (al .at)) ∙ sym (w .at-other)) (w .what ∙ what-same a s al (al .vote) ∙ sym (w .what-other)) (w .tag ∙ sym (al .kind) ∙ sym (w .tag-other))))
+  where
+    slots : {x y x′ y′ x″ y″ : ℕ} → x ≡ y → x′ ≡ y′ → x″ ≡ y″ → slotBy x x′ x″ ≡ slotBy y y′ y″
+    slots p q r = cc
+
+pub same-words : (a s : Stmt) {x y x′ y′ x″ y″ : ℕ} (b : Bool) → Narrow a → Narrow s → T (isVote a) → Words a s x y x′ y′ x″ y″ → x ≡ y → x′ ≡ y′ → x″ ≡ y″ → b ≡ sameNames a s → b ≡ true → alike a s ≡ true
+same-words a s b p q v w e f g h t =
+    passes (says-alike a s) (words-alike a s p q (says-vote a .sound v) (sym (w .tag) ∙ g ∙ w .tag-other) (sym (w .at) ∙ e ∙ w .at-other) (sym (w .what) ∙ f ∙ w .what-other) (says-names a s .sound (rw (sym h ∙ t) tt)))
 
 -- ---- the loop of the mix
 
-pub mix-zero : (f : ℕ → View) (h : ℕ) → h ≡ 0 → h ≡ mixFrom 0 (table 0 f)
+pub mix-zero : (f : ℕ → View) (h : ℕ) → h ≡ 0 → h ≡ mixFrom 0 0 (table 0 f)
 unfolding mixFrom table
 mix-zero f h e = e
 
-mix-snoc : (h : ℕ) (l : List View) (v : View) → mixFrom h (l ++ (v ∷ [])) ≡ (mixFrom h l * 1000003 + wordOf v) % 4294967296
+mix-snoc : (p h : ℕ) (l : List View) (v : View) → mixFrom p h (l ++ (v ∷ [])) ≡ mixFrom p h l + wordOf v * weightOf (p + length l)
 unfolding mixFrom
-mix-snoc h [] v = refl
-mix-snoc h (u ∷ l) v = mix-snoc _ l v
+mix-snoc p h [] v = let e : p ≡ p + 0 = omega arith in ap (λ q. h + wordOf v * weightOf q) e
+mix-snoc p h (u ∷ l) v =
+    let e : (p + 1) + length l ≡ p + suc (length l) = omega arith in
+    mix-snoc (p + 1) (h + wordOf u * weightOf p) l v ∙ ap (λ q. mixFrom (p + 1) (h + wordOf u * weightOf p) l + wordOf v * weightOf q) e
 
-pub mix-more : (f : ℕ → View) (p h w : ℕ) → h ≡ mixFrom 0 (table p f) → w < 4294967296 → viewOf w ≡ f p → (h * 1000003 + w) % 4294967296 ≡ mixFrom 0 (table (p + 1) f)
+place-of : (f : ℕ → View) (p : ℕ) → p ≡ 0 + length (table p f)
+place-of f p = omega (arith, table-length p f)
+
+pub mix-more : (f : ℕ → View) (p h w m : ℕ) → h ≡ mixFrom 0 0 (table p f) → IsWord w → viewOf w ≡ f p → m ≡ weightOf p → h + w * m ≡ mixFrom 0 0 (table (p + 1) f)
 unfolding table
-mix-more f p h w e l g = rw add-one (ap₂ (λ x y. (x * 1000003 + y) % 4294967296) e (word-of w (f p) l g) ∙ sym (mix-snoc 0 (table p f) (f p)))
+mix-more f p h w m e l g q = rw add-one (ap₂ _+_ e (ap₂ _*_ (word-of w (f p) l g) (q ∙ ap weightOf (place-of f p))) ∙ sym (mix-snoc 0 0 (table p f) (f p)))
+
+-- what one view adds: sixteen times as much fits in a word
+pub mix-part : (w : ℕ) {v : View} (m : ℕ) → IsWord w → viewOf w ≡ v → Fits 16 v → m < 4096 → w * m < 1152921504606846976
+unfolding wordOf
+mix-part w m l e f h =
+    let s : w ≤ 281474976710656 = omega (arith, word-of w _ l e, f .joined, f .left) in
+    omega (arith, mul-le-mul-right m s)
+
+-- ---- the slot
+
+pub slot-is : (at what tag x y : ℕ) → x ≡ folded at → y ≡ folded what → ((x + tag % 65536) * 1640531527 + y * 668265263) / 8388608 % 512 ≡ slotBy at what tag
+unfolding slotBy
+slot-is at what tag x y e f = ap₂ (λ a b. ((a + tag % 65536) * 1640531527 + b * 668265263) / 8388608 % 512) e f

@@ -1,7 +1,7 @@
 pub mod Alike
-pub mod Chains
-pub mod Gathered
+pub mod Gathering
 pub mod Picked
-pub mod Quorums
+pub mod Searches
 pub mod Tabled
 pub mod Wished
+mod Words

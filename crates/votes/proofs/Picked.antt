@@ -1,28 +1,30 @@
 -- Laws of the groups that go into the tables: the tests of one group, and one group more.
 -- Assumes nothing.
-use mathlib.Core.Path.{_≡_, refl, sym, ap, ap₂, _∙_}
+use mathlib.Core.Path.{_≡_, refl, sym, ap, ap₂, subst, _∙_}
 use mathlib.Core.Bool.{Bool, true, false, not, _&&_, or-false}
 use mathlib.Core.List.{List}
 use Prim.Native.Nat.{ℕ, _+_, _≤_, _<_}
 use native.Mathlib.Decide.{ℕ-discrete, decLt}
 use native.Mathlib.Omega.{arith}
 use lib.Dec.{T}
-use lib.ListN.{length, getD, set}
-use lib.Seq.{getD-set-same, getD-set-other}
+use lib.ListN.{getD}
 use borrow.Author.Tests.{eq-eqb, ne-eqb}
 use Rattle.protocol.specs.Sets.{bit}
 use Rattle.protocol.specs.Lists.{any}
 use Rattle.protocol.specs.View.{View, sameView, hasMembers, within, below}
 use Rattle.protocol.specs.History.{top, isHistory}
-use Rattle.protocol.specs.Statement.{Stmt, isKind, agreesView, agreesHistory, acks, stores}
+use Rattle.protocol.specs.Statement.{Stmt, isKind, agreesView, agreesHistory}
 use Rattle.protocol.specs.Evidence.{signs, wished, signedByQuorum}
 use Rattle.views.specs.Sets.{IsSet}
 use Rattle.views.specs.View.{viewOf, quorumHas, ring}
 use Rattle.views.proofs.Views.{signed-by-set, same-yes, same-no, view-inj}
-use Rattle.votes.specs.Votes.{alike, entry}
-use Rattle.votes.specs.Tables.{low, high}
-use Rattle.votes.specs.Chosen.{choiceBy, agreementBy, isChoice, isAgreement, Picked, ChoiceRow, AgreementRow}
-use Rattle.votes.proofs.Gathered.{yes-T, no-T}
+use Rattle.pool.specs.Pool.{recordIn}
+use Rattle.tables.specs.Index.{keyAt, numberAt, SameRows, SameKeys, Empty, Added}
+use Rattle.tables.proofs.Chains.{indexed-first, indexed-kept}
+use Rattle.votes.specs.Votes.{alike, entry, placeOf, tagOf, signersOf, voteAt, GroupsIn}
+use Rattle.votes.specs.Tables.{IsWord}
+use Rattle.votes.specs.Chosen.{choiceBy, agreementBy, isChoice, isAgreement, Picked, ChoiceRow, AgreementRow, Choices, Agreements}
+use Rattle.votes.proofs.Gathering.{yes-T, no-T}
 
 -- ---- five tests in a row
 
@@ -58,8 +60,11 @@ test-of p b r e f g = sym (ap p g) ∙ sym e ∙ f
 pub top-is : (r t : ℕ) (u v : View) → viewOf t ≡ u → viewOf r ≡ v → r ≡ t → not (sameView u v) ≡ false
 top-is r t u v e f g = ap not (same-yes u v (sym e ∙ ap viewOf (sym g) ∙ f))
 
-pub top-not : (r t : ℕ) (u v : View) → viewOf t ≡ u → viewOf r ≡ v → r < 4294967296 → t < 4294967296 → (r ≡ t → ⊥) → not (sameView u v) ≡ true
+pub top-not : (r t : ℕ) (u v : View) → viewOf t ≡ u → viewOf r ≡ v → IsWord r → IsWord t → (r ≡ t → ⊥) → not (sameView u v) ≡ true
 top-not r t u v e f p q d = ap not (same-no u v (λ z. d (view-inj r t p q (f ∙ sym z ∙ sym e))))
+
+pub quorum-by : (b r : Bool) (t n m : ℕ) (u : View) → b ≡ quorumHas (viewOf t) (bit n) → b ≡ r → viewOf t ≡ u → n ≡ m → quorumHas u (bit m) ≡ r
+quorum-by b r t n m u e f g h = sym (ap₂ (λ x y. quorumHas x (bit y)) g h) ∙ sym e ∙ f
 
 -- ---- what is like a vote of each kind
 
@@ -73,15 +78,6 @@ module _ (a x : Stmt) where
   unfolding alike isKind
   alike-history k = rw (ne-eqb (a .kind) 3 (λ q. omega arith), eq-eqb (a .kind) 4 k, ne-eqb (a .kind) 7 (λ q. omega arith), ne-eqb (a .kind) 8 (λ q. omega arith))
       (or-false _ ∙ or-false _)
-
-  pub alike-ack : a .kind ≡ 7 → alike a x ≡ acks (a .at) (a .payload) x
-  unfolding alike isKind
-  alike-ack k = rw (ne-eqb (a .kind) 3 (λ q. omega arith), ne-eqb (a .kind) 4 (λ q. omega arith), eq-eqb (a .kind) 7 k, ne-eqb (a .kind) 8 (λ q. omega arith))
-      (or-false _)
-
-  pub alike-store : a .kind ≡ 8 → alike a x ≡ stores (a .at) (a .payload) x
-  unfolding alike isKind
-  alike-store k = rw (ne-eqb (a .kind) 3 (λ q. omega arith), ne-eqb (a .kind) 4 (λ q. omega arith), ne-eqb (a .kind) 7 (λ q. omega arith), eq-eqb (a .kind) 8 k)
 
 -- a quorum of t is among the signers of what is like a
 pub signed-as : (X : List Stmt) (a : Stmt) (t : View) (seen : ℕ) (p : Stmt → Bool) → IsSet seen (signs (alike a) X) → ((x : Stmt) → alike a x ≡ p x) → quorumHas t (bit seen) ≡ signedByQuorum 16 X t p
@@ -107,6 +103,21 @@ module _ (init : ℕ) (X : List Stmt) (s : Stmt) (seen : ℕ) (by : IsSet seen (
       go (yes k) = ap (λ b. isKind 4 s && b && any (sameView (s .at)) (s .views) && not (sameView (s .at) (top (ring init) (s .views))) && isHistory (ring init) (s .views))
           (signed-as X s (s .at) seen (agreesHistory (s .at) (s .views)) by (λ x. alike-history s x k))
       go (no k) = rw (kind-not s (s .kind) 4 refl k)
+
+-- ---- the group g of a record, whose first vote stands at place f
+
+module _ (W ids : List ℕ) (init : ℕ) (G : List ℕ) {n : ℕ} (groups : GroupsIn W ids G n) {g f : ℕ} (l : g < n) (at : f ≡ placeOf (getD G g 0)) where
+  pub tag-is : tagOf (getD G g 0) ≡ entry W ids f .kind
+  tag-is = groups .tag g l ∙ ap (λ z. entry W ids z .kind) (sym at)
+
+  pub choice-of : (wish : ℕ) (r : Bool) → viewOf wish ≡ wished (ring init) (recordIn W ids) → r ≡ choiceBy (viewOf wish) (signersOf (getD G g 0)) (entry W ids f)
+      → r ≡ isChoice (ring init) (recordIn W ids) (voteAt W ids G g)
+  choice-of wish r e q =
+      choice-is init (recordIn W ids) (voteAt W ids G g) (signersOf (getD G g 0)) (groups .signers g l) wish r e (q ∙ ap (λ z. choiceBy (viewOf wish) (signersOf (getD G g 0)) (entry W ids z)) at)
+
+  pub agreement-of : (r : Bool) → r ≡ agreementBy (ring init) (signersOf (getD G g 0)) (entry W ids f) → r ≡ isAgreement (ring init) (recordIn W ids) (voteAt W ids G g)
+  agreement-of r q =
+      agreement-is init (recordIn W ids) (voteAt W ids G g) (signersOf (getD G g 0)) (groups .signers g l) r (q ∙ ap (λ z. agreementBy (ring init) (signersOf (getD G g 0)) (entry W ids z)) at)
 
 -- ---- one group more
 
@@ -142,26 +153,82 @@ module _ (P : ℕ → Bool) where
 
 -- ---- the rows
 
-module _ (W ids : List ℕ) (len init : ℕ) (F : List ℕ) where
-  pub choice-keeps : (C : List ℕ) (m x c g : ℕ) → c < m → ChoiceRow W ids len init F C c g → ChoiceRow W ids len init F (set C m x) c g
-  choice-keeps C m x c g l w =
-      let e : getD (set C m x) c 0 ≡ getD C c 0 = getD-set-other C m c x 0 (λ q. omega arith) in
-      record { at = rw e (w .at); view = rw e (w .view); small = rw e (w .small) }
+-- row m of table t was added, and row c is not it
+other-key : {K R K′ R′ : List ℕ} {t m w x c : ℕ} → Added K R t m w x K′ R′ → m < 512 → c < m → keyAt K′ t c ≡ keyAt K t c
+other-key put l h = put .keys _ (omega arith) (λ d. omega arith)
 
-  pub choice-new : (C : List ℕ) (m x g t v : ℕ) → length C ≡ 512 → m < 512 → (low x ≡ t) × (high x ≡ v) → viewOf t ≡ entry W ids (getD F g 0) .at → viewOf v ≡ entry W ids (getD F g 0) .view → v < 4294967296
-      → ChoiceRow W ids len init F (set C m x) m g
-  choice-new C m x g t v n l (p, q) a b h =
-      let e : getD (set C m x) m 0 ≡ x = getD-set-same C m x 0 (omega arith) in
-      record { at = rw (e, p) a; view = rw (e, q) b; small = rw (e, q) h }
+other-number : {K R K′ R′ : List ℕ} {t m w x c : ℕ} → Added K R t m w x K′ R′ → m < 512 → c < m → numberAt R′ t c ≡ numberAt R t c
+other-number put l h = put .numbers _ (omega arith) (λ d. omega arith)
 
-  pub agreement-keeps : (A E : List ℕ) (m x y c g : ℕ) → c < m → AgreementRow W ids len init F A E c g → AgreementRow W ids len init F (set A m x) (set E m y) c g
-  agreement-keeps A E m x y c g l w =
-      let e : getD (set A m x) c 0 ≡ getD A c 0 = getD-set-other A m c x 0 (λ q. omega arith) in
-      let f : getD (set E m y) c 0 ≡ getD E c 0 = getD-set-other E m c y 0 (λ q. omega arith) in
-      record { at = rw e (w .at); top = rw e (w .top); small = rw e (w .small); statement = rw f (w .statement) }
+module _ (W ids : List ℕ) (init : ℕ) (G : List ℕ) where
+  -- ---- choices
 
-  pub agreement-new : (A E : List ℕ) (m x g t v : ℕ) → length A ≡ 512 → length E ≡ 512 → m < 512 → (low x ≡ t) × (high x ≡ v) → viewOf t ≡ entry W ids (getD F g 0) .at
-      → viewOf v ≡ top (ring init) (entry W ids (getD F g 0) .views) → v < 4294967296 → AgreementRow W ids len init F (set A m x) (set E m (getD ids (getD F g 0) 0)) m g
-  agreement-new A E m x g t v n o l (p, q) a b h =
-      let e : getD (set A m x) m 0 ≡ x = getD-set-same A m x 0 (omega arith) in
-      record { at = rw (e, p) a; top = rw (e, q) b; small = rw (e, q) h; statement = getD-set-same E m (getD ids (getD F g 0) 0) 0 (omega arith) }
+  choice-keeps : {K R K′ R′ : List ℕ} {m w x : ℕ} → Added K R 0 m w x K′ R′ → m < 512 → (c g : ℕ) → c < m → ChoiceRow W ids init G K R c g → ChoiceRow W ids init G K′ R′ c g
+  choice-keeps put l c g h r =
+      let e = other-key put l h in
+      record { view = rw e (r .view); word = rw e (r .word); statement = other-number put l h ∙ r .statement }
+
+  choice-new : {K R K′ R′ : List ℕ} {m w x g : ℕ} → Added K R 0 m w x K′ R′ → viewOf w ≡ voteAt W ids G g .view → IsWord w → x ≡ getD ids (placeOf (getD G g 0)) 0 → ChoiceRow W ids init G K′ R′ m g
+  choice-new put e h q = record { view = ap viewOf (put .key) ∙ e; word = rw (put .key) h; statement = put .number ∙ q }
+
+  pub choices-first : {K R : List ℕ} → Empty R 0 → Choices W ids init G 0 K R 0
+  choices-first e = record { index = indexed-first e; picked = picked-first _ _ }
+
+  module _ {K R : List ℕ} {g c : ℕ} (r : Bool) (is : r ≡ isChoice (ring init) (recordIn W ids) (voteAt W ids G g)) where
+    pub choices-skip : r ≡ false → Choices W ids init G g K R c → Choices W ids init G (g + 1) K R c
+    choices-skip f w = record { index = w .index; picked = picked-skip _ r is f (w .picked) }
+
+    pub choices-take : {K′ R′ : List ℕ} {p w x : ℕ} → r ≡ true → c < 512 → Added K R 0 c w x K′ R′ → p ≡ placeOf (getD G g 0) → viewOf w ≡ entry W ids p .view → IsWord w → x ≡ getD ids p 0
+        → Choices W ids init G g K R c → Choices W ids init G (g + 1) K′ R′ (c + 1)
+    choices-take f l put at e h q w = record {
+      index = put .indexed (w .index);
+      picked = picked-take _ r is f (choice-keeps put l) (choice-new put (e ∙ ap (λ z. entry W ids z .view) at) h (q ∙ ap (λ z. getD ids z 0) at)) (w .picked);
+    }
+
+  pub choices-kept : {K R K′ R′ : List ℕ} {n c : ℕ} → SameKeys K K′ 0 → SameRows R R′ 0 → Choices W ids init G n K R c → Choices W ids init G n K′ R′ c
+  choices-kept {K} {R} {K′} {R′} {n} {c} keys rows w = record {
+    index = indexed-kept keys rows (w .index);
+    picked = record {
+      fewer = w .picked .fewer;
+      sound = λ i l. let (g, h, t, r) = w .picked .sound i l in (g, h, t, row i l g r);
+      complete = λ g h t. let (i, l, r) = w .picked .complete g h t in (i, l, row i l g r);
+    };
+  }
+    where
+      row : (i : ℕ) → i < c → (g : ℕ) → ChoiceRow W ids init G K R i g → ChoiceRow W ids init G K′ R′ i g
+      row i l g r =
+          let h : i < 512 = omega (arith, w .index .few) in
+          let e = keys .key i h in
+          record { view = rw e (r .view); word = rw e (r .word); statement = rows .number i h ∙ r .statement }
+
+  -- ---- agreements
+
+  agreement-keeps : {K R K′ R′ : List ℕ} {m w x : ℕ} → Added K R 1 m w x K′ R′ → m < 512 → (a g : ℕ) → a < m → AgreementRow W ids init G K R a g → AgreementRow W ids init G K′ R′ a g
+  agreement-keeps put l a g h r =
+      let e = other-key put l h in
+      record { top = rw e (r .top); word = rw e (r .word); statement = other-number put l h ∙ r .statement }
+
+  agreement-new : {K R K′ R′ : List ℕ} {m w x g : ℕ} → Added K R 1 m w x K′ R′ → viewOf w ≡ top (ring init) (voteAt W ids G g .views) → IsWord w → x ≡ getD ids (placeOf (getD G g 0)) 0 → AgreementRow W ids init G K′ R′ m g
+  agreement-new put e h q = record { top = ap viewOf (put .key) ∙ e; word = rw (put .key) h; statement = put .number ∙ q }
+
+  pub agreements-first : {K R : List ℕ} → Empty R 1 → Agreements W ids init G 0 K R 0
+  agreements-first e = record { index = indexed-first e; picked = picked-first _ _ }
+
+  module _ {K R : List ℕ} {g a : ℕ} (r : Bool) (is : r ≡ isAgreement (ring init) (recordIn W ids) (voteAt W ids G g)) where
+    pub agreements-skip : r ≡ false → Agreements W ids init G g K R a → Agreements W ids init G (g + 1) K R a
+    agreements-skip f w = record { index = w .index; picked = picked-skip _ r is f (w .picked) }
+
+    pub agreements-take : {K′ R′ : List ℕ} {p w x : ℕ} → r ≡ true → a < 512 → Added K R 1 a w x K′ R′ → p ≡ placeOf (getD G g 0) → viewOf w ≡ top (ring init) (entry W ids p .views) → IsWord w → x ≡ getD ids p 0
+        → Agreements W ids init G g K R a → Agreements W ids init G (g + 1) K′ R′ (a + 1)
+    agreements-take f l put at e h q w = record {
+      index = put .indexed (w .index);
+      picked = picked-take _ r is f (agreement-keeps put l) (agreement-new put (e ∙ ap (λ z. top (ring init) (entry W ids z .views)) at) h (q ∙ ap (λ z. getD ids z 0) at)) (w .picked);
+    }
+
+  -- all groups
+
+  pub choices-all : {K R : List ℕ} {g n c : ℕ} → g ≡ n → Choices W ids init G g K R c → Choices W ids init G n K R c
+  choices-all {K} {R} {g} {n} {c} e w = subst (λ m. Choices W ids init G m K R c) e w
+
+  pub agreements-all : {K R : List ℕ} {g n a : ℕ} → g ≡ n → Agreements W ids init G g K R a → Agreements W ids init G n K R a
+  agreements-all {K} {R} {g} {n} {a} e w = subst (λ m. Agreements W ids init G m K R a) e w

@@ -3,60 +3,61 @@
 use mathlib.Core.Path.{_≡_, sym, ap, ap₂, subst, _∙_}
 use mathlib.Core.Bool.{true, _&&_, _||_}
 use mathlib.Core.List.{List}
-use Prim.Native.Nat.{ℕ, _+_, _*_, _/_, _%_, _<_}
+use Prim.Native.Nat.{ℕ, _%_, _<_}
 use native.Mathlib.Omega.{arith}
 use lib.Dec.{eqb}
 use lib.Bits.{bitAnd, and-lt}
 use borrow.Author.Tests.{eq-eqb, ne-eqb}
 use Rattle.protocol.specs.Sets.{bit}
+use Rattle.protocol.specs.View.{View}
 use Rattle.protocol.specs.Statement.{Stmt, isKind}
 use Rattle.protocol.specs.Evidence.{signs, joinedBy, leftBy, wished}
 use Rattle.protocol.proofs.Bits.{bit-and, bit-or}
 use Rattle.views.specs.Sets.{IsSet, Noted, Joined}
-use Rattle.views.specs.View.{viewOf, ring}
-use Rattle.views.proofs.Sets.{set-is, note-none}
+use Rattle.views.specs.View.{viewOf, viewIn, ring}
+use Rattle.views.proofs.Sets.{set-is, note-none, bit-low}
+use Rattle.views.proofs.Views.{pair, view-in}
 
 module _ (init : ℕ) (X : List Stmt) where
-  joined-is : (j r : ℕ) → IsSet j (signs (isKind 1) X) → Joined (init % 65536) j r → IsSet r (joinedBy (ring init) X)
-  unfolding joinedBy viewOf
-  joined-is j r s e = record {
-    small = e .small (omega arith) (s .small);
-    bits = λ k h. ap (λ x. bit x k) (e .is) ∙ bit-or k (init % 65536) j ∙ ap (λ b. bit (init % 65536) k || b) (s .bits k h);
-  }
-
-  left-is : (j l r : ℕ) → init < 4294967296 → IsSet j (joinedBy (ring init) X) → IsSet l (signs (isKind 2) X) → Joined (init / 65536) (bitAnd j l) r → IsSet r (leftBy (ring init) X)
-  unfolding leftBy viewOf
-  left-is j l r b s t e = let m : init / 65536 ≡ init / 65536 % 65536 = omega arith in record {
-    small = e .small (omega arith) (and-lt 16 j l (s .small) (t .small));
-    bits = λ k i. ap (λ x. bit x k) (e .is) ∙ bit-or k (init / 65536) (bitAnd j l) ∙ ap₂ _||_ (ap (λ x. bit x k) m) (bit-and k j l ∙ ap₂ _&&_ (s .bits k i) (t .bits k i));
-  }
-
-  sets-are : (j l : ℕ) → IsSet j (joinedBy (ring init) X) → IsSet l (leftBy (ring init) X) → viewOf (j + l * 65536) ≡ wished (ring init) X
-  unfolding wished viewOf
-  sets-are j l s t i = record { joined = (a ∙ set-is j (joinedBy (ring init) X) s) i; left = (b ∙ set-is l (leftBy (ring init) X) t) i }
-    where
-      a : (j + l * 65536) % 65536 ≡ j
-      a = omega (arith, s .small, t .small)
-
-      b : (j + l * 65536) / 65536 % 65536 ≡ l
-      b = omega (arith, s .small, t .small)
-
-  -- what the two sets of signers make
-  pub record Wish (a b j l : ℕ) : Type 0 where
+  -- what the two sets of signers a and b make of the initial view v, whose sets are p and q
+  pub record Wish (v : View) (a b p q j l : ℕ) : Type 0 where
+    pub view : v ≡ viewIn init
     pub joins : IsSet a (signs (isKind 1) X)
     pub leaves : IsSet b (signs (isKind 2) X)
-    pub joined : Joined (init % 65536) a j
-    pub left : Joined (init / 65536) (bitAnd j b) l
+    pub first : (p ≡ v .joined) × (p < 65536)
+    pub second : (q ≡ v .left) × (q < 65536)
+    pub joined : Joined p a j
+    pub left : Joined q (bitAnd j b) l
 
-  pub wish-small : (a b j l : ℕ) → init < 4294967296 → Wish a b j l → (j < 65536) × (l < 65536)
-  wish-small a b j l h w = let s = joined-is a j (w .joins) (w .joined) in (s .small, left-is j b l h s (w .leaves) (w .left) .small)
+  module _ {v : View} {a b p q j l : ℕ} (w : Wish v a b p q j l) where
+    -- the sets of the initial view, at the controllers
 
-  pub wish-is : (a b j l : ℕ) → init < 4294967296 → Wish a b j l → viewOf (j + l * 65536) ≡ wished (ring init) X
-  wish-is a b j l h w = let s = joined-is a j (w .joins) (w .joined) in sets-are j l s (left-is j b l h s (w .leaves) (w .left))
+    first-bit : (k : ℕ) → k < 16 → bit p k ≡ bit (viewOf init .joined) k
+    first-bit k h = ap (λ x. bit x k) (w .first .0 ∙ ap (λ u. u .joined) (w .view ∙ view-in init)) ∙ bit-low (viewOf init .joined) k h
 
--- the bounds that the sum asks for
-pub wish-bounds : (init a b j l : ℕ) → init < 4294967296 → a < 65536 → b < 65536 → Joined (init % 65536) a j → Joined (init / 65536) (bitAnd j b) l → (j < 65536) × (l < 65536)
-wish-bounds init a b j l h p q d e = let s : j < 65536 = d .small (omega arith) p in (s, e .small (omega arith) (and-lt 16 j b s q))
+    second-bit : (k : ℕ) → k < 16 → bit q k ≡ bit (viewOf init .left) k
+    second-bit k h = ap (λ x. bit x k) (w .second .0 ∙ ap (λ u. u .left) (w .view ∙ view-in init)) ∙ bit-low (viewOf init .left) k h
+
+    joined-is : IsSet j (joinedBy (ring init) X)
+    unfolding joinedBy
+    joined-is = record {
+      small = w .joined .small (w .first .1) (w .joins .small);
+      bits = λ k h. ap (λ x. bit x k) (w .joined .is) ∙ bit-or k p a ∙ ap₂ _||_ (first-bit k h) (w .joins .bits k h);
+    }
+
+    left-is : IsSet l (leftBy (ring init) X)
+    unfolding leftBy
+    left-is = record {
+      small = w .left .small (w .second .1) (and-lt 16 j b (joined-is .small) (w .leaves .small));
+      bits = λ k h. ap (λ x. bit x k) (w .left .is) ∙ bit-or k q (bitAnd j b) ∙ ap₂ _||_ (second-bit k h) (bit-and k j b ∙ ap₂ _&&_ (joined-is .bits k h) (w .leaves .bits k h));
+    }
+
+    pub wish-is : (r : ℕ) → viewOf r ≡ pair (j % 65536) (l % 65536) → viewOf r ≡ wished (ring init) X
+    unfolding wished
+    wish-is r e = e ∙ (λ i. record { joined = (low j (joined-is .small) ∙ set-is j (joinedBy (ring init) X) joined-is) i; left = (low l (left-is .small) ∙ set-is l (leftBy (ring init) X) left-is) i })
+      where
+        low : (x : ℕ) → x < 65536 → x % 65536 ≡ x
+        low x h = omega arith
 
 -- one statement more, and whether it is of this kind
 pub kind-noted : (s : Stmt) (k kind seen o r : ℕ) → k ≡ s .kind → k ≡ kind → o ≡ s .origin → Noted seen true o r → Noted seen (isKind kind s) (s .origin) r

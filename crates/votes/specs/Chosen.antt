@@ -4,7 +4,7 @@ use mathlib.Core.Path.{_≡_}
 use mathlib.Core.Bool.{Bool, not, _&&_}
 use mathlib.Core.List.{List}
 use Prim.Native.Nat.{ℕ, _≤_, _<_}
-use lib.Dec.{T, eqb}
+use lib.Dec.{T}
 use lib.ListN.{getD}
 use Rattle.protocol.specs.Sets.{bit}
 use Rattle.protocol.specs.Lists.{any}
@@ -12,11 +12,11 @@ use Rattle.protocol.specs.View.{View, Ring, sameView, hasMembers, within, below
 use Rattle.protocol.specs.History.{top, isHistory}
 use Rattle.protocol.specs.Statement.{Stmt, isKind, agreesView, agreesHistory}
 use Rattle.protocol.specs.Evidence.{wished, signedByQuorum}
-use Rattle.protocol.specs.Grounds.{isTop}
 use Rattle.views.specs.View.{viewOf, quorumHas, ring}
-use Rattle.pool.specs.Pool.{recordOf}
-use Rattle.votes.specs.Votes.{entry}
-use Rattle.votes.specs.Tables.{low, high}
+use Rattle.pool.specs.Pool.{recordIn}
+use Rattle.tables.specs.Index.{numberAt, keyAt, Indexed}
+use Rattle.votes.specs.Votes.{placeOf, voteAt}
+use Rattle.votes.specs.Tables.{IsWord}
 
 -- s is an agree-view that `seen` signed: a quorum of its at chose a view above it that has members and lies within w.
 unfoldable pub choiceBy : View → ℕ → Stmt → Bool
@@ -42,31 +42,25 @@ pub record Picked (P : ℕ → Bool) (Row : ℕ → ℕ → Type 0) (n m : ℕ) 
   pub sound : (c : ℕ) → c < m → (g : ℕ) × (g < n) × T (P g) × Row c g
   pub complete : (g : ℕ) → g < n → T (P g) → (c : ℕ) × (c < m) × Row c g
 
-module _ (W ids : List ℕ) (len init : ℕ) (F : List ℕ) where
-  -- The first vote of group g.
-  abbrev pub vote : ℕ → Stmt
-  vote g = entry W ids (getD F g 0)
+module _ (W ids : List ℕ) (init : ℕ) (G : List ℕ) where
+  -- Row c is the choice of group g.
+  pub record ChoiceRow (K R : List ℕ) (c g : ℕ) : Type 0 where
+    pub view : viewOf (keyAt K 0 c) ≡ voteAt W ids G g .view
+    pub word : IsWord (keyAt K 0 c)
+    pub statement : numberAt R 0 c ≡ getD ids (placeOf (getD G g 0)) 0
 
-  -- Row c of C is the choice of group g.
-  pub record ChoiceRow (C : List ℕ) (c g : ℕ) : Type 0 where
-    pub at : viewOf (low (getD C c 0)) ≡ vote g .at
-    pub view : viewOf (high (getD C c 0)) ≡ vote g .view
-    pub small : high (getD C c 0) < 4294967296
+  -- Row a is the agreement of group g.
+  pub record AgreementRow (K R : List ℕ) (a g : ℕ) : Type 0 where
+    pub top : viewOf (keyAt K 1 a) ≡ top (ring init) (voteAt W ids G g .views)
+    pub word : IsWord (keyAt K 1 a)
+    pub statement : numberAt R 1 a ≡ getD ids (placeOf (getD G g 0)) 0
 
-  -- Row a of A and E is the agreement of group g.
-  pub record AgreementRow (A E : List ℕ) (a g : ℕ) : Type 0 where
-    pub at : viewOf (low (getD A a 0)) ≡ vote g .at
-    pub top : viewOf (high (getD A a 0)) ≡ top (ring init) (vote g .views)
-    pub small : high (getD A a 0) < 4294967296
-    pub statement : getD E a 0 ≡ getD ids (getD F g 0) 0
+  -- The choices of the groups below n are the nc rows of the first table; the agreements are the na rows of the second.
 
-  -- C has the nc choices of the groups below n; A and E have the na agreements.
-  unfoldable pub Choices : ℕ → List ℕ → ℕ → Type 0
-  Choices n C nc = Picked (λ g. isChoice (ring init) (recordOf W ids len) (vote g)) (ChoiceRow C) n nc
+  pub record Choices (n : ℕ) (K R : List ℕ) (nc : ℕ) : Type 0 where
+    pub index : Indexed K R 0 nc
+    pub picked : Picked (λ g. isChoice (ring init) (recordIn W ids) (voteAt W ids G g)) (ChoiceRow K R) n nc
 
-  unfoldable pub Agreements : ℕ → List ℕ → List ℕ → ℕ → Type 0
-  Agreements n A E na = Picked (λ g. isAgreement (ring init) (recordOf W ids len) (vote g)) (AgreementRow A E) n na
-
-  -- Group g is of votes of kind k for m, signed by a quorum of its at, which is a sealed top.
-  unfoldable pub topSigned : List ℕ → ℕ → ℕ → ℕ → Bool
-  topSigned S k m g = isKind k (vote g) && eqb (vote g .payload) m && quorumHas (vote g .at) (bit (getD S g 0)) && isTop (ring init) (recordOf W ids len) (vote g .at)
+  pub record Agreements (n : ℕ) (K R : List ℕ) (na : ℕ) : Type 0 where
+    pub index : Indexed K R 1 na
+    pub picked : Picked (λ g. isAgreement (ring init) (recordIn W ids) (voteAt W ids G g)) (AgreementRow K R) n na

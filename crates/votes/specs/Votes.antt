@@ -1,14 +1,18 @@
 -- The votes of a record: agree-views, agree-histories, acks and stores, gathered by what they say.
 -- Assumes nothing.
+use mathlib.Core.Path.{_≡_}
 use mathlib.Core.Bool.{Bool, _&&_, _||_}
 use mathlib.Core.List.{List}
-use Prim.Native.Nat.{ℕ, _≤_, _<_, min}
+use Prim.Native.Nat.{ℕ, _/_, _%_, _≤_, _<_, min}
 use lib.Dec.{T}
 use lib.ListN.{getD}
 use Rattle.protocol.specs.Statement.{Stmt, isKind, agreesView, agreesHistory, acks, stores}
-use Rattle.protocol.specs.Evidence.{signs}
+use Rattle.protocol.specs.Evidence.{signs, wished}
 use Rattle.views.specs.Sets.{IsSet}
-use Rattle.pool.specs.Pool.{stmtAt, recordOf}
+use Rattle.views.specs.View.{viewOf, ring}
+use Rattle.pool.specs.Pool.{stmtAt, recordOf, recordIn}
+use Rattle.tables.specs.Index.{Empty}
+use Rattle.votes.specs.declared.Gathered.{Gathered}
 
 -- The statement is a vote.
 unfoldable pub isVote : Stmt → Bool
@@ -24,10 +28,36 @@ alike a s =
 abbrev pub entry : List ℕ → List ℕ → ℕ → Stmt
 entry W ids i = stmtAt W (getD ids i 0)
 
--- F and S are the votes of the record in n groups: F g is the place of the first vote of group g, S g the set of those who signed it.
-pub record Groups (W ids : List ℕ) (len : ℕ) (F S : List ℕ) (n : ℕ) : Type 0 where
+-- A group is a word: 16 bits are the place of its first vote in the record, the next 16 the tag, which is the kind of its votes, and the high 32 the set of those who signed it.
+
+unfoldable pub placeOf : ℕ → ℕ
+placeOf x = x % 65536
+
+unfoldable pub tagOf : ℕ → ℕ
+tagOf x = x / 65536 % 65536
+
+unfoldable pub signersOf : ℕ → ℕ
+signersOf x = x / 4294967296
+
+-- The first vote of group g.
+abbrev pub voteAt : List ℕ → List ℕ → List ℕ → ℕ → Stmt
+voteAt W ids G g = entry W ids (placeOf (getD G g 0))
+
+-- The votes of the first len entries are in the n groups of G.
+pub record Groups (W ids : List ℕ) (len : ℕ) (G : List ℕ) (n : ℕ) : Type 0 where
   pub most : n ≤ 512
-  pub place : (g : ℕ) → g < n → getD F g 0 < min len 512
-  pub vote : (g : ℕ) → g < n → T (isVote (entry W ids (getD F g 0)))
-  pub signers : (g : ℕ) → g < n → IsSet (getD S g 0) (signs (alike (entry W ids (getD F g 0))) (recordOf W ids len))
-  pub covers : (i : ℕ) → i < min len 512 → T (isVote (entry W ids i)) → (g : ℕ) × (g < n) × T (alike (entry W ids (getD F g 0)) (entry W ids i))
+  pub place : (g : ℕ) → g < n → placeOf (getD G g 0) < min len 512
+  pub vote : (g : ℕ) → g < n → T (isVote (voteAt W ids G g))
+  pub tag : (g : ℕ) → g < n → tagOf (getD G g 0) ≡ voteAt W ids G g .kind
+  pub signers : (g : ℕ) → g < n → IsSet (signersOf (getD G g 0)) (signs (alike (voteAt W ids G g)) (recordOf W ids len))
+  pub covers : (i : ℕ) → i < min len 512 → T (isVote (entry W ids i)) → (g : ℕ) × (g < n) × T (alike (voteAt W ids G g) (entry W ids i))
+
+-- The votes of a record in memory are in the n groups of G.
+abbrev pub GroupsIn : List ℕ → List ℕ → List ℕ → ℕ → Type 0
+GroupsIn W ids G n = Groups W ids (getD ids 512 0) G n
+
+-- What gathering leaves: the groups, the view that the record wishes, and still no row in the second of the tables R.
+pub record Sifted (W ids : List ℕ) (init : ℕ) (G R : List ℕ) (r : Gathered) : Type 0 where
+  pub groups : GroupsIn W ids G (r .groups)
+  pub wished : viewOf (r .wished) ≡ wished (ring init) (recordIn W ids)
+  pub empty : Empty R 1

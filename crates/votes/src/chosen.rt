@@ -1,27 +1,25 @@
 // What quorums chose and agreed to.
 ghost use mathlib.Core.Path.{_≡_};
-ghost use Prim.Native.Nat.{_<_};
-ghost use Rattle.protocol.specs.Evidence.{wished};
 ghost use Rattle.views.specs.View.{viewOf, ring};
-ghost use Rattle.pool.specs.Pool.{stmtAt, recordOf};
-ghost use Rattle.votes.specs.Votes.{Groups};
-ghost use Rattle.votes.specs.Tables.{low, high};
+ghost use Rattle.pool.specs.Pool.{stmtAt, recordIn};
+ghost use Rattle.tables.specs.Index.{SameRows, SameKeys};
+ghost use Rattle.votes.specs.Votes.{tagOf, signersOf, Sifted};
+ghost use Rattle.votes.specs.Tables.{Tables};
 ghost use Rattle.votes.specs.Chosen.{choiceBy, agreementBy, Choices, Agreements};
-use crate::lengths;
+use crate::Counts;
+use crate::Gathered;
+use crate::group;
 use pool::POOL_WORDS;
+use pool::RECORD;
+use tables::KEYS;
+use tables::ROWS;
 
-// Two views in a word.
-fn pair_of(t: u32, v: u32) -> u64
-    ensures { λ r. ⌜ (low r ≡ t) × (high r ≡ v) ⌝ }
+// Whether the group x, whose first vote is statement s, is a choice within the wished view.
+fn is_choice(words: &[u64; POOL_WORDS], s: u16, x: u64, wish: u64) -> bool
+    requires { ⌜ tagOf x ≡ stmtAt (now words) s .kind ⌝ }
+    ensures { λ r. ⌜ r ≡ choiceBy (viewOf wish) (signersOf x) (stmtAt (now (words .entry)) s) ⌝ }
 {
-    t as u64 + v as u64 * 4294967296
-}
-
-// Whether statement s, signed by `seen`, is a choice within the wished view.
-fn is_choice(words: &[u64; POOL_WORDS], s: u16, seen: u32, wish: u32) -> bool
-    ensures { λ r. ⌜ r ≡ choiceBy (viewOf wish) seen (stmtAt (now (words .entry)) s) ⌝ }
-{
-    if pool::kind(words, s) != 3 {
+    if group::tag_of(x) != 3 {
         return false;
     }
     let t = pool::at(words, s);
@@ -35,18 +33,19 @@ fn is_choice(words: &[u64; POOL_WORDS], s: u16, seen: u32, wish: u32) -> bool
     if !views::within_view(v, wish) {
         return false;
     }
-    views::quorum_in(t, seen)
+    views::quorum_in(t, group::signers_of(x))
 }
 
-// Whether statement s, signed by `seen`, is an agreement.
-fn is_agreement(words: &[u64; POOL_WORDS], s: u16, seen: u32, init: u32) -> bool
-    ensures { λ r. ⌜ r ≡ agreementBy (ring init) seen (stmtAt (now (words .entry)) s) ⌝ }
+// Whether the group x, whose first vote is statement s, is an agreement.
+fn is_agreement(words: &[u64; POOL_WORDS], s: u16, x: u64, init: u64) -> bool
+    requires { ⌜ tagOf x ≡ stmtAt (now words) s .kind ⌝ }
+    ensures { λ r. ⌜ r ≡ agreementBy (ring init) (signersOf x) (stmtAt (now (words .entry)) s) ⌝ }
 {
-    if pool::kind(words, s) != 4 {
+    if group::tag_of(x) != 4 {
         return false;
     }
     let t = pool::at(words, s);
-    if !views::quorum_in(t, seen) {
+    if !views::quorum_in(t, group::signers_of(x)) {
         return false;
     }
     if !pool::has_view(words, s, t) {
@@ -58,68 +57,86 @@ fn is_agreement(words: &[u64; POOL_WORDS], s: u16, seen: u32, init: u32) -> bool
     pool::is_history(words, s, init)
 }
 
-// The choices of views by quorums, the view above the one that chose it. Returns how many there are.
-pub fn choices(
+// The choices of views by quorums, into the first table. Returns how many there are.
+fn choices(
     words: &[u64; POOL_WORDS],
-    ids: &[u16; 512],
-    len: usize,
-    init: u32,
-    wish: u32,
-    first: &[u16; 512],
-    seen: &[u32; 512],
-    n: usize,
-    chosen: &mut [u64; 512],
+    ids: &[u16; RECORD],
+    init: u64,
+    found: Gathered,
+    groups: &[u64; 512],
+    keys: &mut [u64; KEYS],
+    rows: &mut [u16; ROWS],
 ) -> usize
-    requires { ⌜ Groups (now words) (now ids) len (now first) (now seen) n × (viewOf wish ≡ wished (ring init) (recordOf (now words) (now ids) len)) ⌝ }
-    ensures { λ r. ⌜ Choices (now (words .entry)) (now (ids .entry)) len init (now (first .entry)) n (now (chosen .exit)) r ⌝ }
+    requires { ⌜ Sifted (now words) (now ids) init (now groups) (now rows) found ⌝ }
+    ensures { λ r. ⌜ Choices (now (words .entry)) (now (ids .entry)) init (now (groups .entry)) (found .groups) (now (keys .exit)) (now (rows .exit)) r × SameRows (now (rows .entry)) (now (rows .exit)) 1 ⌝ }
 {
-    lengths::of_u64(chosen);
+    tables::clear(rows, 0);
+    let n = found.groups;
     let mut c = 0usize;
     let mut g = 0usize;
     while g < n {
-        let f = first[g] as usize;
+        let x = groups[g];
+        let f = group::place_of(x);
         let s = ids[f];
-        if !is_choice(words, s, seen[g], wish) {
+        if !is_choice(words, s, x, found.wished) {
             g += 1;
             continue;
         }
-        chosen[c] = pair_of(pool::at(words, s), pool::view(words, s));
+        tables::add(keys, rows, 0, c, pool::view(words, s), s);
         c += 1;
         g += 1;
     }
     c
 }
 
-// The agreements to histories by quorums: the top above the view that agreed, and a statement that names the history. Returns how many there are.
-pub fn agreements(
+// The agreements to histories by quorums, into the second table. Returns how many there are.
+fn agreements(
     words: &[u64; POOL_WORDS],
-    ids: &[u16; 512],
-    len: usize,
-    init: u32,
-    first: &[u16; 512],
-    seen: &[u32; 512],
-    n: usize,
-    agreed: &mut [u64; 512],
-    entry: &mut [u16; 512],
+    ids: &[u16; RECORD],
+    init: u64,
+    found: Gathered,
+    groups: &[u64; 512],
+    keys: &mut [u64; KEYS],
+    rows: &mut [u16; ROWS],
 ) -> usize
-    requires { ⌜ Groups (now words) (now ids) len (now first) (now seen) n ⌝ }
-    ensures { λ r. ⌜ Agreements (now (words .entry)) (now (ids .entry)) len init (now (first .entry)) n (now (agreed .exit)) (now (entry .exit)) r ⌝ }
+    requires { ⌜ Sifted (now words) (now ids) init (now groups) (now rows) found ⌝ }
+    ensures { λ r. ⌜ Agreements (now (words .entry)) (now (ids .entry)) init (now (groups .entry)) (found .groups) (now (keys .exit)) (now (rows .exit)) r × SameKeys (now (keys .entry)) (now (keys .exit)) 0 × SameRows (now (rows .entry)) (now (rows .exit)) 0 ⌝ }
 {
-    lengths::of_u64(agreed);
-    lengths::of_u16(entry);
+    let n = found.groups;
     let mut a = 0usize;
     let mut g = 0usize;
     while g < n {
-        let f = first[g] as usize;
+        let x = groups[g];
+        let f = group::place_of(x);
         let s = ids[f];
-        if !is_agreement(words, s, seen[g], init) {
+        if !is_agreement(words, s, x, init) {
             g += 1;
             continue;
         }
-        agreed[a] = pair_of(pool::at(words, s), pool::top_view(words, s, init));
-        entry[a] = s;
+        tables::add(keys, rows, 1, a, pool::top_view(words, s, init), s);
         a += 1;
         g += 1;
     }
     a
+}
+
+// The tables of what quorums chose and agreed to, from the groups.
+pub fn tabulate(
+    words: &[u64; POOL_WORDS],
+    ids: &[u16; RECORD],
+    init: u64,
+    found: Gathered,
+    groups: &[u64; 512],
+    keys: &mut [u64; KEYS],
+    rows: &mut [u16; ROWS],
+) -> Counts
+    requires { ⌜ Sifted (now words) (now ids) init (now groups) (now rows) found ⌝ }
+    ensures { λ r. ⌜ Tables (now (words .entry)) (recordIn (now (words .entry)) (now (ids .entry))) init (now (keys .exit)) (now (rows .exit)) (r .choices) (r .agreements) ⌝ }
+{
+    let nc = choices(words, ids, init, found, groups, keys, rows);
+    let na = agreements(words, ids, init, found, groups, keys, rows);
+    Counts {
+        choices: nc,
+        agreements: na,
+    }
 }

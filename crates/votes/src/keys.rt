@@ -1,10 +1,18 @@
-// The two words of a vote.
+// The three words of a vote.
 ghost use mathlib.Core.Path.{_≡_};
 ghost use Prim.Native.Nat.{_<_};
 ghost use Rattle.pool.specs.Pool.{stmtAt};
 ghost use Rattle.votes.specs.Votes.{isVote};
-ghost use Rattle.votes.specs.Keys.{mixFrom, headOf, tailOf, sameNames, slotOf};
+ghost use Rattle.votes.specs.Keys.{folded, weightOf, mixFrom, whatOf, sameNames, Key, slotBy};
 use pool::POOL_WORDS;
+
+// A vote by its pool number, with the word of the view at which it was signed, what it is for, and its kind.
+pub struct Vote {
+    pub number: u16,
+    pub at: u64,
+    pub what: u64,
+    pub tag: u64,
+}
 
 // Whether statement n is a vote.
 pub fn is_vote(words: &[u64; POOL_WORDS], n: u16) -> bool
@@ -23,39 +31,59 @@ pub fn is_vote(words: &[u64; POOL_WORDS], n: u16) -> bool
     k == 8
 }
 
-// The mix of the views of statement n.
+// A word in 32 bits. It tells all views of the sixteen controllers apart: who left stands above who joined.
+fn fold(x: u64) -> u64
+    ensures { λ r. ⌜ (r ≡ folded x) × (r < 4294967296) ⌝ }
+{
+    (x % 4294967296 + x / 65536) % 4294967296
+}
+
+// How often the view at place p counts in a mix.
+fn weight(p: usize) -> u64
+    requires { ⌜ p < 16 ⌝ }
+    ensures { λ r. ⌜ (r ≡ weightOf p) × (r < 4096) ⌝ }
+{
+    2053 + p as u64 * 128
+}
+
+// The mix of the views of statement n. It is a sum, whose parts do not wait for each other as those of a product do; sixteen parts fit in a word.
 fn mixed(words: &[u64; POOL_WORDS], n: u16) -> u64
-    ensures { λ r. ⌜ r ≡ mixFrom 0 (stmtAt (now (words .entry)) n .views) ⌝ }
+    ensures { λ r. ⌜ r ≡ mixFrom 0 0 (stmtAt (now (words .entry)) n .views) ⌝ }
 {
     let c = pool::count(words, n);
     let mut h: u64 = 0;
     let mut p = 0usize;
     while p < c {
-        h = (h * 1000003 + pool::nth(words, n, p) as u64) % 4294967296;
+        h += pool::nth(words, n, p) * weight(p);
         p += 1;
     }
     h
 }
 
-// Where the vote n was signed, and its kind.
-pub fn head_of(words: &[u64; POOL_WORDS], n: u16) -> u64
-    ensures { λ r. ⌜ r ≡ headOf (stmtAt (now (words .entry)) n) ⌝ }
-{
-    pool::at(words, n) as u64 + pool::kind(words, n) * 4294967296
-}
-
 // What the vote n is for.
-pub fn tail_of(words: &[u64; POOL_WORDS], n: u16) -> u64
-    ensures { λ r. ⌜ r ≡ tailOf (stmtAt (now (words .entry)) n) ⌝ }
+fn what_of(words: &[u64; POOL_WORDS], n: u16) -> u64
+    ensures { λ r. ⌜ r ≡ whatOf (stmtAt (now (words .entry)) n) ⌝ }
 {
     let k = pool::kind(words, n);
     if k == 3 {
-        return pool::view(words, n) as u64;
+        return pool::view(words, n);
     }
     if k == 4 {
         return mixed(words, n);
     }
     pool::payload(words, n)
+}
+
+// The vote n.
+pub fn vote_of(words: &[u64; POOL_WORDS], n: u16) -> Vote
+    ensures { λ r. ⌜ (r .number ≡ n) × Key (now (words .entry)) r × (r .tag < 256) ⌝ }
+{
+    Vote {
+        number: n,
+        at: pool::at(words, n),
+        what: what_of(words, n),
+        tag: pool::kind(words, n),
+    }
 }
 
 // Whether i and j, votes with the same words, name the same history where they name one.
@@ -68,11 +96,11 @@ pub fn same_names(words: &[u64; POOL_WORDS], i: u16, j: u16) -> bool
     pool::same_views(words, i, j)
 }
 
-// The slot of the words of a vote. What multiplication mixes best are the high bits.
-pub fn slot_of(head: u64, tail: u64) -> usize
-    ensures { λ r. ⌜ (r ≡ slotOf head tail) × (r < 1024) ⌝ }
+// The slot of a vote. What multiplication mixes best are the high bits.
+pub fn slot_of(v: Vote) -> usize
+    ensures { λ r. ⌜ (r ≡ slotBy (v .at) (v .what) (v .tag)) × (r < 512) ⌝ }
 {
-    let x = (head % 4294967296 + head / 4294967296) % 4294967296;
-    let y = (tail % 4294967296 + tail / 4294967296) % 4294967296;
-    ((x * 1640531527 + y * 668265263) / 4194304 % 1024) as usize
+    let x = fold(v.at) + v.tag % 65536;
+    let y = fold(v.what);
+    ((x * 1640531527 + y * 668265263) / 8388608 % 512) as usize
 }

@@ -1,13 +1,26 @@
 // The votes of a record, each quorum counted once.
 mod chosen;
+mod group;
 mod groups;
 mod keys;
-mod lengths;
 mod wish;
 
-pub use chosen::agreements;
-pub use chosen::choices;
-pub use groups::Sifted;
+pub use chosen::tabulate;
+pub use group::place_of;
+pub use group::signers_of;
+pub use group::tag_of;
 pub use groups::gather;
 pub use groups::has_votes;
 pub use wish::wished_by;
+
+// How many groups there are, and the view that the record wishes: both in one pass.
+pub struct Gathered {
+    pub groups: usize,
+    pub wished: u64,
+}
+
+// How many rows the two tables have.
+pub struct Counts {
+    pub choices: usize,
+    pub agreements: usize,
+}

@@ -1,13 +1,14 @@
 // The view that a record wishes, from those who sign joins and leaves.
 ghost use mathlib.Core.Path.{_≡_};
 ghost use mathlib.Core.List.{List};
-ghost use Prim.Native.Nat.{_<_};
 ghost use Rattle.protocol.specs.Statement.{Stmt, isKind};
 ghost use Rattle.protocol.specs.Evidence.{signs, wished};
 ghost use Rattle.views.specs.Sets.{IsSet, Noted};
 ghost use Rattle.views.specs.View.{viewOf, ring};
-ghost use Rattle.pool.specs.Pool.{stmtAt, recordOf};
+ghost use Rattle.pool.specs.Pool.{stmtAt, recordIn};
 use pool::POOL_WORDS;
+use pool::RECORD;
+use views::View;
 
 // `seen`, and the origin of statement s too where that is of this kind.
 pub fn note_kind(words: &[u64; POOL_WORDS], s: u16, kind: u64, seen: u32) -> u32
@@ -20,20 +21,24 @@ pub fn note_kind(words: &[u64; POOL_WORDS], s: u16, kind: u64, seen: u32) -> u32
 }
 
 // The initial view, with every join origin joined and every leave origin that is joined marked left.
-pub fn wished_view(init: u32, joins: u32, leaves: u32) -> u32
-    requires { ⌜ (joins < 65536) × (leaves < 65536) ⌝ }
+pub fn wished_view(init: u64, joins: u32, leaves: u32) -> u64
     ensures { λ r. ⌜ ((X : List Stmt) → IsSet joins (signs (isKind 1) X) → IsSet leaves (signs (isKind 2) X) → viewOf r ≡ wished (ring init) X) ⌝ }
 {
-    let joined = views::union(init % 65536, joins);
-    let left = views::union(init / 65536, joined & leaves);
-    joined + left * 65536
+    let first = View::of_word(init);
+    let joined = views::union(first.joined_set(), joins);
+    let left = views::union(first.left_set(), joined & leaves);
+    let wished = View {
+        joined: joined,
+        left: left,
+    };
+    wished.word()
 }
 
 // The view that a record wishes. `groups::gather` finds it too, where there are votes to gather in the same pass.
-pub fn wished_by(words: &[u64; POOL_WORDS], ids: &[u16; 512], len: usize, init: u32) -> u32
-    ensures { λ r. ⌜ viewOf r ≡ wished (ring init) (recordOf (now (words .entry)) (now (ids .entry)) len) ⌝ }
+pub fn wished_by(words: &[u64; POOL_WORDS], ids: &[u16; RECORD], init: u64) -> u64
+    ensures { λ r. ⌜ viewOf r ≡ wished (ring init) (recordIn (now (words .entry)) (now (ids .entry))) ⌝ }
 {
-    let end = pool::limit(len);
+    let end = pool::record_length(ids);
     let mut joins: u32 = 0;
     let mut leaves: u32 = 0;
     let mut i = 0usize;

@@ -18,7 +18,7 @@ fn honest(count: usize) -> Vec<Case> {
 fn mine(cases: &[(Case, Lent)]) {
     let mut out = [0; TOLD];
     for (case, lent) in cases {
-        tell(&lent.words, black_box(&lent.ids), lent.len, word(case.initial), case.sender, &mut out);
+        tell(&lent.words, black_box(&lent.ids), word(case.initial), case.sender, &mut out);
         black_box(&out);
     }
 }

@@ -1,32 +1,31 @@
 //! What a record shows, compared.
 
-use pekdrav::{append, shown, tell, told, Evidence, Shown, POOL_WORDS, RECORD, TOLD};
+use pekdrav::{append, shown, tell, told, view_sets, view_word, Evidence, Shown, ViewWord, POOL_WORDS, RECORD, TOLD};
 use reference::{Record, View};
 
 use crate::records::Case;
 
-/// A view as a word of the pool: the joined set below, the left set above.
-pub fn word(view: View) -> u32 {
-    u32::from(view.left()) << 16 | u32::from(view.joined())
+/// A view as a word of the pool.
+pub fn word(view: View) -> ViewWord {
+    view_word(view.joined(), view.left())
 }
 
 /// A record in memory to lend.
 pub struct Lent {
     pub words: Box<[u64; POOL_WORDS]>,
     pub ids: Box<[u16; RECORD]>,
-    pub len: usize,
 }
 
 /// Puts the statements into a pool by their lines; each gets the number of its place.
 pub fn lend(case: &Case) -> Result<Lent, String> {
-    let mut lent = Lent { words: Box::new([0; POOL_WORDS]), ids: Box::new([0; RECORD]), len: 0 };
+    let mut lent = Lent { words: Box::new([0; POOL_WORDS]), ids: Box::new([0; RECORD]) };
     for (place, statement) in case.statements.iter().enumerate() {
         let number = append(&mut lent.words, &statement.write());
         if number != Ok(place as u16) {
             return Err(format!("{statement:?} at {place} went to {number:?}"));
         }
         lent.ids[place] = place as u16;
-        lent.len = place + 1;
+        lent.ids[RECORD - 1] = place as u16 + 1;
     }
     Ok(lent)
 }
@@ -34,7 +33,7 @@ pub fn lend(case: &Case) -> Result<Lent, String> {
 /// The words that the proved code tells, over memory that held other words.
 pub fn mine(case: &Case, lent: &Lent) -> [u64; TOLD] {
     let mut out = [u64::MAX; TOLD];
-    tell(&lent.words, &lent.ids, lent.len, word(case.initial), case.sender, &mut out);
+    tell(&lent.words, &lent.ids, word(case.initial), case.sender, &mut out);
     out
 }
 
@@ -46,7 +45,7 @@ pub fn words(evidence: &Evidence) -> [u64; TOLD] {
         out[0] = 1;
         return out;
     };
-    let mut list = |count: usize, from: usize, views: &[u32]| {
+    let mut list = |count: usize, from: usize, views: &[ViewWord]| {
         out[count] = views.len() as u64;
         out[from..].iter_mut().zip(views).for_each(|(word, &view)| *word = view.into());
     };
@@ -62,7 +61,7 @@ pub fn words(evidence: &Evidence) -> [u64; TOLD] {
 /// The reference's evidence.
 pub fn theirs(case: &Case) -> Evidence {
     let evidence = reference::Evidence::of(case.initial, case.sender, &case.statements);
-    let listed = |views: &[View]| views.iter().map(|&view| word(view)).collect::<Vec<u32>>();
+    let listed = |views: &[View]| views.iter().map(|&view| word(view)).collect::<Vec<ViewWord>>();
     let shown = || Shown {
         candidates: (evidence.candidates.len() <= 16).then(|| listed(&evidence.candidates)),
         greatest: evidence.greatest().map_or(Vec::new(), |history| listed(history.views())),
@@ -73,8 +72,11 @@ pub fn theirs(case: &Case) -> Evidence {
 
 /// The text of a service screen, from the evidence.
 fn text(evidence: &Evidence) -> String {
-    let view = |word: u32| format!("{:04x}{:04x}", word % 65536, word / 65536);
-    let list = |words: &[u32]| std::iter::once(words.len().to_string()).chain(words.iter().map(|&word| view(word))).collect::<Vec<_>>().join(",");
+    let view = |word: ViewWord| {
+        let (joined, left) = view_sets(word);
+        format!("{joined:04x}{left:04x}")
+    };
+    let list = |words: &[ViewWord]| std::iter::once(words.len().to_string()).chain(words.iter().map(|&word| view(word))).collect::<Vec<_>>().join(",");
     let wished = format!("wished,{}\n", view(evidence.wished));
     let Some(shown) = &evidence.shown else { return wished + "conflict\n" };
     let candidates = shown.candidates.as_ref().map_or("many".to_string(), |views| list(views));
@@ -88,11 +90,11 @@ fn text(evidence: &Evidence) -> String {
 
 /// Compares the text of a service screen with one made from the reference's evidence.
 fn compare_text(case: &Case, lent: &Lent, theirs: &Evidence) -> Result<(), String> {
-    let (mine, theirs) = (shown(&lent.words, &lent.ids, lent.len, word(case.initial), case.sender), text(theirs));
+    let (mine, theirs) = (shown(&lent.words, &lent.ids, word(case.initial), case.sender), text(theirs));
     if mine == theirs {
         return Ok(());
     }
-    Err(format!("initial {} sender {}, a record of {}\nproved:\n{mine}reference:\n{theirs}", case.initial, case.sender, lent.len))
+    Err(format!("initial {} sender {}, a record of {}\nproved:\n{mine}reference:\n{theirs}", case.initial, case.sender, case.statements.len()))
 }
 
 /// What the compared records showed.

@@ -84,7 +84,7 @@ impl Seat {
     /// Whether the two controllers are the same in every field; of the record the length.
     fn is_same(&self) -> bool {
         let Seat { mine, theirs, .. } = self;
-        let words = |views: &[View]| views.iter().map(|&view| word(view)).collect::<Vec<u32>>();
+        let words = |views: &[View]| views.iter().map(|&view| word(view)).collect::<Vec<_>>();
         let binding = match theirs.binding() {
             reference::Binding::Unbound => pekdrav::Binding::Unbound,
             reference::Binding::Bound(payload) => pekdrav::Binding::Bound(payload),

@@ -79,6 +79,6 @@ fn an_addition_writes_no_other_word() {
     words[POOL_WORDS - 1] = 3;
     assert_eq!(append(&mut words, b"4,2,00070000,00000000,0,0,0,0,2,00070000,000f0000"), Ok(3));
     let written: Vec<(usize, u64)> = words.iter().copied().enumerate().filter(|&(_, word)| word != u64::MAX).collect();
-    let head: u64 = 4 | 2 << 8 | 7 << 16 | 2 << 48;
-    assert_eq!(written, [(3, head), (515, 0), (1027, 0), (1539, 0), (2096, 7), (2097, 15), (10240, 4)]);
+    let head: u64 = 4 | 2 << 8 | 2 << 24;
+    assert_eq!(written, [(3, head), (515, 7), (1027, 0), (1539, 0), (2051, 0), (2608, 7), (2609, 15), (10752, 4)]);
 }

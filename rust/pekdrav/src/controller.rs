@@ -1,15 +1,15 @@
 //! One controller, over a pool of its own or one that it shares.
 
-use crate::{Unplaced, POOL_WORDS, RECORD};
+use crate::{Unplaced, ViewWord, POOL_WORDS, RECORD};
 
 mod exported {
     // A slice is a pointer and then a length, an array a pointer. Nothing checks these lines against the Rattle source.
     extern "C" {
         pub fn pekdrav_new(fields: *mut u64, ids: *mut u16);
         pub fn pekdrav_setup(fields: *mut u64, ids: *mut u16, number: u8, members: u16, sender: u8, value: *mut u64) -> u8;
-        pub fn pekdrav_join(fields: *mut u64, ids: *mut u16, value: *mut u64) -> u8;
-        pub fn pekdrav_leave(fields: *mut u64, ids: *mut u16, value: *mut u64) -> u8;
-        pub fn pekdrav_send(fields: *mut u64, ids: *mut u16, payload: u64, value: *mut u64) -> u8;
+        pub fn pekdrav_join(fields: *mut u64, value: *mut u64) -> u8;
+        pub fn pekdrav_leave(fields: *mut u64, value: *mut u64) -> u8;
+        pub fn pekdrav_send(fields: *mut u64, payload: u64, value: *mut u64) -> u8;
         pub fn pekdrav_add(fields: *mut u64, ids: *mut u16, words: *mut u64, line: *const u8, line_len: usize, value: *mut u64) -> u8;
         pub fn pekdrav_turn(fields: *mut u64, ids: *mut u16, words: *mut u64, value: *mut u64) -> u8;
         pub fn pekdrav_clear(words: *mut u64);
@@ -55,13 +55,13 @@ impl Pool {
     }
 }
 
-/// What a call answers. A view is a word with the joined set in its low 16 bits and the left set above them.
+/// What a call answers.
 #[derive(Clone, Copy, PartialEq, Eq, Debug)]
 pub enum Answer {
     Taken,
     /// The statement's number in the pool; the host sends its text to the others.
     Signed(u16),
-    Entered(u32),
+    Entered(ViewWord),
     Delivered(u64),
     Left,
     Quiet,
@@ -106,7 +106,7 @@ impl Controller {
         match answer {
             0 => Answer::Taken,
             1 => Answer::Signed(value[0] as u16),
-            2 => Answer::Entered(value[0] as u32),
+            2 => Answer::Entered(value[0] as ViewWord),
             3 => Answer::Delivered(value[0]),
             4 => Answer::Left,
             5 => Answer::Quiet,
@@ -122,17 +122,17 @@ impl Controller {
 
     pub fn join(&mut self) -> Answer {
         // SAFETY: as in `setup`.
-        self.call(|fields, ids, value| unsafe { exported::pekdrav_join(fields, ids, value) })
+        self.call(|fields, _, value| unsafe { exported::pekdrav_join(fields, value) })
     }
 
     pub fn leave(&mut self) -> Answer {
         // SAFETY: as in `setup`.
-        self.call(|fields, ids, value| unsafe { exported::pekdrav_leave(fields, ids, value) })
+        self.call(|fields, _, value| unsafe { exported::pekdrav_leave(fields, value) })
     }
 
     pub fn send(&mut self, payload: u64) -> Answer {
         // SAFETY: as in `setup`.
-        self.call(|fields, ids, value| unsafe { exported::pekdrav_send(fields, ids, payload, value) })
+        self.call(|fields, _, value| unsafe { exported::pekdrav_send(fields, payload, value) })
     }
 
     /// Adds the statement that `line` is, once the host has checked its signature.
@@ -158,8 +158,8 @@ impl Controller {
     }
 
     /// The initial view's word.
-    pub fn initial(&self) -> u32 {
-        self.fields[2] as u32
+    pub fn initial(&self) -> ViewWord {
+        self.fields[2] as ViewWord
     }
 
     pub fn sender(&self) -> u8 {
@@ -193,11 +193,11 @@ impl Controller {
 
     /// The numbers of its statements in the pool, in order of arrival.
     pub fn record(&self) -> &[u16] {
-        &self.ids[..(self.fields[11] as usize).min(RECORD)]
+        &self.ids[..usize::from(self.ids[RECORD - 1]).min(RECORD - 1)]
     }
 
     /// The words of the views that it entered.
-    pub fn entered(&self) -> Vec<u32> {
-        self.fields[16..].iter().take(self.fields[12] as usize).map(|&word| word as u32).collect()
+    pub fn entered(&self) -> Vec<ViewWord> {
+        self.fields[16..].iter().take(self.fields[12] as usize).map(|&word| word as ViewWord).collect()
     }
 }

@@ -7,11 +7,27 @@ mod rows;
 
 pub use rows::{run, run_into, ROWS_MAX};
 
-/// The words of a pool: 512 statements of 20 words, and the number of statements.
-pub const POOL_WORDS: usize = 10_241;
+/// The words of a pool: 512 statements of 21 words, and the number of statements.
+pub const POOL_WORDS: usize = 10_753;
 
-/// The longest record.
-pub const RECORD: usize = 512;
+/// The numbers of a record in memory: room for 512 statements, and in the last place how many of them count.
+pub const RECORD: usize = 513;
+
+/// A view in one word: the joined set below, the left set above.
+pub type ViewWord = u64;
+
+/// The bits of a set in a view's word.
+const SET_BITS: u32 = ViewWord::BITS / 2;
+
+/// The word of the view with these sets, bit k for controller k.
+pub fn view_word(joined: u16, left: u16) -> ViewWord {
+    ViewWord::from(left) << SET_BITS | ViewWord::from(joined)
+}
+
+/// The joined set and the left set of a view's word.
+pub fn view_sets(word: ViewWord) -> (u16, u16) {
+    (word as u16, (word >> SET_BITS) as u16)
+}
 
 /// The words that evidence is told in.
 pub const TOLD: usize = 40;
@@ -26,9 +42,9 @@ mod exported {
     // A slice is a pointer and then a length, an array a pointer. Nothing checks these lines against the Rattle source.
     extern "C" {
         pub fn pekdrav_statement(line: *const u8, line_len: usize, out: *mut u8, out_len: usize) -> usize;
-        pub fn pekdrav_signers(words: *const u64, ids: *const u16, len: usize, kind: u8, at: u32) -> u32;
+        pub fn pekdrav_signers(words: *const u64, ids: *const u16, kind: u8, at: crate::ViewWord) -> u32;
         pub fn pekdrav_append(words: *mut u64, line: *const u8, line_len: usize) -> u16;
-        pub fn pekdrav_evidence(words: *const u64, ids: *const u16, len: usize, init: u32, sender: u8, out: *mut u64);
+        pub fn pekdrav_evidence(words: *const u64, ids: *const u16, init: crate::ViewWord, sender: u8, out: *mut u64);
     }
 }
 
@@ -40,12 +56,10 @@ pub fn statement(line: &[u8], out: &mut [u8]) -> usize {
     unsafe { exported::pekdrav_statement(line.as_ptr(), line.len(), out.as_mut_ptr(), out.len()) }
 }
 
-/// The set of those who signed a statement of this kind at this view in the record of the first `len` numbers, bit k for controller k.
-///
-/// A view's word has the joined set in its low 16 bits and the left set above them, as in the pool.
-pub fn signers(words: &[u64; POOL_WORDS], ids: &[u16; RECORD], len: usize, kind: u8, at: u32) -> u32 {
+/// The set of those who signed a statement of this kind at this view in a record, bit k for controller k.
+pub fn signers(words: &[u64; POOL_WORDS], ids: &[u16; RECORD], kind: u8, at: ViewWord) -> u32 {
     // SAFETY: both pointers are those of arrays of the sizes that the function reads, whatever they hold.
-    unsafe { exported::pekdrav_signers(words.as_ptr(), ids.as_ptr(), len, kind, at) }
+    unsafe { exported::pekdrav_signers(words.as_ptr(), ids.as_ptr(), kind, at) }
 }
 
 /// Why a statement did not go into a pool.
@@ -68,42 +82,42 @@ pub fn append(words: &mut [u64; POOL_WORDS], line: &[u8]) -> Result<u16, Unplace
     }
 }
 
-/// Tells what the record of the first `len` numbers shows in a ring with this initial view and sender.
+/// Tells what a record shows in a ring with this initial view and sender.
 ///
 /// Every word of `out` is fixed by that, whatever it held; `told` reads them. Words 0 to 7 are whether there is a conflict, whether there
 /// are more than sixteen candidates, the wished view, how many candidates and how many views of the greatest history follow, whether a
 /// payload has a certificate, that payload, and whether it is stored; the candidates stand from word 8 on, the greatest history from 24 on.
 /// What is not told is 0: after a conflict every word but 0 and 2, with more than sixteen candidates word 3 and the candidates, without a
 /// certificate words 6 and 7, and the words after the last view.
-pub fn tell(words: &[u64; POOL_WORDS], ids: &[u16; RECORD], len: usize, init: u32, sender: u8, out: &mut [u64; TOLD]) {
+pub fn tell(words: &[u64; POOL_WORDS], ids: &[u16; RECORD], init: ViewWord, sender: u8, out: &mut [u64; TOLD]) {
     // SAFETY: the pointers are those of arrays of the sizes that the function reads and writes, whatever they hold.
-    unsafe { exported::pekdrav_evidence(words.as_ptr(), ids.as_ptr(), len, init, sender, out.as_mut_ptr()) }
+    unsafe { exported::pekdrav_evidence(words.as_ptr(), ids.as_ptr(), init, sender, out.as_mut_ptr()) }
 }
 
 /// What a record shows, views as words. After a conflict only the wished view is told.
 #[derive(Clone, PartialEq, Eq, Debug)]
 pub struct Evidence {
-    pub wished: u32,
+    pub wished: ViewWord,
     pub shown: Option<Shown>,
 }
 
 #[derive(Clone, PartialEq, Eq, Debug)]
 pub struct Shown {
     /// None where there are more than sixteen.
-    pub candidates: Option<Vec<u32>>,
+    pub candidates: Option<Vec<ViewWord>>,
     /// The sealed history that holds every other.
-    pub greatest: Vec<u32>,
+    pub greatest: Vec<ViewWord>,
     /// The payload that has a certificate, and whether it is stored.
     pub certificate: Option<(u64, bool)>,
 }
 
 /// Reads what `tell` told.
 pub fn told(out: &[u64; TOLD]) -> Evidence {
-    let views = |from: usize, count: u64| out[from..from + 16].iter().take(count as usize).map(|&word| word as u32).collect();
+    let views = |from: usize, count: u64| out[from..from + 16].iter().take(count as usize).map(|&word| word as ViewWord).collect();
     let shown = Shown {
         candidates: (out[1] == 0).then(|| views(8, out[3])),
         greatest: views(24, out[4]),
         certificate: (out[5] == 1).then_some((out[6], out[7] == 1)),
     };
-    Evidence { wished: out[2] as u32, shown: (out[0] == 0).then_some(shown) }
+    Evidence { wished: out[2] as ViewWord, shown: (out[0] == 0).then_some(shown) }
 }

@@ -5,19 +5,13 @@ use Rattle.screen.proofs.ScreenLaws.{words-long, count-most, both, numb
 use Rattle.screen.proofs.put_views.Statement.{statement}
 use Rattle.screen.proofs.put_views.Tie as tie
 
-put-words-requires : tie.Need-put-words-requires
-put-words-requires c κs = (c .before .before .before .before .before .before .pre .0, omega (arith, c .before .before .before .before .before .before .pre .0, c .before .before .before .before .before .before .pre .1, count-most (c .before .before .before .before .before .before .args .n) (c .before .before .before .before .before .before .pre .0), c .before .before .before .put-number .ensures .0, c .before .before .before .put-number .kept .0))
-
-put-text-requires : tie.Need-put-text-requires
-put-text-requires c κs = omega (arith, c .before .before .before .before .before .before .before .before .before .before .before .pre .0, c .before .before .before .before .before .before .before .before .before .before .before .pre .1, count-most (c .before .before .before .before .before .before .before .before .before .before .before .args .n) (c .before .before .before .before .before .before .before .before .before .before .before .pre .0), c .before .before .before .before .before .before .before .before .put-number .ensures .0, c .before .before .before .before .before .before .before .before .put-number .kept .0, c .before .before .before .before .put-words .ensures .next, c .before .before .before .before .put-words .kept .0, words-long (c .before .before .before .before .before .before .before .before .before .before .before .args .words) (c .before .before .before .before .before .before .before .before .before .before .before .args .n))
-
 pub put-views-spec : {M : Type 1} → statement M
 put-views-spec =
     tie.close
     (tie.spec
     (λ c κs. omega (arith, c .before .before .pre .0, c .before .before .pre .1, count-most (c .before .before .args .n) (c .before .before .pre .0)))
-    put-words-requires
+    (λ c κs. (c .before .before .before .before .before .before .pre .0, omega (arith, c .before .before .before .before .before .before .pre .0, c .before .before .before .before .before .before .pre .1, count-most (c .before .before .before .before .before .before .args .n) (c .before .before .before .before .before .before .pre .0), c .before .before .before .put-number .ensures .0, c .before .before .before .put-number .kept .0)))
     (λ c. search needs)
-    put-text-requires
-    (λ c. c .before .before .put-text .kept .0 ∙ c .before .before .before .before .before .before .before .put-words .kept .0 ∙ c .before .before .before .before .before .before .before .before .before .before .before .put-number .kept .0)
-    (λ c. both (number-wrote _ _ _ _ _ (c .before .before .before .before .before .before .before .before .before .before .before .put-number .ensures)) (both (c .before .before .before .before .before .before .before .put-words .ensures) (c .before .before .put-text .ensures))))
+    (λ c κs. omega (arith, c .before .before .before .before .before .before .before .before .before .before .before .pre .0, c .before .before .before .before .before .before .before .before .before .before .before .pre .1, count-most (c .before .before .before .before .before .before .before .before .before .before .before .args .n) (c .before .before .before .before .before .before .before .before .before .before .before .pre .0), c .before .before .before .before .before .before .before .before .put-number .ensures .0, c .before .before .before .before .before .before .before .before .put-number .kept .0, c .before .before .before .before .put-list .ensures .next, c .before .before .before .before .put-list .kept .0, words-long (c .before .before .before .before .before .before .before .before .before .before .before .args .list .now) (c .before .before .before .before .before .before .before .before .before .before .before .args .n)))
+    (λ c. search needs)
+    (λ c. both (number-wrote _ _ _ _ _ (c .before .before .before .before .before .before .before .before .before .before .before .put-number .ensures)) (both (c .before .before .before .before .before .before .before .put-list .ensures) (c .before .before .put-text .ensures))))

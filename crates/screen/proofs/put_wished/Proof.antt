@@ -1,10 +1,11 @@
 use borrow.Author.Needs.{needs}
-use Rattle.screen.proofs.ScreenLaws.{view-wrote, wished-wrote}
+use mathlib.Core.Path.{refl}
+use Rattle.screen.proofs.ScreenLaws.{word-text, view-wrote, wished-wrote}
 use Rattle.screen.proofs.put_wished.Statement.{statement}
 use Rattle.screen.proofs.put_wished.Tie as tie
 
 returns : tie.Need-returns
-returns c = wished-wrote _ (c .before .before .before .before .before .before .before .before .before .before .before .before .put-text .ensures) (view-wrote _ _ _ _ _ _ (c .before .before .before .before .before .before .before .before .before .of-word .ensures) (c .before .before .before .before .before .before .before .put-view .ensures)) (c .before .before .put-text2 .ensures)
+returns c = wished-wrote _ (c .before .before .before .before .before .before .before .before .before .before .before .before .put-text .ensures) (view-wrote _ _ _ _ _ _ (word-text _ _ _ (c .before .before .before .before .before .before .before .before .before .of-word .ensures) refl) (c .before .before .before .before .before .before .before .put-view .ensures)) (c .before .before .put-text2 .ensures)
 
 pub put-wished-spec : {M : Type 1} → statement M
 put-wished-spec =

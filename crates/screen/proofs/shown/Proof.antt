@@ -10,6 +10,6 @@ shown-spec =
     (tie.spec
     (λ c. shows-nothing _ _ _ _ (omega arith))
     (λ c κs. search needs)
-    (λ c κs. (omega arith, few-views _ _ _ _ (c .before .of-record .ensures)))
+    (λ c κs. (omega arith, few-views _ _ _ _ _ _ (c .before .before .before .of-record .ensures)))
     (λ c. search needs)
-    (λ c. shows _ _ _ _ (c .before .before .before .before .of-record .ensures) _ _ _ (omega arith) (c .before .before .put-evidence .ensures)))
+    (λ c. shows _ _ _ _ _ _ (c .before .before .before .before .before .before .of-record .ensures) _ _ _ (omega arith) (c .before .before .put-evidence .ensures)))

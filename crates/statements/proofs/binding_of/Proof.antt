@@ -6,15 +6,12 @@ use Rattle.statements.proofs.binding_of.Tie as tie
 use Rattle.statements.proofs.binding_of.Reads as reads
 use Rattle.statements.proofs.binding_of.Lts as lts
 
--- src/lib.rt:156:9
 returns : tie.Need-returns
 returns c = simp (eq-eqb _ _ (c .if1 .taken))
 
--- src/lib.rt:152:1
 returns-2 : tie.Need-returns-2
 returns-2 c = simp (ne-eqb _ _ (c .before .if1 .left), eq-eqb _ _ (c .if2 .taken))
 
--- src/lib.rt:152:1
 returns-3 : tie.Need-returns-3
 returns-3 c = simp (ne-eqb _ _ (c .before .if1 .left), ne-eqb _ _ (c .if2 .left))
 

@@ -12,27 +12,21 @@ use Rattle.statements.proofs.put_second.Reads as reads
 use Rattle.statements.proofs.put_second.Lts as lts
 use Rattle.statements.proofs.put_number.Reads as put-number-reads
 
--- src/lib.rt:253:9
 put-number-requires : tie.Need-put-number-requires
 put-number-requires c κs = omega (arith, c .before .before .pre, second-size (c .before .before .args .binding) (c .before .before .args .payload) (c .before .before .args .stored) (c .before .before .args .kept))
 
--- src/lib.rt:254:9
 put-number-requires-2 : tie.Need-put-number-requires-2
 put-number-requires-2 c κs = omega (arith, c .before .before .before .before .before .before .pre, second-size (c .before .before .before .before .before .before .args .binding) (c .before .before .before .before .before .before .args .payload) (c .before .before .before .before .before .before .args .stored) (c .before .before .before .before .before .before .args .kept), c .before .before .before .put-number .ensures .0, c .before .before .before .put-number .kept)
 
--- src/lib.rt:255:9
 put-number-requires-3 : tie.Need-put-number-requires-3
 put-number-requires-3 c κs = omega (arith, c .before .before .before .before .before .before .before .before .before .before .pre, second-size (c .before .before .before .before .before .before .before .before .before .before .args .binding) (c .before .before .before .before .before .before .before .before .before .before .args .payload) (c .before .before .before .before .before .before .before .before .before .before .args .stored) (c .before .before .before .before .before .before .before .before .before .before .args .kept), c .before .before .before .before .before .before .before .put-number .ensures .0, c .before .before .before .before .before .before .before .put-number .kept, c .before .before .before .put-number2 .ensures .0, c .before .before .before .put-number2 .kept)
 
--- src/lib.rt:256:5
 put-number-requires-4 : tie.Need-put-number-requires-4
 put-number-requires-4 c κs = omega (arith, c .before .before .before .before .before .before .before .before .before .before .before .before .before .before .pre, second-size (c .before .before .before .before .before .before .before .before .before .before .before .before .before .before .args .binding) (c .before .before .before .before .before .before .before .before .before .before .before .before .before .before .args .payload) (c .before .before .before .before .before .before .before .before .before .before .before .before .before .before .args .stored) (c .before .before .before .before .before .before .before .before .before .before .before .before .before .before .args .kept), c .before .before .before .before .before .before .before .before .before .before .before .put-number .ensures .0, c .before .before .before .before .before .before .before .before .before .before .before .put-number .kept, c .before .before .before .before .before .before .before .put-number2 .ensures .0, c .before .before .before .before .before .before .before .put-number2 .kept, c .before .before .before .put-number3 .ensures .0, c .before .before .before .put-number3 .kept)
 
--- src/lib.rt:249:1
 same-length : tie.Need-same-length
 same-length c = search needs
 
--- src/lib.rt:249:1
 returns : tie.Need-returns
 returns c = (
   omega (arith, second-size (c .before .before .before .before .before .before .before .before .before .before .before .before .before .before .before .before .before .args .binding) (c .before .before .before .before .before .before .before .before .before .before .before .before .before .before .before .before .before .args .payload) (c .before .before .before .before .before .before .before .before .before .before .before .before .before .before .before .before .before .args .stored) (c .before .before .before .before .before .before .before .before .before .before .before .before .before .before .before .before .before .args .kept), c .before .before .before .before .before .before .before .before .before .before .before .before .before .before .put-number .ensures .0, c .before .before .before .before .before .before .before .before .before .before .put-number2 .ensures .0, c .before .before .before .before .before .before .put-number3 .ensures .0, c .before .before .put-number4 .ensures .0),

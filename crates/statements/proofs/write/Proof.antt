@@ -20,67 +20,51 @@ use Rattle.statements.proofs.put_second.Reads as put-second-reads
 use Rattle.statements.proofs.put_views.Reads as put-views-reads
 use Rattle.statements.proofs.text_len.Reads as text-len-reads
 
--- src/lib.rt:296:9
 returns : tie.Need-returns
 returns c = too-many _ _ (c .if1 .taken)
 
--- src/lib.rt:299:9
 told-payload-requires : tie.Need-told-payload-requires
 told-payload-requires c κs = search needs
 
--- src/lib.rt:300:25
 cast-text-len : tie.Need-cast-text-len
 cast-text-len c = search needs
 
--- src/lib.rt:300:41
 cast-text-len-2 : tie.Need-cast-text-len-2
 cast-text-len-2 c = search needs
 
--- src/lib.rt:300:9
 text-len-requires : tie.Need-text-len-requires
 text-len-requires c κs = search needs
 
--- src/lib.rt:302:9
 returns-2 : tie.Need-returns-2
 returns-2 c = too-short _ _ (c .before .before .before .before .before .if1 .left) (omega (arith, text-size (c .before .before .before .before .before .before .before .before .args .st), c .before .text-len .ensures, c .if2 .taken, ap (λ (k : ℕ). length (decText k)) (c .before .before .before .before .told-payload .ensures)))
 
--- src/lib.rt:306:28
 cast-put-first : tie.Need-cast-put-first
 cast-put-first c = search needs
 
--- src/lib.rt:306:44
 cast-put-first-2 : tie.Need-cast-put-first-2
 cast-put-first-2 c = search needs
 
--- src/lib.rt:306:9
 put-first-requires : tie.Need-put-first-requires
 put-first-requires c κs = omega (arith, text-size (c .before .before .before .before .before .before .before .before .before .before .before .before .before .args .st), c .before .before .before .before .before .before .text-len .ensures, c .before .before .before .before .before .if2 .left, ap (λ (k : ℕ). length (decText k)) (c .before .before .before .before .before .before .before .before .before .told-payload .ensures), sizes (c .before .before .before .before .before .before .before .before .before .before .before .before .before .args .st) (c .before .before .before .before .before .before .before .before .before .before .before .before .before .args .out .now) _ _ _ refl refl refl)
 
--- src/lib.rt:307:32
 number-of-requires : tie.Need-number-of-requires
 number-of-requires c κs = search needs
 
--- src/lib.rt:307:66
 cast-put-second : tie.Need-cast-put-second
 cast-put-second c = search needs
 
--- src/lib.rt:307:9
 put-second-requires : tie.Need-put-second-requires
 put-second-requires c κs = omega (arith, text-size (c .before .before .before .before .before .before .before .before .before .before .before .before .before .before .before .before .before .before .before .args .st), c .before .before .before .before .before .before .before .before .before .before .before .before .text-len .ensures, c .before .before .before .before .before .before .before .before .before .before .before .if2 .left, ap (λ (k : ℕ). length (decText k)) (c .before .before .before .before .before .before .before .before .before .before .before .before .before .before .before .told-payload .ensures), sizes (c .before .before .before .before .before .before .before .before .before .before .before .before .before .before .before .before .before .before .before .args .st) (c .before .before .before .before .before .before .before .before .before .before .before .before .before .before .before .before .before .before .before .args .out .now) _ _ _ (c .before .number-of .ensures) (c .before .before .before .before .before .before .before .before .before .before .before .before .before .before .before .told-payload .ensures) (bool-byte (c .before .before .before .before .before .before .before .before .before .before .before .before .before .before .before .before .before .before .before .args .st .stored)), c .before .before .before .before .before .put-first .ensures .0, c .before .before .before .before .before .put-first .kept)
 
--- src/lib.rt:308:9
 put-number-requires : tie.Need-put-number-requires
 put-number-requires c κs = omega (arith, text-size (c .before .before .before .before .before .before .before .before .before .before .before .before .before .before .before .before .before .before .before .before .before .before .before .args .st), c .before .before .before .before .before .before .before .before .before .before .before .before .before .before .before .before .text-len .ensures, c .before .before .before .before .before .before .before .before .before .before .before .before .before .before .before .if2 .left, ap (λ (k : ℕ). length (decText k)) (c .before .before .before .before .before .before .before .before .before .before .before .before .before .before .before .before .before .before .before .told-payload .ensures), sizes (c .before .before .before .before .before .before .before .before .before .before .before .before .before .before .before .before .before .before .before .before .before .before .before .args .st) (c .before .before .before .before .before .before .before .before .before .before .before .before .before .before .before .before .before .before .before .before .before .before .before .args .out .now) _ _ _ (c .before .before .before .before .before .number-of .ensures) (c .before .before .before .before .before .before .before .before .before .before .before .before .before .before .before .before .before .before .before .told-payload .ensures) (bool-byte (c .before .before .before .before .before .before .before .before .before .before .before .before .before .before .before .before .before .before .before .before .before .before .before .args .st .stored)), c .before .before .before .before .before .before .before .before .before .put-first .ensures .0, c .before .before .before .before .before .before .before .before .before .put-first .kept, c .before .before .before .put-second .ensures .0, c .before .before .before .put-second .kept)
 
--- src/lib.rt:309:5
 put-views-requires : tie.Need-put-views-requires
 put-views-requires c κs = (c .before .before .before .before .before .before .before .before .before .before .before .before .before .before .before .before .before .before .before .before .before .before .before .before .if1 .left, omega (arith, text-size (c .before .before .before .before .before .before .before .before .before .before .before .before .before .before .before .before .before .before .before .before .before .before .before .before .before .before .before .args .st), c .before .before .before .before .before .before .before .before .before .before .before .before .before .before .before .before .before .before .before .before .text-len .ensures, c .before .before .before .before .before .before .before .before .before .before .before .before .before .before .before .before .before .before .before .if2 .left, ap (λ (k : ℕ). length (decText k)) (c .before .before .before .before .before .before .before .before .before .before .before .before .before .before .before .before .before .before .before .before .before .before .before .told-payload .ensures), sizes (c .before .before .before .before .before .before .before .before .before .before .before .before .before .before .before .before .before .before .before .before .before .before .before .before .before .before .before .args .st) (c .before .before .before .before .before .before .before .before .before .before .before .before .before .before .before .before .before .before .before .before .before .before .before .before .before .before .before .args .out .now) _ _ _ (c .before .before .before .before .before .before .before .before .before .number-of .ensures) (c .before .before .before .before .before .before .before .before .before .before .before .before .before .before .before .before .before .before .before .before .before .before .before .told-payload .ensures) (bool-byte (c .before .before .before .before .before .before .before .before .before .before .before .before .before .before .before .before .before .before .before .before .before .before .before .before .before .before .before .args .st .stored)), c .before .before .before .before .before .before .before .before .before .before .before .before .before .put-first .ensures .0, c .before .before .before .before .before .before .before .before .before .before .before .before .before .put-first .kept, c .before .before .before .before .before .before .before .put-second .ensures .0, c .before .before .before .before .before .before .before .put-second .kept, c .before .before .before .put-number .ensures .0, c .before .before .before .put-number .kept))
 
--- src/lib.rt:290:1
 same-length : tie.Need-same-length
 same-length c = search needs
 
--- src/lib.rt:290:1
 returns-3 : tie.Need-returns-3
 returns-3 c = wrote _ _ _ _ (c .before .before .before .before .before .before .before .before .before .before .before .before .before .before .before .before .before .before .before .before .before .before .before .before .before .before .before .if1 .left)
     (omega (arith, text-size (c .before .before .before .before .before .before .before .before .before .before .before .before .before .before .before .before .before .before .before .before .before .before .before .before .before .before .before .before .before .before .args .st), c .before .before .before .before .before .before .before .before .before .before .before .before .before .before .before .before .before .before .before .before .before .before .before .text-len .ensures, c .before .before .before .before .before .before .before .before .before .before .before .before .before .before .before .before .before .before .before .before .before .before .if2 .left, ap (λ (k : ℕ). length (decText k)) (c .before .before .before .before .before .before .before .before .before .before .before .before .before .before .before .before .before .before .before .before .before .before .before .before .before .before .told-payload .ensures)))

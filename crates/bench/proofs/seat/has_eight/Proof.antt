@@ -1,4 +1,4 @@
-use Rattle.bench.proofs.Seats.{marked-eight}
+use Rattle.bench.proofs.Records.{marked-eight}
 use borrow.Author.Needs.{needs}
 use Rattle.bench.proofs.seat.has_eight.Statement.{statement}
 use Rattle.bench.proofs.seat.has_eight.Tie as tie

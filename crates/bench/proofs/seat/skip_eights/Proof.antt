@@ -2,7 +2,7 @@ use native.Mathlib.Omega.{arith}
 use borrow.Author.Tests.{not-false}
 use Prim.Native.Nat.{_-_, _≤_}
 use Rattle.bench.specs.Seats.{Marked}
-use Rattle.bench.proofs.Seats.{marked-none, marked-both}
+use Rattle.bench.proofs.Records.{marked-none, marked-both}
 use Rattle.bench.proofs.seat.skip_eights.Statement.{statement}
 use Rattle.bench.proofs.seat.skip_eights.Tie as tie
 

@@ -1,17 +1,11 @@
-use borrow.Author.Needs.{needs}
 use native.Mathlib.Omega.{arith}
-use mathlib.Core.Path.{_≡_, refl, sym, _∙_}
+use mathlib.Core.Path.{sym, _∙_}
 use borrow.Author.Tests.{not-true, not-false}
 use Rattle.pool.proofs.Searches.{found-none}
-use Rattle.bench.proofs.States.{marked-is, appended, lie-early, lie-unmarked, lie-again, lie-full, lie-taken}
+use Rattle.bench.proofs.States.{told-as, appended, lie-early, lie-unmarked, lie-again, lie-full, lie-taken}
+use borrow.Author.Needs.{needs}
 use Rattle.bench.proofs.state.lie.Statement.{statement}
 use Rattle.bench.proofs.state.lie.Tie as tie
-use Rattle.bench.proofs.state.lie.Reads as reads
-use Rattle.bench.proofs.state.lie.Lts as lts
-use Rattle.bench.proofs.state.refused.Reads as refused-reads
-use Rattle.pool.proofs.append.Reads as append-reads
-use Rattle.pool.proofs.find.Reads as find-reads
-use Rattle.views.proofs.View.has_member.Reads as has-member-reads
 
 cast-who : tie.Need-cast-who
 cast-who c = search needs
@@ -20,16 +14,16 @@ refused-requires : tie.Need-refused-requires
 refused-requires c κs = search needs
 
 returns : tie.Need-returns
-returns c = (lie-early _ _ _ (c .before .before .before .before .args .st) _ (c .before .before .before .before .pre .0) (c .before .before .before .before .pre .2) (c .refused .ensures .0) (not-true _ (c .before .if1 .taken)), c .refused .ensures .1)
+returns c = lie-early _ _ (c .before .before .before .before .args .st) _ (c .before .before .before .before .pre .0) (c .before .before .before .before .pre .2) (c .refused .ensures) (not-true _ (c .before .if1 .taken))
 
-has-member-requires : tie.Need-has-member-requires
-has-member-requires c κs = search needs
+is-marked-requires : tie.Need-is-marked-requires
+is-marked-requires c κs = search needs
 
 refused-requires-2 : tie.Need-refused-requires-2
 refused-requires-2 c κs = search needs
 
 returns-2 : tie.Need-returns-2
-returns-2 c = (lie-unmarked _ _ _ (c .before .before .before .before .before .before .args .st) _ (c .before .before .before .before .before .before .pre .0) (c .before .before .before .before .before .before .pre .2) (not-false _ (c .before .before .before .if1 .left)) (c .refused2 .ensures .0) (marked-is _ _ _ (c .before .before .has-member .ensures) ∙ not-true _ (c .before .if2 .taken)), c .refused2 .ensures .1)
+returns-2 c = lie-unmarked _ _ (c .before .before .before .before .before .before .args .st) _ (c .before .before .before .before .before .before .pre .0) (c .before .before .before .before .before .before .pre .2) (not-false _ (c .before .before .before .if1 .left)) (c .refused2 .ensures) (sym (c .before .before .is-marked .ensures) ∙ not-true _ (c .before .if2 .taken))
 
 find-requires : tie.Need-find-requires
 find-requires c κs = search needs
@@ -41,7 +35,7 @@ refused-requires-3 : tie.Need-refused-requires-3
 refused-requires-3 c κs = search needs
 
 returns-3 : tie.Need-returns-3
-returns-3 c = (lie-again _ _ _ (c .before .before .before .before .before .before .before .before .before .before .args .st) _ (c .before .before .before .before .before .before .before .before .before .before .pre .0) (c .before .before .before .before .before .before .before .before .before .before .pre .2) (not-false _ (c .before .before .before .before .before .before .before .if1 .left)) (marked-is _ _ _ (c .before .before .before .before .before .before .has-member .ensures) ∙ not-false _ (c .before .before .before .before .before .if2 .left)) (c .refused3 .ensures .0) _ (sym (c .before .enum-told .given .1) ∙ c .before .before .before .find .ensures), c .refused3 .ensures .1)
+returns-3 c = lie-again _ _ (c .before .before .before .before .before .before .before .before .before .before .args .st) _ (c .before .before .before .before .before .before .before .before .before .before .pre .0) (c .before .before .before .before .before .before .before .before .before .before .pre .2) (not-false _ (c .before .before .before .before .before .before .before .if1 .left)) (sym (c .before .before .before .before .before .before .is-marked .ensures) ∙ not-false _ (c .before .before .before .before .before .if2 .left)) (c .refused3 .ensures) _ (sym (c .before .enum-told .given .1) ∙ c .before .before .before .find .ensures)
 
 enum-told-2 : tie.Need-enum-told-2
 enum-told-2 c = search needs
@@ -59,13 +53,19 @@ refused-requires-4 : tie.Need-refused-requires-4
 refused-requires-4 c κs = search needs
 
 returns-4 : tie.Need-returns-4
-returns-4 c = (lie-full _ _ _ (c .before .before .before .before .before .before .before .before .before .before .before .before .before .before .args .st) _ (c .before .before .before .before .before .before .before .before .before .before .before .before .before .before .pre .0) (c .before .before .before .before .before .before .before .before .before .before .before .before .before .before .pre .2) (not-false _ (c .before .before .before .before .before .before .before .before .before .before .before .if1 .left)) (marked-is _ _ _ (c .before .before .before .before .before .before .before .before .before .before .has-member .ensures) ∙ not-false _ (c .before .before .before .before .before .before .before .before .before .if2 .left)) _ (found-none _ (sym (c .before .before .before .before .before .enum-told2 .given .1) ∙ c .before .before .before .before .before .before .before .find .ensures)) (c .refused4 .ensures .0) (appended (c .before .before .before .append .ensures) (c .before .enum-told3 .given .1)), c .refused4 .ensures .1)
+returns-4 c = lie-full _ _ (c .before .before .before .before .before .before .before .before .before .before .before .before .before .before .args .st) _ (c .before .before .before .before .before .before .before .before .before .before .before .before .before .before .pre .0) (c .before .before .before .before .before .before .before .before .before .before .before .before .before .before .pre .2) (not-false _ (c .before .before .before .before .before .before .before .before .before .before .before .if1 .left)) (sym (c .before .before .before .before .before .before .before .before .before .before .is-marked .ensures) ∙ not-false _ (c .before .before .before .before .before .before .before .before .before .if2 .left)) _ (found-none _ (sym (c .before .before .before .before .before .enum-told2 .given .1) ∙ c .before .before .before .before .before .before .before .find .ensures)) (c .refused4 .ensures) (appended (c .before .before .before .append .ensures) (c .before .enum-told3 .given .1))
 
-cast-t20 : tie.Need-cast-t20
-cast-t20 c = search needs
+cast-taken : tie.Need-cast-taken
+cast-taken c = search needs
+
+taken-requires : tie.Need-taken-requires
+taken-requires c κs = search needs
+
+told-requires : tie.Need-told-requires
+told-requires c κs = search needs
 
 returns-5 : tie.Need-returns-5
-returns-5 c = (lie-taken _ _ (c .before .before .before .before .before .before .before .before .before .before .before .before .before .before .args .g) (c .before .before .before .before .before .before .before .before .before .before .before .before .before .before .args .c) (c .before .before .before .before .before .before .before .before .before .before .before .before .before .before .args .st) (c .before .before .before .before .before .before .before .before .before .before .before .before .before .before .pre .0) (c .before .before .before .before .before .before .before .before .before .before .before .before .before .before .pre .2) (c .before .before .before .before .before .before .before .before .before .before .before .before .before .before .pre .1) (not-false _ (c .before .before .before .before .before .before .before .before .before .before .before .if1 .left)) (marked-is _ _ _ (c .before .before .before .before .before .before .before .before .before .before .has-member .ensures) ∙ not-false _ (c .before .before .before .before .before .before .before .before .before .if2 .left)) _ (found-none _ (sym (c .before .before .before .before .before .enum-told2 .given .1) ∙ c .before .before .before .before .before .before .before .find .ensures)) (appended (c .before .before .before .append .ensures) (c .before .placed .given .1)) _, refl)
+returns-5 c = lie-taken _ _ (c .before .before .before .before .before .before .before .before .before .before .before .before .before .before .before .before .args .g) (c .before .before .before .before .before .before .before .before .before .before .before .before .before .before .before .before .args .st) (c .before .before .before .before .before .before .before .before .before .before .before .before .before .before .before .before .pre .0) (c .before .before .before .before .before .before .before .before .before .before .before .before .before .before .before .before .pre .2) (c .before .before .before .before .before .before .before .before .before .before .before .before .before .before .before .before .pre .1) (not-false _ (c .before .before .before .before .before .before .before .before .before .before .before .before .before .if1 .left)) (sym (c .before .before .before .before .before .before .before .before .before .before .before .before .is-marked .ensures) ∙ not-false _ (c .before .before .before .before .before .before .before .before .before .before .before .if2 .left)) _ (found-none _ (sym (c .before .before .before .before .before .before .before .enum-told2 .given .1) ∙ c .before .before .before .before .before .before .before .before .before .find .ensures)) (appended (c .before .before .before .before .before .append .ensures) (c .before .before .before .placed .given .1)) _ (told-as (c .before .taken .ensures) (c .told .ensures))
 
 pub lie-spec : {M : Type 1} → statement M
 lie-spec =
@@ -74,7 +74,7 @@ lie-spec =
     cast-who
     refused-requires
     returns
-    has-member-requires
+    is-marked-requires
     refused-requires-2
     returns-2
     find-requires
@@ -87,5 +87,7 @@ lie-spec =
     enum-told-3
     refused-requires-4
     returns-4
-    cast-t20
+    cast-taken
+    taken-requires
+    told-requires
     returns-5)

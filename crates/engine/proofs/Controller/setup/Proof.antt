@@ -1,6 +1,4 @@
 use native.Mathlib.Omega.{arith}
-use mathlib.Core.Path.{refl}
-use borrow.Author.Tests.{not-true, not-false}
 use Rattle.engine.specs.declared.Refusal.the-variants.{BadSetup}
 use Rattle.engine.proofs.Requests.{barred, began, setup-again, setup-barred, setup-taken, no-members, far-number, far-sender, allowed}
 use borrow.Author.Needs.{needs}
@@ -11,63 +9,36 @@ use Rattle.engine.proofs.Controller.setup.Lts as lts
 use Rattle.engine.proofs.calls.refuse.Reads as refuse-reads
 use Rattle.engine.proofs.calls.start.Reads as start-reads
 use Rattle.engine.proofs.calls.take.Reads as take-reads
+use Rattle.pool.proofs.record_clear.Reads as record-clear-reads
 
--- src/calls.rt:108:13
-refuse-requires : tie.Need-refuse-requires
-refuse-requires c κs = search needs
-
--- src/calls.rt:108:13
 returns : tie.Need-returns
-returns c = barred (c .before .before .args .self) BadSetup (c .refuse .ensures .0) (c .refuse .ensures .1) (λ X. setup-again (c .before .before .args .self) X _ _ _ (c .before .if1 .taken))
+returns c = barred _ (c .before .before .args .self) BadSetup (c .refuse .ensures .0) (c .refuse .ensures .1) (λ X. setup-again (c .before .before .args .self) X _ _ _ (c .before .if1 .taken))
 
--- src/calls.rt:111:13
-refuse-requires-2 : tie.Need-refuse-requires-2
-refuse-requires-2 c κs = search needs
-
--- src/calls.rt:111:13
 returns-2 : tie.Need-returns-2
-returns-2 c = barred (c .before .before .before .args .self) BadSetup (c .refuse2 .ensures .0) (c .refuse2 .ensures .1) (λ X. setup-barred (c .before .before .before .args .self) X _ _ _ (c .before .before .if1 .left) (no-members _ _ _ (c .before .if2 .taken)))
+returns-2 c = barred _ (c .before .before .before .args .self) BadSetup (c .refuse2 .ensures .0) (c .refuse2 .ensures .1) (λ X. setup-barred (c .before .before .before .args .self) X _ _ _ (c .before .before .if1 .left) (no-members _ _ _ (c .before .if2 .taken)))
 
--- src/calls.rt:114:13
-refuse-requires-3 : tie.Need-refuse-requires-3
-refuse-requires-3 c κs = search needs
-
--- src/calls.rt:114:13
 returns-3 : tie.Need-returns-3
-returns-3 c = barred (c .before .before .before .before .args .self) BadSetup (c .refuse3 .ensures .0) (c .refuse3 .ensures .1) (λ X. setup-barred (c .before .before .before .before .args .self) X _ _ _ (c .before .before .before .if1 .left) (far-number _ _ _ (c .before .if3 .taken)))
+returns-3 c = barred _ (c .before .before .before .before .args .self) BadSetup (c .refuse3 .ensures .0) (c .refuse3 .ensures .1) (λ X. setup-barred (c .before .before .before .before .args .self) X _ _ _ (c .before .before .before .if1 .left) (far-number _ _ _ (c .before .if3 .taken)))
 
--- src/calls.rt:117:13
-refuse-requires-4 : tie.Need-refuse-requires-4
-refuse-requires-4 c κs = search needs
-
--- src/calls.rt:117:13
 returns-4 : tie.Need-returns-4
-returns-4 c = barred (c .before .before .before .before .before .args .self) BadSetup (c .refuse4 .ensures .0) (c .refuse4 .ensures .1) (λ X. setup-barred (c .before .before .before .before .before .args .self) X _ _ _ (c .before .before .before .before .if1 .left) (far-sender _ _ _ (c .before .if4 .taken)))
+returns-4 c = barred _ (c .before .before .before .before .before .args .self) BadSetup (c .refuse4 .ensures .0) (c .refuse4 .ensures .1) (λ X. setup-barred (c .before .before .before .before .before .args .self) X _ _ _ (c .before .before .before .before .if1 .left) (far-sender _ _ _ (c .before .if4 .taken)))
 
--- src/calls.rt:119:14
-start-requires : tie.Need-start-requires
-start-requires c κs = search needs
-
--- src/calls.rt:119:9
-take-requires : tie.Need-take-requires
-take-requires c κs = search needs
-
--- src/calls.rt:104:5
 returns-5 : tie.Need-returns-5
-returns-5 c = began (c .before .before .before .before .before .before .args .self) (c .before .start .result) (c .take .ensures .0) (c .take .ensures .1) (c .before .start .ensures .0) (c .before .start .ensures .1) (λ X. setup-taken (c .before .before .before .before .before .before .args .self) X _ _ _ (c .before .before .before .before .before .if1 .left) (allowed _ _ _ (c .before .before .before .before .if2 .left) (omega arith) (omega arith) (omega arith)))
+returns-5 c = began (c .before .before .before .before .before .before .before .before .args .self) (c .before .start .result) (c .take .ensures .0) (c .take .ensures .1) (c .before .start .ensures) (c .before .before .record-clear .ensures) (λ X. setup-taken (c .before .before .before .before .before .before .before .before .args .self) X _ _ _ (c .before .before .before .before .before .before .before .if1 .left) (allowed _ _ _ (c .before .before .before .before .before .before .if2 .left) (omega arith) (omega arith) (omega arith)))
 
 pub setup-spec : {M : Type 1} → statement M
 setup-spec =
     tie.close
     (tie.spec
-    refuse-requires
+    (λ c κs. search needs)
     returns
-    refuse-requires-2
+    (λ c κs. search needs)
     returns-2
-    refuse-requires-3
+    (λ c κs. search needs)
     returns-3
-    refuse-requires-4
+    (λ c κs. search needs)
     returns-4
-    start-requires
-    take-requires
+    (λ c κs. search needs)
+    (λ c κs. search needs)
+    (λ c κs. search needs)
     returns-5)

@@ -1,4 +1,3 @@
-use native.Mathlib.Omega.{arith}
 use Rattle.engine.proofs.Requests.{first-one, first-none}
 use borrow.Author.Needs.{needs}
 use Rattle.engine.proofs.calls.entered_first.Statement.{statement}
@@ -9,31 +8,13 @@ use Rattle.views.proofs.History.new.Reads as new-reads
 use Rattle.views.proofs.History.push.Reads as push-reads
 use Rattle.views.proofs.View.has_member.Reads as has-member-reads
 
--- src/calls.rt:44:8
-has-member-requires : tie.Need-has-member-requires
-has-member-requires c κs = search needs
-
--- src/calls.rt:45:16
-new-requires : tie.Need-new-requires
-new-requires c κs = search needs
-
--- src/calls.rt:45:9
-push-requires : tie.Need-push-requires
-push-requires c κs = search needs
-
--- src/calls.rt:45:9
 returns : tie.Need-returns
 returns c = first-one _ _ _ _ _ (c .before .before .before .has-member .ensures) (c .before .before .if1 .taken) (c .before .new .ensures .0) (c .push .ensures .0)
 
--- src/calls.rt:47:5
-new-requires-2 : tie.Need-new-requires-2
-new-requires-2 c κs = search needs
-
--- src/calls.rt:41:1
 returns-2 : tie.Need-returns-2
 returns-2 c = first-none _ _ _ _ (c .before .before .has-member .ensures) (c .before .if1 .left) (c .new2 .ensures .0)
 
 pub entered-first-spec : {M : Type 1} → statement M
 entered-first-spec =
     tie.close
-    (tie.spec has-member-requires new-requires push-requires returns new-requires-2 returns-2)
+    (tie.spec (λ c κs. search needs) (λ c κs. search needs) (λ c κs. search needs) returns (λ c κs. search needs) returns-2)

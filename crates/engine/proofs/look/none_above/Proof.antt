@@ -1,6 +1,6 @@
 use borrow.Author.Needs.{needs}
 use native.Mathlib.Omega.{arith}
-use mathlib.Core.Path.{_≡_, sym, ap, _∙_}
+use mathlib.Core.Path.{_≡_, sym}
 use mathlib.Core.Bool.{true, not}
 use Prim.Native.Nat.{_-_, _≤_}
 use Rattle.protocol.specs.Lists.{all}
@@ -23,43 +23,15 @@ Inv-loop t n views p₀ p = (p ≤ n) × (all (notAbove (viewIs t)) (table p (he
 abbrev μ-loop : tie.MeasureT-loop
 μ-loop t n views p₀ p = n - p
 
--- src/look.rt:565:9
-count-requires : tie.Need-count-requires Inv-loop μ-loop
-count-requires c κs = search needs
-
--- src/look.rt:568:5
 loop-holds : tie.Need-loop-holds Inv-loop μ-loop
 loop-holds c = (omega arith, all-zero _ _)
 
--- src/look.rt:569:17
-mul-u : tie.Need-mul-u Inv-loop μ-loop
-mul-u c = search needs
-
--- src/look.rt:569:17
-array-copy-out-u : tie.Need-array-copy-out-u Inv-loop μ-loop
-array-copy-out-u c = search needs
-
--- src/look.rt:570:12
-below-requires : tie.Need-below-requires Inv-loop μ-loop
-below-requires c κs = search needs
-
--- src/look.rt:571:13
 returns : tie.Need-returns Inv-loop μ-loop
 returns c = of-history (all (notAbove (viewIs (c .before .before .before .before .before .before .before .args .t)))) _ _ (c .before .before .before .before .before .before .count .ensures .0) (sym (all-miss _ _ _ (c .before .before .before .loop-test .taken) (above _ _ _ (c .before .below .ensures) (c .if1 .taken))))
 
--- src/look.rt:573:9
-add-p : tie.Need-add-p Inv-loop μ-loop
-add-p c = search needs
-
--- src/look.rt:568:5
-loop-less : tie.Need-loop-less Inv-loop μ-loop
-loop-less c = search needs
-
--- src/look.rt:568:5
 loop-again : tie.Need-loop-again Inv-loop μ-loop
 loop-again c = (omega arith, all-more _ _ _ (c .before .before .before .before .loop .inv .1) (level _ _ _ (c .before .below .ensures) (c .if1 .left)))
 
--- src/look.rt:562:1
 returns-2 : tie.Need-returns-2 Inv-loop μ-loop
 returns-2 c = of-history (all (notAbove (viewIs (c .before .before .before .before .args .t)))) _ _ (omega (arith, c .before .before .before .count .ensures .0)) (sym (c .before .loop .inv .1))
 
@@ -69,13 +41,13 @@ none-above-spec =
     (tie.spec
     Inv-loop
     μ-loop
-    count-requires
+    (λ c κs. search needs)
     loop-holds
-    mul-u
-    array-copy-out-u
-    below-requires
+    (λ c. search needs)
+    (λ c. search needs)
+    (λ c κs. search needs)
     returns
-    add-p
-    loop-less
+    (λ c. search needs)
+    (λ c. search needs)
     loop-again
     returns-2)

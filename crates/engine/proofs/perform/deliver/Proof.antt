@@ -1,5 +1,3 @@
-use borrow.Author.Needs.{needs}
-use native.Mathlib.Omega.{arith}
 use mathlib.Core.Path.{refl}
 use Rattle.engine.specs.Meaning.{controllerIs}
 use Rattle.engine.proofs.perform.deliver.Statement.{statement}
@@ -7,10 +5,9 @@ use Rattle.engine.proofs.perform.deliver.Tie as tie
 use Rattle.engine.proofs.perform.deliver.Reads as reads
 use Rattle.engine.proofs.perform.deliver.Lts as lts
 
--- src/perform.rt:74:1
 returns : tie.Need-returns
 unfolding controllerIs
-returns c = (refl, refl, refl)
+returns c = (refl, refl)
 
 pub deliver-spec : {M : Type 1} → statement M
 deliver-spec = tie.close (tie.spec returns)

@@ -1,15 +1,15 @@
+use borrow.Author.Needs.{needs}
 use native.Mathlib.Omega.{arith}
 use Prim.Native.Nat.{_-_, _≤_}
 use Rattle.evidence.proofs.Payloads as laws
-use borrow.Author.Needs.{needs}
 use Rattle.evidence.proofs.prepares.is_listed.Statement.{statement}
 use Rattle.evidence.proofs.prepares.is_listed.Tie as tie
 
 abbrev Inv-loop : tie.InvT-loop
-Inv-loop prepared n m i₀ i = (i ≤ n) × laws.Unlisted prepared m i
+Inv-loop prepared m n i₀ i = (i ≤ n) × laws.Unlisted prepared m i
 
 abbrev μ-loop : tie.MeasureT-loop
-μ-loop prepared n m i₀ i = n - i
+μ-loop prepared m n i₀ i = n - i
 
 pub is-listed-spec : {M : Type 1} → statement M
 is-listed-spec =
@@ -17,11 +17,12 @@ is-listed-spec =
     (tie.spec
     Inv-loop
     μ-loop
+    (λ c κs. search needs)
     (λ c. (omega arith, laws.unlisted-first _ _))
-    (λ c. search needs)
-    (λ c. search needs)
-    (λ c. laws.listed-found _ _ _ (c .before .before .loop-test .taken) (c .if1 .taken))
-    (λ c. search needs)
+    (λ c. omega (arith, c .before .before .payload-count .ensures .1))
+    (λ c. omega (arith, c .before .before .payload-count .ensures .1))
+    (λ c. laws.listed-found _ _ _ (omega (arith, c .before .before .loop-test .taken, c .before .before .before .before .payload-count .ensures .0)) (c .if1 .taken))
+    (λ c. omega (arith, c .before .before .before .before .payload-count .ensures .1))
     (λ c. search needs)
     (λ c. (omega arith, laws.unlisted-next _ _ (c .if1 .left) (c .before .before .before .loop .inv .1)))
-    (λ c. laws.listed-none _ _ _ (omega arith) (c .before .loop .inv .1)))
+    (λ c. laws.listed-none _ _ _ (omega (arith, c .before .before .payload-count .ensures .0)) (c .before .loop .inv .1)))

@@ -12,18 +12,18 @@ use Rattle.evidence.proofs.prepares.is_prepared.Statement.{statement}
 use Rattle.evidence.proofs.prepares.is_prepared.Tie as tie
 
 abbrev Inv-loop : tie.InvT-loop
-Inv-loop words ids len sender m end i₀ i = (i ≤ end) × (any (preparesIt sender m) (recordOf words ids i) ≡ false)
+Inv-loop words ids sender m end i₀ i = (i ≤ end) × (any (preparesIt sender m) (recordOf words ids i) ≡ false)
 
 abbrev μ-loop : tie.MeasureT-loop
-μ-loop words ids len sender m end i₀ i = end - i
+μ-loop words ids sender m end i₀ i = end - i
 
 returns : tie.Need-returns Inv-loop μ-loop
 unfolding isPrepared preparesIt
-returns c = sym (records.found _ _ _ _ _ (omega (arith, c .before .before .before .before .before .limit .ensures .0)) (sym (c .before .prepares-it .ensures) ∙ c .if1 .taken))
+returns c = sym (records.found _ _ _ _ _ (omega (arith, c .before .before .before .before .before .record-length .ensures .0)) (sym (c .before .prepares-it .ensures) ∙ c .if1 .taken))
 
 returns-2 : tie.Need-returns-2 Inv-loop μ-loop
 unfolding isPrepared preparesIt
-returns-2 c = sym (records.none _ _ _ _ _ (omega (arith, c .before .before .limit .ensures .0)) (c .before .loop .inv .1))
+returns-2 c = sym (records.none _ _ _ _ _ (omega (arith, c .before .before .record-length .ensures .0)) (c .before .loop .inv .1))
 
 pub is-prepared-spec : {M : Type 1} → statement M
 is-prepared-spec =
@@ -39,5 +39,5 @@ is-prepared-spec =
     returns
     (λ c. search needs)
     (λ c. search needs)
-    (λ c. (omega arith, records.none-next _ _ _ _ (omega (arith, c .before .before .before .before .before .limit .ensures .1)) (c .before .before .before .before .loop .inv .1) (sym (c .before .prepares-it .ensures) ∙ c .if1 .left)))
+    (λ c. (omega arith, records.none-next _ _ _ _ (omega (arith, c .before .before .before .before .before .record-length .ensures .1)) (c .before .before .before .before .loop .inv .1) (sym (c .before .prepares-it .ensures) ∙ c .if1 .left)))
     returns-2)

@@ -1,7 +1,7 @@
+use borrow.Author.Needs.{needs}
 use native.Mathlib.Omega.{arith}
 use Prim.Native.Nat.{_-_, _≤_}
 use Rattle.evidence.proofs.Payloads as laws
-use borrow.Author.Needs.{needs}
 use Rattle.evidence.proofs.prepares.is_twofold.Statement.{statement}
 use Rattle.evidence.proofs.prepares.is_twofold.Tie as tie
 
@@ -17,12 +17,13 @@ is-twofold-spec =
     (tie.spec
     Inv-loop
     μ-loop
+    (λ c κs. search needs)
     (λ c. search needs)
     (λ c. (omega arith, laws.onefold-first _))
-    (λ c. search needs)
-    (λ c. search needs)
-    (λ c. laws.twofold-found _ _ (c .before .before .loop-test .taken) (c .if1 .taken))
-    (λ c. search needs)
+    (λ c. omega (arith, c .before .before .before .payload-count .ensures .1))
+    (λ c. omega (arith, c .before .before .before .payload-count .ensures .1))
+    (λ c. laws.twofold-found _ _ (omega (arith, c .before .before .loop-test .taken, c .before .before .before .before .before .payload-count .ensures .0)) (c .if1 .taken))
+    (λ c. omega (arith, c .before .before .before .before .before .payload-count .ensures .1))
     (λ c. search needs)
     (λ c. (omega arith, laws.onefold-next _ (c .if1 .left) (c .before .before .before .loop .inv .1)))
-    (λ c. laws.twofold-none _ _ (omega arith) (c .before .loop .inv .1)))
+    (λ c. laws.twofold-none _ _ (omega (arith, c .before .before .before .payload-count .ensures .0)) (c .before .loop .inv .1)))

@@ -21,12 +21,10 @@ Inv-loop words s list n c p₀ p = (p ≤ c) × (all (λ v. any (sameView v) (vi
 abbrev μ-loop : tie.MeasureT-loop
 μ-loop words s list n c p₀ p = c - p
 
--- src/reports.rt:86:13
 returns : tie.Need-returns Inv-loop μ-loop
 unfolding holds
 returns c = of-views (holds (viewsOf (c .before .before .before .before .before .before .args .list .now) (c .before .before .before .before .before .before .args .n))) _ _ _ (c .before .before .before .before .before .count .ensures .0) (sym (all-miss _ _ _ (c .before .before .before .loop-test .taken) (ap (λ v. any (sameView v) (viewsOf (c .before .before .before .before .before .before .args .list .now) (c .before .before .before .before .before .before .args .n))) (sym (c .before .before .nth .ensures)) ∙ sym (c .before .is-in .ensures) ∙ not-true _ (c .if1 .taken))))
 
--- src/reports.rt:78:1
 returns-2 : tie.Need-returns-2 Inv-loop μ-loop
 unfolding holds
 returns-2 c = of-views (holds (viewsOf (c .before .before .before .args .list .now) (c .before .before .before .args .n))) _ _ _ (omega (arith, c .before .before .count .ensures .0)) (sym (c .before .loop .inv .1))

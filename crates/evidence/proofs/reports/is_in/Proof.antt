@@ -18,17 +18,14 @@ Inv-loop list n v i₀ i = (i ≤ n) × (any (sameView (viewOf v)) (viewsOf list
 abbrev μ-loop : tie.MeasureT-loop
 μ-loop list n v i₀ i = n - i
 
--- src/reports.rt:57:5
 loop-holds : tie.Need-loop-holds Inv-loop μ-loop
 unfolding viewsOf
 loop-holds c = (omega arith, any-zero _ _)
 
--- src/reports.rt:59:13
 returns : tie.Need-returns Inv-loop μ-loop
 unfolding viewsOf
 returns c = sym (any-at _ _ _ (c .before .before .loop-test .taken) (same-yes _ _ (ap viewOf (sym (c .if1 .taken) ∙ c .before .view-in .ensures))))
 
--- src/reports.rt:57:5
 loop-again : tie.Need-loop-again Inv-loop μ-loop
 unfolding viewsOf
 loop-again c = (omega arith, any-more _ _ _ (c .before .before .before .loop .inv .1) (same-no _ _ (λ q. c .if1 .left (view-inj _ _ (omega arith) (omega arith) (ap viewOf (c .before .view-in .ensures) ∙ sym q)))))

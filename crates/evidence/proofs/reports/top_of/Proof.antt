@@ -6,12 +6,10 @@ use borrow.Author.Needs.{needs}
 use Rattle.evidence.proofs.reports.top_of.Statement.{statement}
 use Rattle.evidence.proofs.reports.top_of.Tie as tie
 
--- src/reports.rt:72:9
 returns : tie.Need-returns
 unfolding viewsOf
 returns c = top-none _ (ring (c .before .args .init)) _ (c .if1 .taken)
 
--- src/reports.rt:67:1
 returns-2 : tie.Need-returns-2
 unfolding viewsOf
 returns-2 c = ap viewOf (c .view-in .ensures) ∙ top-some _ (ring (c .before .before .args .init)) _ (c .before .if1 .left)

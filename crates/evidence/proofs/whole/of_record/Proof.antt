@@ -1,5 +1,5 @@
-use mathlib.Core.Path.{sym, _∙_}
 use borrow.Author.Needs.{needs}
+use mathlib.Core.Path.{sym, _∙_}
 use Rattle.evidence.proofs.whole.of_record.Statement.{statement}
 use Rattle.evidence.proofs.whole.of_record.Tie as tie
 
@@ -12,4 +12,4 @@ of-record-spec =
     (λ c. search needs)
     (λ c κs. search needs)
     (λ c κs. search needs)
-    (λ c. c .unvoted .ensures _ _ (sym (c .before .before .before .has-votes .ensures) ∙ c .before .before .if1 .left) (c .before .wished-by .ensures)))
+    (λ c. c .unvoted .ensures _ _ (sym (c .before .before .before .before .before .has-votes .ensures) ∙ c .before .before .before .before .if1 .left) (c .before .before .before .wished-by .ensures)))

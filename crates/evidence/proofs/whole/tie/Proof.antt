@@ -1,7 +1,11 @@
-use Rattle.evidence.proofs.Tied as laws
 use borrow.Author.Needs.{needs}
+use Rattle.evidence.proofs.Tied as laws
 use Rattle.evidence.proofs.whole.tie.Statement.{statement}
 use Rattle.evidence.proofs.whole.tie.Tie as tie
 
 pub tie-spec : {M : Type 1} → statement M
-tie-spec = tie.close (tie.spec (λ c κs. search needs) (λ c. laws.tied _ _ _ _ _ _ (c .one-of .ensures)))
+tie-spec =
+    tie.close
+    (tie.spec
+    (λ c κs. search needs)
+    (λ c. laws.tied _ _ _ _ _ _ (c .one-of .ensures)))

@@ -11,4 +11,4 @@ use Rattle.host.proofs.held.store.Reads as store-reads
 pub finish-spec : {M : Type 1} → statement M
 finish-spec =
     tie.close
-    (tie.spec (λ c κs. search needs) (λ c κs. search needs) (λ c. was-refused (c .before .before .before .args .o) _ _ _ _ (c .before .answer-number .ensures) (c .before .before .value-number .ensures) (c .if1 .taken)) (λ c κs. search needs) (λ c. was-kept (c .before .before .before .before .before .before .before .args .o) _ _ _ _ (c .before .before .before .before .before .answer-number .ensures) (c .before .before .before .before .before .before .value-number .ensures) (c .before .before .before .before .if1 .left) _ _ (c .store .ensures)))
+    (tie.spec (λ c κs. search needs) (λ c κs. search needs) (λ c. was-refused (c .before .before .before .args .o) _ _ _ (c .before .answer-number .ensures) (c .before .before .value-number .ensures) (c .if1 .taken)) (λ c κs. search needs) (λ c. was-kept (c .before .before .before .before .before .before .args .o) _ _ _ (c .before .before .before .before .answer-number .ensures) (c .before .before .before .before .before .value-number .ensures) (c .before .before .before .if1 .left) _ (c .store .ensures)))

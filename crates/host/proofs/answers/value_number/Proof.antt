@@ -1,4 +1,6 @@
+use native.Mathlib.Omega.{arith}
 use mathlib.Core.Path.{sym, ap, _∙_}
+use Rattle.pool.proofs.Writes.{word-of}
 use Rattle.engine.specs.Meaning.{answerIs}
 use Rattle.host.specs.Host.{valueNumber}
 use borrow.Author.Needs.{needs}
@@ -7,7 +9,7 @@ use Rattle.host.proofs.answers.value_number.Tie as tie
 use Rattle.host.proofs.answers.value_number.Reads as reads
 use Rattle.host.proofs.answers.value_number.Lts as lts
 use Rattle.host.proofs.answers.refusal_number.Reads as refusal-number-reads
-use Rattle.host.proofs.held.word_of.Reads as word-of-reads
+use Rattle.views.proofs.View.word.Reads as word-reads
 
 pub value-number-spec : {M : Type 1} → statement M
 unfolding valueNumber answerIs
@@ -26,7 +28,7 @@ value-number-spec =
     (λ c κs. search needs)
     (λ c. search needs)
     (λ c. search needs)
-    (λ c. c .word-of .ensures .0 ∙ sym (ap valueNumber (c .before .before .a2 .given .1)))
+    (λ c. word-of _ _ (omega arith) (c .word .ensures) ∙ sym (ap valueNumber (c .before .before .a2 .given .1)))
     (λ c. search needs)
     (λ c. search needs)
     (λ c. search needs)

@@ -18,7 +18,6 @@ load-spec =
     (λ c. search needs)
     (λ c. search needs)
     (λ c. search needs)
-    (λ c. search needs)
     (λ c κs. search needs)
     (λ c. search needs)
     (λ c. search needs)
@@ -31,4 +30,4 @@ load-spec =
     (λ c. search needs)
     (λ c. search needs)
     (λ c κs. search needs)
-    (λ c. loaded _ _ (c .before .before .before .before .before .before .before .before .before .before .before .before .before .before .before .before .entered-in .ensures) (c .before .before .before .before .before .before .before .before .before .before .view-in .ensures) (c .before .before .before .before .before .before .binding-in .ensures) (c .send-in .ensures)))
+    (λ c. loaded _ (c .before .before .before .before .before .before .before .before .before .before .before .before .before .before .entered-in .ensures) (c .before .before .before .before .before .before .before .before .before .before .view-in .ensures) (c .before .before .before .before .before .before .binding-in .ensures) (c .send-in .ensures)))

@@ -1,7 +1,9 @@
+use borrow.Author.Needs.{needs}
+use native.Mathlib.Omega.{arith}
+use mathlib.Core.Path.{sym, _∙_}
+use lib.ListN.{getD, length-map}
 use Prim.Native.Nat.{_-_}
 use Rattle.host.proofs.Loading.{Stores, store-first, store-next, store-last}
-use native.Mathlib.Omega.{arith}
-use borrow.Author.Needs.{needs}
 use Rattle.host.proofs.held.words_of.Statement.{statement}
 use Rattle.host.proofs.held.words_of.Tie as tie
 use Rattle.host.proofs.held.words_of.Reads as reads
@@ -9,7 +11,7 @@ use Rattle.host.proofs.held.words_of.Lts as lts
 use Rattle.host.proofs.held.word_of.Reads as word-of-reads
 
 abbrev Inv-loop : tie.InvT-loop
-Inv-loop views words₀ i₀ words i = Stores views words i
+Inv-loop views words₀ i₀ words i = Stores (record { views = views; len = getD words₀ 12 0 }) words i
 
 abbrev μ-loop : tie.MeasureT-loop
 μ-loop views words₀ i₀ words i = 16 - i
@@ -20,7 +22,8 @@ words-of-spec =
     (tie.spec
     Inv-loop
     μ-loop
-    (λ c. store-first _)
+    (λ c. search needs)
+    (λ c. store-first (c .before .args .entered))
     (λ c. search needs)
     (λ c. search needs)
     (λ c κs. search needs)
@@ -29,5 +32,5 @@ words-of-spec =
     (λ c. search needs)
     (λ c. search needs)
     (λ c. search needs)
-    (λ c. store-next _ (c .before .before .before .loop .inv) (c .before .before .before .before .good .0 .1 .0 .1) (omega arith) (c .word-of .ensures .1))
-    (λ c. store-last (c .before .loop .inv) (c .before .before .good .0 .1 .0 .1) (omega arith)))
+    (λ c. store-next _ (c .before .before .before .loop .inv) (sym (length-map (c .before .before .before .before .before .args .entered .views) _) ∙ c .before .before .before .before .before .good .0 .1 .1 .0 .1 .0 .1) (omega arith) (c .word-of .ensures))
+    (λ c. store-last (c .before .loop .inv) (sym (length-map (c .before .before .before .args .entered .views) _) ∙ c .before .before .before .good .0 .1 .1 .0 .1 .0 .1) (omega arith)))

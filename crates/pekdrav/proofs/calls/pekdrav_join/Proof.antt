@@ -10,4 +10,4 @@ use Rattle.host.proofs.finish.Reads as finish-reads
 use Rattle.host.proofs.load.Reads as load-reads
 
 pub pekdrav-join-spec : {M : Type 1} → statement M
-pekdrav-join-spec = tie.close (tie.spec (λ c κs. search needs) (λ c κs. search needs) (λ c κs. search needs) (λ c. call-hosted call.requestJoin _ (c .before .before .before .before .before .load .ensures) (c .before .before .before .before .join .ensures) (c .finish .ensures)))
+pekdrav-join-spec = tie.close (tie.spec (λ c κs. search needs) (λ c κs. search needs) (λ c κs. search needs) (λ c. λ R. call-hosted _ (c .before .before .before .before .load .ensures) (c .finish .ensures) R call.requestJoin (c .before .before .before .join .ensures)))

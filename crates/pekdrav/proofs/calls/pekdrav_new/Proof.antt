@@ -6,6 +6,7 @@ use Rattle.pekdrav.proofs.calls.pekdrav_new.Reads as reads
 use Rattle.pekdrav.proofs.calls.pekdrav_new.Lts as lts
 use Rattle.engine.proofs.Controller.new.Reads as new-reads
 use Rattle.host.proofs.store.Reads as store-reads
+use Rattle.pool.proofs.record_clear.Reads as record-clear-reads
 
 pub pekdrav-new-spec : {M : Type 1} → statement M
-pekdrav-new-spec = tie.close (tie.spec (λ c κs. search needs) (λ c κs. search needs) (λ c. fresh _ _ _ (c .before .before .before .new .ensures) (c .store .ensures)))
+pekdrav-new-spec = tie.close (tie.spec (λ c κs. search needs) (λ c κs. search needs) (λ c κs. search needs) (λ c. fresh _ _ _ (c .before .before .before .before .new .ensures) (c .before .before .store .ensures) (c .record-clear .ensures .len)))

@@ -10,4 +10,4 @@ use Rattle.host.proofs.finish.Reads as finish-reads
 use Rattle.host.proofs.load.Reads as load-reads
 
 pub pekdrav-send-spec : {M : Type 1} → statement M
-pekdrav-send-spec = tie.close (tie.spec (λ c κs. search needs) (λ c κs. search needs) (λ c κs. search needs) (λ c. call-hosted (λ d X. call.requestSend d X (c .before .before .before .before .before .before .before .before .args .payload)) _ (c .before .before .before .before .before .load .ensures) (c .before .before .before .before .send .ensures) (c .finish .ensures)))
+pekdrav-send-spec = tie.close (tie.spec (λ c κs. search needs) (λ c κs. search needs) (λ c κs. search needs) (λ c. λ R. call-hosted _ (c .before .before .before .before .load .ensures) (c .finish .ensures) R (λ d X. call.requestSend d X (c .before .before .before .before .before .before .args .payload)) (c .before .before .before .send .ensures)))

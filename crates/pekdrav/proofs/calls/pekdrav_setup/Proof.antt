@@ -9,4 +9,4 @@ use Rattle.host.proofs.finish.Reads as finish-reads
 use Rattle.host.proofs.load.Reads as load-reads
 
 pub pekdrav-setup-spec : {M : Type 1} → statement M
-pekdrav-setup-spec = tie.close (tie.spec (λ c κs. search needs) (λ c κs. search needs) (λ c κs. search needs) (λ c. setup-hosted (c .before .before .before .before .before .before .before .before .args .number) (c .before .before .before .before .before .before .before .before .args .members) (c .before .before .before .before .before .before .before .before .args .sender) _ (c .before .before .before .before .before .load .ensures) (c .before .before .before .before .setup .ensures) (c .finish .ensures)))
+pekdrav-setup-spec = tie.close (tie.spec (λ c κs. search needs) (λ c κs. search needs) (λ c κs. search needs) (λ c. setup-hosted _ (c .before .before .before .before .before .load .ensures) (c .finish .ensures) (c .before .before .before .before .before .before .before .args .number) (c .before .before .before .before .before .before .before .args .members) (c .before .before .before .before .before .before .before .args .sender) (c .before .before .before .setup .ensures)))

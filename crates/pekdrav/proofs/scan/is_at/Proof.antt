@@ -1,6 +1,7 @@
 use native.Mathlib.Omega.{arith}
+use Rattle.pool.proofs.Laws.{at-fits}
 use Rattle.pekdrav.specs.Scan.{isAt}
-use Rattle.pekdrav.proofs.Keys.{key-at}
+use Rattle.pekdrav.proofs.Keys.{small, far-at, key-at}
 use borrow.Author.Needs.{needs}
 use Rattle.pekdrav.proofs.scan.is_at.Statement.{statement}
 use Rattle.pekdrav.proofs.scan.is_at.Tie as tie
@@ -11,7 +12,11 @@ use Rattle.pool.proofs.kind.Reads as kind-reads
 
 returns : tie.Need-returns
 unfolding isAt
-returns c = key-at (c .before .kind .result) (c .at .result) (c .before .before .args .kind) (c .before .before .args .at) _ _ (omega arith) (omega arith) (c .before .kind .ensures .0) (c .at .ensures)
+returns c = far-at (c .before .at .result) (c .before .before .before .args .at) _ (c .before .before .before .args .kind) _ (c .before .at .ensures) (at-fits _ _) (omega arith) (omega arith) (omega arith)
+
+returns-2 : tie.Need-returns-2
+unfolding isAt
+returns-2 c = key-at (c .before .at .result) (c .before .before .before .args .at) _ (c .before .before .before .args .kind) _ (c .before .at .ensures) (at-fits _ _) (omega arith) (omega arith) (c .before .before .kind .result) (omega arith) (c .before .before .kind .ensures .0)
 
 pub is-at-spec : {M : Type 1} → statement M
 is-at-spec =
@@ -19,9 +24,9 @@ is-at-spec =
     (tie.spec
     (λ c κs. search needs)
     (λ c κs. search needs)
+    returns
+    (λ c. search needs)
+    (λ c. omega (arith, small (c .before .at .result) _ (c .before .at .ensures) (at-fits _ _) (omega arith), c .before .before .kind .ensures .1))
     (λ c. search needs)
     (λ c. search needs)
-    (λ c. search needs)
-    (λ c. search needs)
-    (λ c. search needs)
-    returns)
+    returns-2)

@@ -15,15 +15,15 @@ use Rattle.pekdrav.proofs.scan.pekdrav_signers.Tie as tie
 use Rattle.pekdrav.proofs.scan.pekdrav_signers.Reads as reads
 use Rattle.pekdrav.proofs.scan.pekdrav_signers.Lts as lts
 use Rattle.pekdrav.proofs.scan.is_at.Reads as is-at-reads
-use Rattle.pool.proofs.limit.Reads as limit-reads
+use Rattle.pool.proofs.record_length.Reads as record-length-reads
 use Rattle.pool.proofs.origin.Reads as origin-reads
 use Rattle.views.proofs.note.Reads as note-reads
 
 abbrev Inv-loop : tie.InvT-loop
-Inv-loop words ids len kind at end seen₀ i₀ seen i = (i ≤ end) × IsSet seen (signs (isAt kind (viewOf at)) (recordOf words ids i))
+Inv-loop words ids kind at end seen₀ i₀ seen i = (i ≤ end) × IsSet seen (signs (isAt kind (viewOf at)) (recordOf words ids i))
 
 abbrev μ-loop : tie.MeasureT-loop
-μ-loop words ids len kind at end seen₀ i₀ seen i = end - i
+μ-loop words ids kind at end seen₀ i₀ seen i = end - i
 
 pub pekdrav-signers-spec : {M : Type 1} → statement M
 pekdrav-signers-spec =
@@ -44,4 +44,4 @@ pekdrav-signers-spec =
     (λ c. search needs)
     (λ c. search needs)
     (λ c. (omega arith, set-next _ _ _ _ _ _ _ _ (omega arith) (c .before .before .before .before .before .before .loop .inv .1) (c .note .ensures) (c .before .before .before .is-at .ensures) (c .before .origin .ensures .0)))
-    (λ c. set-whole _ _ _ _ _ _ _ (omega arith) (c .before .before .limit .ensures .0) (c .before .loop .inv .1)))
+    (λ c. set-whole _ _ _ _ _ _ _ (omega arith) (c .before .before .record-length .ensures .0) (c .before .loop .inv .1)))

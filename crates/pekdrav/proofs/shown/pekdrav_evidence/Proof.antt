@@ -8,7 +8,7 @@ use Rattle.evidence.proofs.of_record.Reads as of-record-reads
 use Rattle.pekdrav.proofs.shown.room.Reads as room-reads
 use Rattle.pekdrav.proofs.shown.tell.Reads as tell-reads
 use Rattle.pekdrav.proofs.shown.when.Reads as when-reads
-use Rattle.pekdrav.proofs.shown.wide.Reads as wide-reads
+use Rattle.pekdrav.proofs.shown.told.Reads as told-reads
 
 pub pekdrav-evidence-spec : {M : Type 1} → statement M
 pekdrav-evidence-spec =
@@ -34,4 +34,4 @@ pekdrav-evidence-spec =
     (λ c. search needs)
     (λ c κs. search needs)
     (λ c κs. search needs)
-    (λ c. tells _ _ _ (c .before .before .before .before .before .before .before .before .before .before .before .before .before .before .before .before .before .before .before .args .out .now) (c .before .before .tell .last .0) (c .tell2 .last .0) (c .before .before .before .before .before .before .before .before .before .before .before .before .before .before .before .before .of-record .result) (c .before .before .before .before .before .before .wide .result) (c .before .before .before .before .before .before .before .before .before .before .when .result) (c .before .before .before .before .before .before .before .before .before .when2 .result) (c .before .before .before .before .before .when3 .result) (c .before .before .before .before .before .before .before .before .before .before .before .before .before .before .before .before .of-record .ensures) (c .before .before .before .before .before .before .before .before .before .before .before .before .before .before .before .before .before .room .ensures) (c .before .before .before .before .before .before .wide .ensures) (c .before .before .before .before .before .before .before .before .before .before .when .ensures) (c .before .before .before .before .before .before .before .before .before .when2 .ensures) (c .before .before .before .before .before .when3 .ensures) (c .before .before .tell .ensures) (c .tell2 .ensures)))
+    (λ c. tells _ _ _ (c .before .before .before .before .before .before .before .before .before .before .before .before .before .before .before .before .before .before .before .before .before .args .out .now) (c .before .before .before .tell .last .0) (c .tell2 .last .0) _ _ (c .before .before .before .before .before .before .before .before .before .before .before .before .before .before .before .before .of-record .result) (c .before .before .before .before .before .before .before .before .told .result) (c .before .before .before .before .before .before .before .before .before .before .before .before .when .result) (c .before .before .before .before .before .before .before .before .before .before .before .when2 .result) (c .before .before .before .before .before .before .before .when3 .result) (c .before .before .before .before .before .before .before .before .before .before .before .before .before .before .before .before .of-record .ensures) (c .before .before .before .before .before .before .before .before .before .before .before .before .before .before .before .before .before .before .before .room .ensures) (c .before .before .before .before .before .before .before .before .told .ensures) (c .before .before .before .before .before .before .before .before .before .before .before .before .when .ensures) (c .before .before .before .before .before .before .before .before .before .before .before .when2 .ensures) (c .before .before .before .before .before .before .before .when3 .ensures) (c .before .before .before .tell .ensures) (c .tell2 .ensures)))

@@ -10,10 +10,9 @@ use Rattle.pool.proofs.read.binding.Lts as lts
 use Rattle.pool.proofs.read.capped.Reads as capped-reads
 use Rattle.pool.proofs.read.head_word.Reads as head-word-reads
 
--- src/read.rt:63:1
 returns : tie.Need-returns
 unfolding stmtAt
-returns c = (c .capped .ensures ∙ ap (λ x. min (x / 72057594037927936 % 16) 2) (c .before .head-word .ensures), omega (arith, c .capped .ensures))
+returns c = (c .capped .ensures ∙ ap (λ x. min (x / 4294967296 % 256) 2) (c .before .head-word .ensures), omega (arith, c .capped .ensures))
 
 pub binding-spec : {M : Type 1} → statement M
 binding-spec = tie.close (tie.spec (λ c κs. search needs) (λ c κs. search needs) returns)

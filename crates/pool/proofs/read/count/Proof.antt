@@ -10,10 +10,9 @@ use Rattle.pool.proofs.read.count.Lts as lts
 use Rattle.pool.proofs.read.capped.Reads as capped-reads
 use Rattle.pool.proofs.read.head_word.Reads as head-word-reads
 
--- src/read.rt:99:1
 returns : tie.Need-returns
 unfolding countOf
-returns c = (c .capped .ensures ∙ ap (λ x. min (x / 281474976710656 % 256) 16) (c .before .head-word .ensures), omega (arith, c .capped .ensures))
+returns c = (c .capped .ensures ∙ ap (λ x. min (x / 16777216 % 256) 16) (c .before .head-word .ensures), omega (arith, c .capped .ensures))
 
 pub count-spec : {M : Type 1} → statement M
 count-spec = tie.close (tie.spec (λ c κs. search needs) (λ c κs. search needs) returns)

@@ -9,7 +9,6 @@ use Rattle.pool.proofs.read.field.Reads as reads
 use Rattle.pool.proofs.read.field.Lts as lts
 use Rattle.pool.proofs.read.slot.Reads as slot-reads
 
--- src/read.rt:39:1
 returns : tie.Need-returns
 unfolding word
 returns c = ap (λ x. getD (c .before .before .args .words .now) (x + c .before .before .args .f) 0) (c .before .slot .ensures .0)

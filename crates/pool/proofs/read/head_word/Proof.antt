@@ -8,7 +8,6 @@ use Rattle.pool.proofs.read.head_word.Reads as reads
 use Rattle.pool.proofs.read.head_word.Lts as lts
 use Rattle.pool.proofs.read.slot.Reads as slot-reads
 
--- src/read.rt:32:1
 returns : tie.Need-returns
 unfolding headAt
 returns c = ap (λ x. getD (c .before .before .args .words .now) x 0) (c .before .slot .ensures .0)

@@ -9,7 +9,6 @@ use Rattle.pool.proofs.read.kind.Reads as reads
 use Rattle.pool.proofs.read.kind.Lts as lts
 use Rattle.pool.proofs.read.head_word.Reads as head-word-reads
 
--- src/read.rt:29:1
 returns : tie.Need-returns
 unfolding stmtAt
 returns c = (ap (λ x. x % 256) (c .head-word .ensures), omega arith)

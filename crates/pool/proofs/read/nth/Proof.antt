@@ -1,20 +1,19 @@
 use mathlib.Core.Path.{ap, _∙_}
 use Prim.Native.Nat.{_+_, _*_}
 use lib.ListN.{getD}
-use Rattle.views.specs.View.{viewOf}
-use Rattle.pool.specs.Pool.{viewWord}
+use Rattle.views.specs.View.{viewIn}
+use Rattle.pool.specs.Pool.{viewsFrom, viewWord}
 use borrow.Author.Needs.{needs}
 use Rattle.pool.proofs.read.nth.Statement.{statement}
 use Rattle.pool.proofs.read.nth.Tie as tie
 use Rattle.pool.proofs.read.nth.Reads as reads
 use Rattle.pool.proofs.read.nth.Lts as lts
-use Rattle.pool.proofs.read.low_view.Reads as low-view-reads
+use Rattle.views.proofs.narrow.Reads as narrow-reads
 use Rattle.pool.proofs.read.slot.Reads as slot-reads
 
--- src/read.rt:139:1
 returns : tie.Need-returns
 unfolding viewWord
-returns c = c .low-view .ensures ∙ ap (λ x. viewOf (getD (c .before .before .before .args .words .now) (2048 + x * 16 + c .before .before .before .args .p) 0)) (c .before .before .slot .ensures .0)
+returns c = c .narrow .ensures ∙ ap (λ x. viewIn (getD (c .before .before .before .args .words .now) (viewsFrom + x * 16 + c .before .before .before .args .p) 0)) (c .before .before .slot .ensures .0)
 
 pub nth-spec : {M : Type 1} → statement M
 nth-spec =

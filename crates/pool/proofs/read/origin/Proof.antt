@@ -9,7 +9,6 @@ use Rattle.pool.proofs.read.origin.Reads as reads
 use Rattle.pool.proofs.read.origin.Lts as lts
 use Rattle.pool.proofs.read.head_word.Reads as head-word-reads
 
--- src/read.rt:35:1
 returns : tie.Need-returns
 unfolding stmtAt
 returns c = (ap (λ x. x / 256 % 256) (c .head-word .ensures), omega arith)

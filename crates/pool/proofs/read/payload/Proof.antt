@@ -7,7 +7,6 @@ use Rattle.pool.proofs.read.payload.Reads as reads
 use Rattle.pool.proofs.read.payload.Lts as lts
 use Rattle.pool.proofs.read.field.Reads as field-reads
 
--- src/read.rt:41:1
 returns : tie.Need-returns
 unfolding stmtAt
 returns c = c .field .ensures

@@ -7,7 +7,6 @@ use Rattle.pool.proofs.read.pool_len.Reads as reads
 use Rattle.pool.proofs.read.pool_len.Lts as lts
 use Rattle.pool.proofs.read.capped.Reads as capped-reads
 
--- src/read.rt:125:1
 returns : tie.Need-returns
 unfolding poolLen
 returns c = (c .capped .ensures, omega arith)

@@ -1,6 +1,6 @@
 use native.Mathlib.Omega.{arith}
 use mathlib.Core.Path.{ap, _∙_}
-use Prim.Native.Nat.{_/_, min}
+use Prim.Native.Nat.{_/_, _%_, min}
 use Rattle.pool.specs.Pool.{stmtAt}
 use borrow.Author.Needs.{needs}
 use Rattle.pool.proofs.read.stored.Statement.{statement}
@@ -10,10 +10,9 @@ use Rattle.pool.proofs.read.stored.Lts as lts
 use Rattle.pool.proofs.read.capped.Reads as capped-reads
 use Rattle.pool.proofs.read.head_word.Reads as head-word-reads
 
--- src/read.rt:70:1
 returns : tie.Need-returns
 unfolding stmtAt
-returns c = (c .capped .ensures ∙ ap (λ x. min (x / 1152921504606846976) 1) (c .before .head-word .ensures), omega (arith, c .capped .ensures))
+returns c = (c .capped .ensures ∙ ap (λ x. min (x / 1099511627776 % 256) 1) (c .before .head-word .ensures), omega (arith, c .capped .ensures))
 
 pub stored-spec : {M : Type 1} → statement M
 stored-spec = tie.close (tie.spec (λ c κs. search needs) (λ c κs. search needs) returns)

@@ -1,6 +1,5 @@
-use native.Mathlib.Omega.{arith}
 use mathlib.Core.Path.{ap, _∙_}
-use Rattle.views.specs.View.{viewOf}
+use Rattle.views.specs.View.{viewIn}
 use Rattle.pool.specs.Pool.{stmtAt}
 use borrow.Author.Needs.{needs}
 use Rattle.pool.proofs.read.view.Statement.{statement}
@@ -8,12 +7,11 @@ use Rattle.pool.proofs.read.view.Tie as tie
 use Rattle.pool.proofs.read.view.Reads as reads
 use Rattle.pool.proofs.read.view.Lts as lts
 use Rattle.pool.proofs.read.field.Reads as field-reads
-use Rattle.pool.proofs.read.low_view.Reads as low-view-reads
+use Rattle.views.proofs.narrow.Reads as narrow-reads
 
--- src/read.rt:92:1
 returns : tie.Need-returns
 unfolding stmtAt
-returns c = c .low-view .ensures ∙ ap viewOf (c .before .field .ensures)
+returns c = c .narrow .ensures ∙ ap viewIn (c .before .field .ensures)
 
 pub view-spec : {M : Type 1} → statement M
 view-spec = tie.close (tie.spec (λ c κs. search needs) (λ c κs. search needs) returns)

@@ -23,37 +23,30 @@ use Rattle.statements.proofs.binding_number.Reads as binding-number-reads
 use Rattle.statements.proofs.payload_of.Reads as payload-of-reads
 use Rattle.views.proofs.View.word.Reads as word-reads
 
--- src/seek.rt:42:9
 returns : tie.Need-returns
 unfolding stmtOf
 returns c = differs (λ s. s .kind) _ _ (λ q. c .if1 .taken (q ∙ sym (c .before .kind .ensures .0)))
 
--- src/seek.rt:45:9
 returns-2 : tie.Need-returns-2
 unfolding stmtOf
 returns-2 c = differs (λ s. s .origin) _ _ (λ q. c .if2 .taken (q ∙ sym (c .before .origin .ensures .0)))
 
--- src/seek.rt:49:9
 returns-3 : tie.Need-returns-3
 unfolding stmtOf
 returns-3 c = differs (λ s. s .at) _ _ (λ q. c .if3 .taken (view-inj _ _ (omega arith) (omega arith) (c .before .before .word .ensures ∙ q ∙ sym (c .before .at .ensures))))
 
--- src/seek.rt:53:9
 returns-4 : tie.Need-returns-4
 unfolding stmtOf
 returns-4 c = differs (λ s. s .view) _ _ (λ q. c .if4 .taken (view-inj _ _ (omega arith) (omega arith) (c .before .before .word2 .ensures ∙ q ∙ sym (c .before .view .ensures))))
 
--- src/seek.rt:62:9
 returns-7 : tie.Need-returns-7
 unfolding stmtOf
 returns-7 c = differs (λ s. s .stored) _ _ (λ q. c .if7 .taken (c .before .before .flag .ensures .0 ∙ q ∙ sym (c .before .stored .ensures .0)))
 
--- src/seek.rt:65:9
 returns-8 : tie.Need-returns-8
 unfolding stmtOf
 returns-8 c = differs (λ s. s .kept) _ _ (λ q. c .if8 .taken (q ∙ sym (c .before .before .kept .ensures)))
 
--- src/seek.rt:38:1
 returns-9 : tie.Need-returns-9
 unfolding stmtOf
 returns-9 c = views-tell _ _ _ (c .before .before .before .before .before .before .before .before .before .before .before .before .before .before .before .before .before .before .before .before .before .before .before .before .before .if1 .left ∙ c .before .before .before .before .before .before .before .before .before .before .before .before .before .before .before .before .before .before .before .before .before .before .before .before .before .before .kind .ensures .0) (c .before .before .before .before .before .before .before .before .before .before .before .before .before .before .before .before .before .before .before .before .before .before .if2 .left ∙ c .before .before .before .before .before .before .before .before .before .before .before .before .before .before .before .before .before .before .before .before .before .before .before .origin .ensures .0) (sym (c .before .before .before .before .before .before .before .before .before .before .before .before .before .before .before .before .before .before .before .before .word .ensures) ∙ ap viewOf (c .before .before .before .before .before .before .before .before .before .before .before .before .before .before .before .before .before .before .if3 .left) ∙ c .before .before .before .before .before .before .before .before .before .before .before .before .before .before .before .before .before .before .before .at .ensures) (sym (c .before .before .before .before .before .before .before .before .before .before .before .before .before .before .before .before .word2 .ensures) ∙ ap viewOf (c .before .before .before .before .before .before .before .before .before .before .before .before .before .before .if4 .left) ∙ c .before .before .before .before .before .before .before .before .before .before .before .before .before .before .before .view .ensures) (sym (c .before .before .before .before .before .before .before .before .before .before .binding-number .ensures .0) ∙ c .before .before .before .before .before .before .before .before .if6 .left ∙ c .before .before .before .before .before .before .before .before .before .binding .ensures .0) (sym (c .before .before .before .before .before .before .before .before .before .before .before .before .before .payload-of .ensures) ∙ c .before .before .before .before .before .before .before .before .before .before .before .if5 .left ∙ c .before .before .before .before .before .before .before .before .before .before .before .before .payload .ensures) (sym (c .before .before .before .before .before .before .before .flag .ensures .0) ∙ c .before .before .before .before .before .if7 .left ∙ c .before .before .before .before .before .before .stored .ensures .0) (c .before .before .if8 .left ∙ c .before .before .before .before .kept .ensures) (c .same-history .ensures)

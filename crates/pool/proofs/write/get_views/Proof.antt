@@ -6,10 +6,11 @@ use lib.ListN.{length, length-set}
 use Rattle.views.specs.Table.{table}
 use Rattle.views.specs.Held.{heldAt}
 use Rattle.views.proofs.Tables.{table-none}
+use Rattle.views.proofs.Views.{view-whole}
 use Rattle.views.proofs.Held.{held-more}
 use Rattle.statements.proofs.FieldLaws.{views-table}
 use Rattle.pool.specs.Pool.{viewAt}
-use Rattle.pool.proofs.Laws.{views-of}
+use Rattle.pool.proofs.Laws.{views-of, nth-fits}
 use Rattle.pool.proofs.write.get_views.Statement.{statement}
 use Rattle.pool.proofs.write.get_views.Tie as tie
 use Rattle.pool.proofs.write.get_views.Reads as reads
@@ -38,5 +39,5 @@ get-views-spec =
     (λ c. omega (arith, c .before .before .before .before .count .ensures .1))
     (λ c. omega (arith, c .before .before .before .before .count .ensures .1))
     (λ c. search needs)
-    (λ c. (omega arith, length-set (c .before .before .before .loop .views) (c .before .before .before .loop .p) (c .of-word .result) ∙ c .before .before .before .loop .inv .1, held-more (c .before .before .before .loop .views) (c .before .before .before .loop .p) (c .of-word .result) _ (omega (arith, c .before .before .before .loop .inv .1, c .before .before .before .before .count .ensures .1)) (c .before .before .before .loop .inv .2) (c .of-word .ensures ∙ c .before .nth .ensures)))
+    (λ c. (omega arith, length-set (c .before .before .before .loop .views) (c .before .before .before .loop .p) (c .of-word .result) ∙ c .before .before .before .loop .inv .1, held-more (c .before .before .before .loop .views) (c .before .before .before .loop .p) (c .of-word .result) _ (omega (arith, c .before .before .before .loop .inv .1, c .before .before .before .before .count .ensures .1)) (c .before .before .before .loop .inv .2) (c .of-word .ensures ∙ view-whole _ (c .before .nth .ensures) (nth-fits _ _ _))))
     (λ c. (views-table _ _ ∙ let e : c .before .loop .p ≡ c .before .before .count .result = omega arith in (rw e at (c .before .loop .inv .2)) ∙ views-of _ _ _ (c .before .before .count .ensures .0), c .before .before .count .ensures .1)))

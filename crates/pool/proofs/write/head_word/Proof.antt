@@ -18,7 +18,7 @@ returns : tie.Need-returns
 unfolding stmtOf
 returns c = (
   head-word-is _ _ _ _ _ (c .before .before .before .head-of .ensures .0) (c .before .before .count .ensures .0 ∙ ap (λ n. min n 16) (sym (views-length _ _))) (c .before .binding-number .ensures .0) (c .flag .ensures .0),
-  head-back _ _ _ _ _ _ (c .before .before .before .head-of .ensures .0) (c .before .before .before .head-of .ensures .1) (c .before .before .count .ensures .0) (c .before .before .count .ensures .1) (c .before .binding-number .ensures .0) (c .before .binding-number .ensures .1) (c .flag .ensures .0) (c .flag .ensures .1) (omega arith) (omega arith) (omega arith) (omega arith),
+  head-back _ _ _ _ _ _ (c .before .before .before .head-of .ensures .0) (c .before .before .before .head-of .ensures .1) (c .before .before .count .ensures .0) (c .before .before .count .ensures .1) (c .before .binding-number .ensures .0) (c .before .binding-number .ensures .1) (c .flag .ensures .0) (c .flag .ensures .1) (omega arith) (omega arith),
 )
 
 pub head-word-spec : {M : Type 1} → statement M

@@ -5,7 +5,7 @@ use Prim.Native.Nat.{_-_, _≤_}
 use lib.ListN.{length}
 use lib.Seq.{sets}
 use Rattle.views.specs.Table.{table}
-use Rattle.pool.proofs.Writes.{heldWord, Back, back-none, back-more, word-of, none-written, one-written, wrote-views}
+use Rattle.pool.proofs.Writes.{heldWord, word-of, none-written, one-written, wrote-views}
 use Rattle.pool.proofs.write.put_views.Statement.{statement}
 use Rattle.pool.proofs.write.put_views.Tie as tie
 use Rattle.pool.proofs.write.put_views.Reads as reads
@@ -14,7 +14,7 @@ use Rattle.views.proofs.History.count.Reads as count-reads
 use Rattle.views.proofs.View.word.Reads as word-reads
 
 abbrev Inv-loop : tie.InvT-loop
-Inv-loop words₀ s n views p₀ words p = (p ≤ n) × (words ≡ sets words₀ s (table p (heldWord views))) × Back views p
+Inv-loop words₀ s n views p₀ words p = (p ≤ n) × (words ≡ sets words₀ s (table p (heldWord views)))
 
 abbrev μ-loop : tie.MeasureT-loop
 μ-loop words₀ s n views p₀ words p = 16 - p
@@ -26,15 +26,14 @@ put-views-spec =
     Inv-loop
     μ-loop
     (λ c κs. search needs)
-    (λ c. (omega arith, none-written _ _ _, back-none _))
+    (λ c. (omega arith, none-written _ _ _))
     (λ c. omega arith)
     (λ c. omega (arith, c .before .before .before .count .ensures .1))
     (λ c κs. search needs)
-    (λ c. search needs)
     (λ c. omega (arith, c .before .before .before .before .before .count .ensures .1, c .before .before .before .before .before .before .pre .1))
     (λ c. omega (arith, c .before .before .before .before .before .count .ensures .1, c .before .before .before .before .before .before .pre .1))
     (λ c. omega (arith, c .before .before .before .before .before .count .ensures .1, c .before .before .before .before .before .before .pre .1))
     (λ c. search needs)
     (λ c. search needs)
-    (λ c. (omega arith, one-written _ _ _ _ _ _ (c .before .before .before .loop .inv .1) (word-of _ _ (omega arith) (c .word .ensures)), back-more _ _ _ (omega arith) (c .word .ensures) (c .before .before .before .loop .inv .2)))
-    (λ c. wrote-views _ _ _ (c .before .loop .p) _ (omega (arith, c .before .before .before .count .ensures .0)) (c .before .loop .inv .1) (c .before .loop .inv .2)))
+    (λ c. (omega arith, one-written _ _ _ _ _ _ (c .before .before .before .loop .inv .1) (word-of _ _ (omega arith) (c .word .ensures))))
+    (λ c. wrote-views _ _ _ (c .before .loop .p) _ (omega (arith, c .before .before .before .count .ensures .0)) (c .before .loop .inv .1)))

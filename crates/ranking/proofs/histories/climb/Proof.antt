@@ -1,5 +1,4 @@
 use native.Mathlib.Omega.{arith}
-use Prim.Native.Nat.{_-_}
 use borrow.Author.Tests.{not-true, not-false}
 use Rattle.ranking.specs.Slots.{historyScale}
 use Rattle.ranking.proofs.Slots.{slots-first}
@@ -13,9 +12,11 @@ climb-spec =
     tie.close
     (tie.spec
     (λ c κs. search needs)
-    (λ c. λ X h. laws.alone _ X _ _ _ _ h _ (c .if1 .taken) (c .before .first-marked .ensures))
+    (λ c κs. search needs)
+    (λ c. search needs)
+    (λ c. λ X h. laws.alone _ X _ _ _ _ h (c .before .before .before .before .args .out .now) _ (c .before .before .room .ensures) (c .if1 .taken) (c .before .first-marked .ensures))
     (λ c κs. omega (arith, c .before .first-marked .ensures .most))
-    (λ c κs. (c .before .before .before .before .pre, slots-first (historyScale _) _ _ _ (laws.views-short _ _)))
+    (λ c κs. (c .before .before .before .before .before .before .pre, slots-first (historyScale _) _ _ _ (laws.views-short _ _)))
     (λ c. λ X h. laws.clash-conflict _ X _ _ _ _ h _ _ (omega (arith, c .before .before .before .before .before .first-marked .ensures .most)) (c .before .before .before .before .before .first-marked .ensures .is (omega (arith, c .before .before .before .before .before .first-marked .ensures .most))) (c .before .before .before .entry-at .ensures) (c .before .fill-lengths .ensures .bad (not-true _ (c .if2 .taken))) _ _)
     (λ c κs. search needs)
     (λ c. λ X h. laws.broken-conflict _ X _ _ _ _ h _ _ (omega (arith, c .before .before .before .before .before .before .before .before .before .first-marked .ensures .most)) (c .before .before .before .before .before .before .before .before .before .first-marked .ensures .is (omega (arith, c .before .before .before .before .before .before .before .before .before .first-marked .ensures .most))) (c .before .before .before .before .before .before .before .entry-at .ensures) _ (c .before .before .before .before .before .fill-lengths .ensures .good (not-false _ (c .before .before .before .before .if2 .left))) (c .before .before .link-lengths .ensures .bad (not-true _ (c .if3 .taken))) _ _)

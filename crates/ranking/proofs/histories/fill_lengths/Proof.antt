@@ -5,17 +5,17 @@ use mathlib.Core.Path.{sym, subst, _∙_}
 use lib.Dec.{T}
 use borrow.Author.Tests.{not-true, not-false}
 use Rattle.protocol.proofs.Decided.{says-sames}
-use Rattle.ranking.specs.Slots.{historyScale, entryIn, Slots}
+use Rattle.ranking.specs.Slots.{historyScale, numberIn, sealMark, Slots}
 use Rattle.ranking.proofs.Slots as laws
 use Rattle.ranking.proofs.Summits.{views-length}
 use Rattle.ranking.proofs.histories.fill_lengths.Statement.{statement}
 use Rattle.ranking.proofs.histories.fill_lengths.Tie as tie
 
 abbrev Inv-loop : tie.InvT-loop
-Inv-loop words entry na ma base slots₀ a₀ slots a = (a ≤ na) × Slots (historyScale words) base (entryIn entry) ma a slots
+Inv-loop words rows memo na base slots₀ a₀ slots a = (a ≤ na) × Slots (historyScale words) base (numberIn rows) (sealMark memo) a slots
 
 abbrev μ-loop : tie.MeasureT-loop
-μ-loop words entry na ma base slots₀ a₀ slots a = na - a
+μ-loop words rows memo na base slots₀ a₀ slots a = na - a
 
 pub fill-lengths-spec : {M : Type 1} → statement M
 fill-lengths-spec =
@@ -24,6 +24,7 @@ fill-lengths-spec =
     Inv-loop
     μ-loop
     (λ c. (omega arith, c .pre .1))
+    (λ c. search needs)
     (λ c. search needs)
     (λ c. search needs)
     (λ c. search needs)

@@ -2,16 +2,16 @@ use borrow.Author.Needs.{needs}
 use native.Mathlib.Omega.{arith}
 use Prim.Native.Nat.{ℕ, _-_, _≤_, _<_}
 use mathlib.Core.Path.{_≡_}
-use lib.ListN.{getD}
+use Rattle.ranking.specs.Slots.{sealMark}
 use borrow.Author.Count.{below-more}
 use Rattle.ranking.proofs.histories.first_marked.Statement.{statement}
 use Rattle.ranking.proofs.histories.first_marked.Tie as tie
 
 abbrev Inv-loop : tie.InvT-loop
-Inv-loop ma na a₀ a = (a ≤ na) × ((b : ℕ) → b < a → getD ma b 0 ≡ 1 → ⊥)
+Inv-loop memo na a₀ a = (a ≤ na) × ((b : ℕ) → b < a → sealMark memo b ≡ 1 → ⊥)
 
 abbrev μ-loop : tie.MeasureT-loop
-μ-loop ma na a₀ a = na - a
+μ-loop memo na a₀ a = na - a
 
 pub first-marked-spec : {M : Type 1} → statement M
 first-marked-spec =
@@ -20,6 +20,7 @@ first-marked-spec =
     Inv-loop
     μ-loop
     (λ c. (omega arith, λ b l. absurd (omega arith)))
+    (λ c. search needs)
     (λ c. search needs)
     (λ c. record { most = omega arith; none = c .before .before .before .loop .inv .1; is = λ l. c .if1 .taken })
     (λ c. search needs)

@@ -20,12 +20,10 @@ Inv-loop words i j c p₀ p = (p ≤ c) × (all (λ v. any (sameView v) (stmtAt 
 abbrev μ-loop : tie.MeasureT-loop
 μ-loop words i j c p₀ p = c - p
 
--- src/histories.rt:34:13
 returns : tie.Need-returns Inv-loop μ-loop
 unfolding holds
 returns c = of-views (holds (stmtAt (c .before .before .before .before .before .before .args .words .now) (c .before .before .before .before .before .before .args .i) .views)) _ _ _ (c .before .before .before .before .before .count .ensures .0) (sym (all-miss _ _ _ (c .before .before .before .loop-test .taken) (ap (λ v. any (sameView v) (stmtAt (c .before .before .before .before .before .before .args .words .now) (c .before .before .before .before .before .before .args .i) .views)) (sym (c .before .before .nth .ensures)) ∙ sym (c .before .has-view .ensures) ∙ not-true _ (c .if1 .taken))))
 
--- src/histories.rt:27:1
 returns-2 : tie.Need-returns-2 Inv-loop μ-loop
 unfolding holds
 returns-2 c = of-views (holds (stmtAt (c .before .before .before .args .words .now) (c .before .before .before .args .i) .views)) _ _ _ (omega (arith, c .before .before .count .ensures .0)) (sym (c .before .loop .inv .1))

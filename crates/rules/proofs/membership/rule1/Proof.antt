@@ -1,63 +1,37 @@
-use native.Mathlib.Omega.{arith}
-use mathlib.Core.Path.{refl}
-use Rattle.rules.proofs.Applied.{does, first-none, first-on, signs-made}
 use borrow.Author.Needs.{needs}
+use native.Mathlib.Omega.{arith}
+use mathlib.Core.Path.{_≡_, refl, sym, _∙_}
+use mathlib.Core.Bool.{false}
+use Prim.Native.Nat.{_-_, _≤_}
+use Rattle.protocol.specs.Lists.{any}
+use Rattle.views.specs.Held.{viewIs}
+use Rattle.pool.specs.Pool.{recordIn}
+use Rattle.rules.specs.Actions.{viewsIn}
+use Rattle.rules.specs.Rules.{reportDue}
+use Rattle.rules.proofs.Scans.{slots-any-none, slots-any-more, slots-found, slots-nothing}
+use Rattle.rules.proofs.Applied.{does, first-none, first-on}
 use Rattle.rules.proofs.membership.rule1.Statement.{statement}
 use Rattle.rules.proofs.membership.rule1.Tie as tie
-use Rattle.rules.proofs.membership.rule1.Reads as reads
-use Rattle.rules.proofs.membership.rule1.Lts as lts
-use Rattle.rules.proofs.steps.history_of.Reads as history-of-reads
-use Rattle.rules.proofs.membership.next_due.Reads as next-due-reads
-use Rattle.rules.proofs.steps.rest.Reads as rest-reads
-use Rattle.rules.proofs.steps.sign.Reads as sign-reads
-use Rattle.statements.proofs.report.Reads as report-reads
 
--- src/membership.rt:286:22
-next-due-requires : tie.Need-next-due-requires
-next-due-requires c κs = search needs
+abbrev Inv-loop : tie.InvT-loop
+Inv-loop words own greatest k t n i₀ i = (i ≤ n) × (any (reportDue (recordIn words own) k (viewIs t)) (viewsIn greatest i) ≡ false)
 
--- src/membership.rt:286:17
-enum-known-u : tie.Need-enum-known-u
-enum-known-u c = search needs
-
--- src/membership.rt:287:9
-enum-told : tie.Need-enum-told
-enum-told c = search needs
-
--- src/membership.rt:287:9
-rest-requires : tie.Need-rest-requires
-rest-requires c κs = search needs
-
--- src/membership.rt:287:9
-returns : tie.Need-returns
-returns c = does (first-none _ _ _ (c .before .before .before .next-due .ensures) (c .before .enum-told .given .1)) refl (c .rest .ensures)
-
--- src/membership.rt:292:9
-history-of-requires : tie.Need-history-of-requires
-history-of-requires c κs = c .before .before .before .before .before .before .pre .1
-
--- src/membership.rt:293:10
-report-requires : tie.Need-report-requires
-report-requires c κs = c .history-of .ensures .1
-
--- src/membership.rt:293:5
-sign-requires : tie.Need-sign-requires
-sign-requires c κs = c .report .ensures .short
-
--- src/membership.rt:282:1
-returns-2 : tie.Need-returns-2
-returns-2 c = does (first-on _ _ _ (c .before .before .before .before .before .before .before .before .next-due .ensures) _ (c .before .before .before .before .before .before .u .given .1) (c .before .before .history-of .ensures .0)) refl (signs-made (c .before .report .ensures) (c .sign .ensures))
+abbrev μ-loop : tie.MeasureT-loop
+μ-loop words own greatest k t n i₀ i = n - i
 
 pub rule1-spec : {M : Type 1} → statement M
 rule1-spec =
     tie.close
     (tie.spec
-    next-due-requires
-    enum-known-u
-    enum-told
-    rest-requires
-    returns
-    history-of-requires
-    report-requires
-    sign-requires
-    returns-2)
+    Inv-loop
+    μ-loop
+    (λ c. (omega arith, slots-any-none _ _))
+    (λ c. search needs)
+    (λ c. search needs)
+    (λ c κs. search needs)
+    (λ c κs. search needs)
+    (λ c. does (first-on _ _ _ _ (slots-found _ _ _ _ _ (c .before .before .before .before .loop-test .taken) (c .before .before .before .before .before .loop .inv .1) (sym (c .before .before .is-due .ensures) ∙ c .before .if1 .taken) (c .of-word .ensures))) refl)
+    (λ c. search needs)
+    (λ c. search needs)
+    (λ c. (omega arith, slots-any-more _ _ _ (c .before .before .before .before .loop .inv .1) (sym (c .before .is-due .ensures) ∙ c .if1 .left)))
+    (λ c. does (first-none _ _ _ (slots-nothing _ _ _ _ (omega arith) (c .before .loop .inv .1))) refl))

@@ -10,17 +10,12 @@ use Rattle.pool.proofs.Records as records
 use Rattle.rules.proofs.Scans.{prepare-own, prepare-first, prepare-none}
 use Rattle.rules.proofs.signed.first_prepare.Statement.{statement}
 use Rattle.rules.proofs.signed.first_prepare.Tie as tie
-use Rattle.rules.proofs.signed.first_prepare.Reads as reads
-use Rattle.rules.proofs.signed.first_prepare.Lts as lts
-use Rattle.rules.proofs.signed.is_own.Reads as is-own-reads
-use Rattle.pool.proofs.limit.Reads as limit-reads
-use Rattle.pool.proofs.payload.Reads as payload-reads
 
 abbrev Inv-loop : tie.InvT-loop
-Inv-loop words ids len sender end i₀ i = (i ≤ end) × (any (prepares sender) (recordOf words ids i) ≡ false)
+Inv-loop words ids sender end i₀ i = (i ≤ end) × (any (prepares sender) (recordOf words ids i) ≡ false)
 
 abbrev μ-loop : tie.MeasureT-loop
-μ-loop words ids len sender end i₀ i = end - i
+μ-loop words ids sender end i₀ i = end - i
 
 pub first-prepare-spec : {M : Type 1} → statement M
 first-prepare-spec =
@@ -34,8 +29,8 @@ first-prepare-spec =
     (λ c. search needs)
     (λ c κs. search needs)
     (λ c κs. search needs)
-    (λ c. prepare-first _ _ _ _ _ (c .before .before .before .before .before .loop .inv .1) _ (omega (arith, c .before .before .before .before .before .before .limit .ensures .0)) (prepare-own _ _ _ _ (c .before .before .is-own .ensures) (c .before .if1 .taken)) (c .payload .ensures))
+    (λ c. prepare-first _ _ _ _ _ (c .before .before .before .before .before .loop .inv .1) _ (omega (arith, c .before .before .before .before .before .before .record-length .ensures .0)) (prepare-own _ _ _ _ (c .before .before .is-own .ensures) (c .before .if1 .taken)) (c .payload .ensures))
     (λ c. search needs)
     (λ c. search needs)
-    (λ c. (omega arith, records.none-next _ _ _ _ (omega (arith, c .before .before .before .before .before .limit .ensures .1)) (c .before .before .before .before .loop .inv .1) (prepare-own _ _ _ _ (c .before .is-own .ensures) (c .if1 .left))))
-    (λ c. prepare-none _ _ _ _ _ (c .before .loop .inv .1) (omega (arith, c .before .before .limit .ensures .0))))
+    (λ c. (omega arith, records.none-next _ _ _ _ (omega (arith, c .before .before .before .before .before .record-length .ensures .1)) (c .before .before .before .before .loop .inv .1) (prepare-own _ _ _ _ (c .before .is-own .ensures) (c .if1 .left))))
+    (λ c. prepare-none _ _ _ _ _ (c .before .loop .inv .1) (omega (arith, c .before .before .record-length .ensures .0))))

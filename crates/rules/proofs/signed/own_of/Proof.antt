@@ -1,22 +1,18 @@
 use borrow.Author.Needs.{needs}
 use native.Mathlib.Omega.{arith}
-use mathlib.Core.Path.{refl}
 use lib.Dec.{eqb}
 use Prim.Native.Nat.{_-_, _≤_}
+use mathlib.Core.Path.{refl}
 use Rattle.evidence.proofs.Sifted.{Sifted, more-fits, sifted-none, sifted-next, sifted-whole}
 use Rattle.rules.proofs.Scans.{isOf, of-is, owns-all}
 use Rattle.rules.proofs.signed.own_of.Statement.{statement}
 use Rattle.rules.proofs.signed.own_of.Tie as tie
-use Rattle.rules.proofs.signed.own_of.Reads as reads
-use Rattle.rules.proofs.signed.own_of.Lts as lts
-use Rattle.pool.proofs.limit.Reads as limit-reads
-use Rattle.pool.proofs.origin.Reads as origin-reads
 
 abbrev Inv-loop : tie.InvT-loop
-Inv-loop words ids len k end own₀ count₀ i₀ own count i = (i ≤ end) × Sifted (isOf k) words ids own i count
+Inv-loop words ids k own₀ end count₀ i₀ own count i = (i ≤ end) × Sifted (isOf k) words ids own i count
 
 abbrev μ-loop : tie.MeasureT-loop
-μ-loop words ids len k end own₀ count₀ i₀ own count i = end - i
+μ-loop words ids k own₀ end count₀ i₀ own count i = end - i
 
 pub own-of-spec : {M : Type 1} → statement M
 own-of-spec =
@@ -25,15 +21,18 @@ own-of-spec =
     Inv-loop
     μ-loop
     (λ c κs. search needs)
-    (λ c. (omega arith, sifted-none refl))
-    (λ c. search needs)
-    (λ c. search needs)
     (λ c κs. search needs)
+    (λ c. (omega arith, sifted-none (c .before .record-clear .ensures .long)))
+    (λ c. omega (arith, c .before .before .record-length .ensures .1))
+    (λ c. omega (arith, c .before .before .record-length .ensures .1))
+    (λ c κs. search needs)
+    (λ c. omega (arith, c .before .before .before .before .record-length .ensures .1, c .before .before .before .loop .inv .1 .most))
+    (λ c. omega (arith, c .before .before .before .before .record-length .ensures .1, c .before .before .before .loop .inv .1 .most))
+    (λ c. search needs)
+    (λ c. record { fits = more-fits _ (eqb (c .origin .result) (c .before .before .before .before .before .before .before .args .k)) (omega (arith, c .before .before .before .loop .inv .1 .most, c .before .before .before .before .record-length .ensures .1)) })
     (λ c. search needs)
     (λ c. search needs)
+    (λ c. (omega arith, sifted-next (omega (arith, c .before .before .before .before .record-length .ensures .1)) (c .before .before .before .loop .inv .1) _ (of-is _ _ _ (c .origin .ensures .0))))
+    (λ c. omega (arith, c .before .loop .inv .1 .most, c .before .before .record-length .ensures .1))
     (λ c. search needs)
-    (λ c. record { fits = more-fits _ (eqb (c .origin .result) (c .before .before .before .before .before .args .k)) (omega (arith, c .before .before .before .loop .inv .1 .most, c .before .before .before .before .limit .ensures .1)) })
-    (λ c. search needs)
-    (λ c. search needs)
-    (λ c. (omega arith, sifted-next (omega (arith, c .before .before .before .before .limit .ensures .1)) (c .before .before .before .loop .inv .1) _ (of-is _ _ _ (c .origin .ensures .0))))
-    (λ c. owns-all (sifted-whole _ (omega arith) (c .before .before .limit .ensures .0) (c .before .loop .inv .1))))
+    (λ c. owns-all (sifted-whole _ (omega arith) (c .before .before .record-length .ensures .0) (c .before .loop .inv .1))))

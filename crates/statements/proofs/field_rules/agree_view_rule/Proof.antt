@@ -15,7 +15,6 @@ use Rattle.statements.proofs.field_rules.no_kept.Reads as no-kept-reads
 use Rattle.statements.proofs.field_rules.no_payload.Reads as no-payload-reads
 use Rattle.statements.proofs.field_rules.no_views.Reads as no-views-reads
 
--- src/field_rules.rt:115:1
 returns : tie.Need-returns
 unfolding stmtOf
 returns c = ap₂ _&&_ (ap₂ _&&_ (ap₂ _&&_ (ap₂ _&&_ (ap₂ _&&_ (c .before .before .before .before .before .manned-at .ensures) (c .before .before .before .before .manned-view .ensures)) (c .before .before .before .no-binding .ensures)) (c .before .before .no-payload .ensures)) (c .before .no-kept .ensures)) (c .no-views .ensures) ∙ agree-view-is (stmtOf (c .before .before .before .before .before .before .args .st)) (c .before .before .before .before .before .before .pre)

@@ -7,17 +7,14 @@ use Rattle.statements.proofs.field_rules.binding_number.Tie as tie
 use Rattle.statements.proofs.field_rules.binding_number.Reads as reads
 use Rattle.statements.proofs.field_rules.binding_number.Lts as lts
 
--- src/field_rules.rt:13:1
 returns : tie.Need-returns
 unfolding stmtOf
 returns c = (sym (ap bindingNumber (c .enum-told .given .1)), omega arith)
 
--- src/field_rules.rt:13:1
 returns-2 : tie.Need-returns-2
 unfolding stmtOf
 returns-2 c = (sym (ap bindingNumber (c .enum-told2 .given .1)), omega arith)
 
--- src/field_rules.rt:13:1
 returns-3 : tie.Need-returns-3
 unfolding stmtOf
 returns-3 c = (sym (ap bindingNumber (c .enum-told3 .given .1)), omega arith)

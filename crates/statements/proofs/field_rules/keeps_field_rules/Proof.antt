@@ -10,7 +10,6 @@ use Rattle.statements.proofs.field_rules.kind_rule.Reads as kind-rule-r
 use Rattle.views.proofs.History.each_is_view.Reads as each-is-view-reads
 use Rattle.views.proofs.View.is_view.Reads as is-view-reads
 
--- src/field_rules.rt:168:1
 returns-2 : tie.Need-returns-2
 unfolding stmtOf
 returns-2 c = rules-are (c .before .before .before .before .before .before .before .before .before .before .args .st) _ _ _ _ (omega arith) (payload-fits (c .before .before .before .before .before .before .before .before .before .before .args .st .binding) (c .before .before .before .before .before .before .before .before .before .before .args .st .payload) _ (c .before .before .before .before .before .before .before .before .before .before .good .0 .1 .1 .1 .1 .1 .1 .0) (omega arith)) (omega arith) (c .before .before .before .is-view .ensures) (c .before .before .is-view2 .ensures) (c .before .each-is-view .ensures) (c .kind-rule .ensures)

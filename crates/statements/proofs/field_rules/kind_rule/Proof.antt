@@ -14,12 +14,10 @@ use Rattle.statements.proofs.field_rules.report_kind_rule.Reads as repo
 use Rattle.statements.proofs.field_rules.vote_rule.Reads as vote-rule-reads
 use Rattle.statements.proofs.field_rules.wish_rule.Reads as wish-rule-reads
 
--- src/field_rules.rt:152:1
 returns-7 : tie.Need-returns-7
 unfolding stmtOf
 returns-7 c = no-kind (stmtOf (c .before .before .args .st)) (inl (omega arith))
 
--- src/field_rules.rt:152:1
 returns-8 : tie.Need-returns-8
 unfolding stmtOf
 returns-8 c = no-kind (stmtOf (c .before .before .before .before .args .st)) (inr (omega arith))

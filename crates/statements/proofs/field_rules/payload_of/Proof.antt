@@ -7,17 +7,14 @@ use Rattle.statements.proofs.field_rules.payload_of.Tie as tie
 use Rattle.statements.proofs.field_rules.payload_of.Reads as reads
 use Rattle.statements.proofs.field_rules.payload_of.Lts as lts
 
--- src/field_rules.rt:25:1
 returns : tie.Need-returns
 unfolding stmtOf
 returns c = sym (ap (λ b. payloadOf b (c .before .before .args .st .payload)) (c .enum-told .given .1))
 
--- src/field_rules.rt:25:1
 returns-2 : tie.Need-returns-2
 unfolding stmtOf
 returns-2 c = sym (ap (λ b. payloadOf b (c .before .before .before .args .st .payload)) (c .before .b .given .1))
 
--- src/field_rules.rt:25:1
 returns-3 : tie.Need-returns-3
 unfolding stmtOf
 returns-3 c = sym (ap (λ b. payloadOf b (c .before .before .args .st .payload)) (c .enum-told2 .given .1))

@@ -12,7 +12,6 @@ use Rattle.statements.proofs.field_rules.manned_at.Reads as manned-at-r
 use Rattle.statements.proofs.field_rules.report_rule.Reads as report-rule-reads
 use Rattle.statements.proofs.field_rules.views_rule.Reads as views-rule-reads
 
--- src/field_rules.rt:129:1
 returns : tie.Need-returns
 unfolding stmtOf
 returns c = ap₂ _&&_ (ap₂ _&&_ (c .before .before .manned-at .ensures) (c .before .report-rule .ensures)) (c .views-rule .ensures) ∙ report-is (stmtOf (c .before .before .before .args .st)) (c .before .before .before .pre)

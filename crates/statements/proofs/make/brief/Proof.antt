@@ -7,15 +7,12 @@ use Rattle.statements.proofs.make.brief.Lts as lts
 use Rattle.statements.proofs.make.plain.Reads as plain-reads
 use Rattle.views.proofs.History.new.Reads as new-reads
 
--- src/make.rt:38:39
 new-requires : tie.Need-new-requires
 new-requires c κs = search needs
 
--- src/make.rt:38:5
 plain-requires : tie.Need-plain-requires
 plain-requires c κs = search needs
 
--- src/make.rt:35:1
 returns : tie.Need-returns
 returns c = brief-made (c .before .new .ensures .0) (c .plain .ensures)
 

@@ -5,7 +5,6 @@ use Rattle.statements.proofs.make.plain.Tie as tie
 use Rattle.statements.proofs.make.plain.Reads as reads
 use Rattle.statements.proofs.make.plain.Lts as lts
 
--- src/make.rt:17:1
 returns : tie.Need-returns
 returns c = plain-made _ refl refl refl (c .pre)
 

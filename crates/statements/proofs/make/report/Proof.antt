@@ -7,11 +7,9 @@ use Rattle.statements.proofs.make.report.Reads as reads
 use Rattle.statements.proofs.make.report.Lts as lts
 use Rattle.statements.proofs.make.kept.Reads as kept-reads
 
--- src/make.rt:117:15
 kept-requires : tie.Need-kept-requires
 kept-requires c κs = search needs
 
--- src/make.rt:97:1
 returns : tie.Need-returns
 returns c = report-made _ (c .before .args .payload) refl refl (c .kept .ensures) (c .before .pre)
 

@@ -1,5 +1,4 @@
 use native.Mathlib.Omega.{arith}
-use mathlib.Core.Path.{_∙_}
 use Rattle.views.specs.Held.{viewIs}
 use Rattle.views.proofs.Views.{counted, at-most}
 use borrow.Author.Needs.{needs}
@@ -8,7 +7,6 @@ use Rattle.views.proofs.View.count.Tie as tie
 use Rattle.views.proofs.View.count.Reads as reads
 use Rattle.views.proofs.View.count.Lts as lts
 use Rattle.views.proofs.View.members.Reads as members-reads
-use Rattle.views.proofs.wide.Reads as wide-reads
 
 pub count-spec : {M : Type 1} → statement M
-count-spec = tie.close (tie.spec (λ c κs. search needs) (λ c κs. search needs) (λ c. let e = counted _ _ (c .wide .ensures .0 ∙ c .before .members .ensures) in (e, omega (arith, e, at-most (viewIs (c .before .before .args .self))))))
+count-spec = tie.close (tie.spec (λ c κs. search needs) (λ c. let e = counted _ _ (c .members .ensures) in (e, omega (arith, e, at-most (viewIs (c .before .args .self))))))

@@ -1,5 +1,4 @@
-use native.Mathlib.Omega.{arith}
-use Rattle.views.proofs.Views.{view-parts}
+use Rattle.views.proofs.Held.{of-word-is}
 use borrow.Author.Needs.{needs}
 use Rattle.views.proofs.View.of_word.Statement.{statement}
 use Rattle.views.proofs.View.of_word.Tie as tie
@@ -7,4 +6,4 @@ use Rattle.views.proofs.View.of_word.Reads as reads
 use Rattle.views.proofs.View.of_word.Lts as lts
 
 pub of-word-spec : {M : Type 1} → statement M
-of-word-spec = tie.close (tie.spec (λ c. search needs) (λ c. search needs) (λ c. view-parts _ (omega arith)))
+of-word-spec = tie.close (tie.spec (λ c. search needs) (λ c. search needs) (λ c. of-word-is _))

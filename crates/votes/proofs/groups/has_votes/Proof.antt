@@ -11,10 +11,10 @@ use Rattle.votes.proofs.groups.has_votes.Statement.{statement}
 use Rattle.votes.proofs.groups.has_votes.Tie as tie
 
 abbrev Inv-loop : tie.InvT-loop
-Inv-loop words ids len end i₀ i = (i ≤ end) × (any isVote (recordOf words ids i) ≡ false)
+Inv-loop words ids end i₀ i = (i ≤ end) × (any isVote (recordOf words ids i) ≡ false)
 
 abbrev μ-loop : tie.MeasureT-loop
-μ-loop words ids len end i₀ i = end - i
+μ-loop words ids end i₀ i = end - i
 
 pub has-votes-spec : {M : Type 1} → statement M
 has-votes-spec =
@@ -27,8 +27,8 @@ has-votes-spec =
     (λ c. search needs)
     (λ c. search needs)
     (λ c κs. search needs)
-    (λ c. sym (records.found _ _ _ _ _ (omega (arith, c .before .before .before .before .before .limit .ensures .0)) (sym (c .before .is-vote .ensures) ∙ c .if1 .taken)))
+    (λ c. sym (records.found _ _ _ _ _ (omega (arith, c .before .before .before .before .before .record-length .ensures .0)) (sym (c .before .is-vote .ensures) ∙ c .if1 .taken)))
     (λ c. search needs)
     (λ c. search needs)
-    (λ c. (omega arith, records.none-next _ _ _ _ (omega (arith, c .before .before .before .before .before .limit .ensures .1)) (c .before .before .before .before .loop .inv .1) (sym (c .before .is-vote .ensures) ∙ c .if1 .left)))
-    (λ c. sym (records.none _ _ _ _ _ (omega (arith, c .before .before .limit .ensures .0)) (c .before .loop .inv .1))))
+    (λ c. (omega arith, records.none-next _ _ _ _ (omega (arith, c .before .before .before .before .before .record-length .ensures .1)) (c .before .before .before .before .loop .inv .1) (sym (c .before .is-vote .ensures) ∙ c .if1 .left)))
+    (λ c. sym (records.none _ _ _ _ _ (omega (arith, c .before .before .record-length .ensures .0)) (c .before .loop .inv .1))))

@@ -1,13 +1,7 @@
-use native.Mathlib.Omega.{arith}
 use Rattle.votes.proofs.Wished.{kind-noted, kind-passed}
 use borrow.Author.Needs.{needs}
 use Rattle.votes.proofs.wish.note_kind.Statement.{statement}
 use Rattle.votes.proofs.wish.note_kind.Tie as tie
-use Rattle.votes.proofs.wish.note_kind.Reads as reads
-use Rattle.votes.proofs.wish.note_kind.Lts as lts
-use Rattle.pool.proofs.kind.Reads as kind-reads
-use Rattle.pool.proofs.origin.Reads as origin-reads
-use Rattle.views.proofs.note.Reads as note-reads
 
 pub note-kind-spec : {M : Type 1} → statement M
 note-kind-spec = tie.close (tie.spec (λ c κs. search needs) (λ c. kind-passed _ _ _ _ (c .before .kind .ensures .0) (c .if1 .taken)) (λ c κs. search needs) (λ c κs. search needs) (λ c. kind-noted _ _ _ _ _ _ (c .before .before .before .kind .ensures .0) (c .before .before .if1 .left) (c .before .origin .ensures .0) (c .note .ensures)))

@@ -11,10 +11,10 @@ use Rattle.votes.proofs.wish.wished_by.Statement.{statement}
 use Rattle.votes.proofs.wish.wished_by.Tie as tie
 
 abbrev Inv-loop : tie.InvT-loop
-Inv-loop words ids len init end joins₀ leaves₀ i₀ joins leaves i = (i ≤ end) × IsSet joins (signs (isKind 1) (recordOf words ids i)) × IsSet leaves (signs (isKind 2) (recordOf words ids i))
+Inv-loop words ids init end joins₀ leaves₀ i₀ joins leaves i = (i ≤ end) × IsSet joins (signs (isKind 1) (recordOf words ids i)) × IsSet leaves (signs (isKind 2) (recordOf words ids i))
 
 abbrev μ-loop : tie.MeasureT-loop
-μ-loop words ids len init end joins₀ leaves₀ i₀ joins leaves i = end - i
+μ-loop words ids init end joins₀ leaves₀ i₀ joins leaves i = end - i
 
 pub wished-by-spec : {M : Type 1} → statement M
 wished-by-spec =
@@ -30,6 +30,6 @@ wished-by-spec =
     (λ c κs. search needs)
     (λ c. search needs)
     (λ c. search needs)
-    (λ c. (omega arith, set-next _ _ _ _ _ _ _ _ (omega (arith, c .before .before .before .before .before .limit .ensures .1)) (c .before .before .before .before .loop .inv .1) (c .before .note-kind .ensures) refl refl, set-next _ _ _ _ _ _ _ _ (omega (arith, c .before .before .before .before .before .limit .ensures .1)) (c .before .before .before .before .loop .inv .2) (c .note-kind2 .ensures) refl refl))
-    (λ c κs. (c .before .loop .inv .1 .small, c .before .loop .inv .2 .small))
-    (λ c. let e : c .before .before .loop .i ≡ c .before .before .before .limit .result = omega arith in c .wished-view .ensures _ (set-whole _ _ _ _ _ _ _ e (c .before .before .before .limit .ensures .0) (c .before .before .loop .inv .1)) (set-whole _ _ _ _ _ _ _ e (c .before .before .before .limit .ensures .0) (c .before .before .loop .inv .2))))
+    (λ c. (omega arith, set-next _ _ _ _ _ _ _ _ (omega (arith, c .before .before .before .before .before .record-length .ensures .1)) (c .before .before .before .before .loop .inv .1) (c .before .note-kind .ensures) refl refl, set-next _ _ _ _ _ _ _ _ (omega (arith, c .before .before .before .before .before .record-length .ensures .1)) (c .before .before .before .before .loop .inv .2) (c .note-kind2 .ensures) refl refl))
+    (λ c κs. search needs)
+    (λ c. let e : c .before .before .loop .i ≡ c .before .before .before .record-length .result = omega arith in c .wished-view .ensures _ (set-whole _ _ _ _ _ _ _ e (c .before .before .before .record-length .ensures .0) (c .before .before .loop .inv .1)) (set-whole _ _ _ _ _ _ _ e (c .before .before .before .record-length .ensures .0) (c .before .before .loop .inv .2))))

@@ -1,0 +1,4 @@
+pub mod Chains
+pub mod Searches
+mod Slots
+mod Writes

@@ -1,0 +1,272 @@
+-- Laws of the groups: one entry more.
+-- Assumes nothing.
+use mathlib.Core.Path.{_≡_, refl, sym, ap, subst, _∙_}
+use mathlib.Core.Bool.{Bool, true, false}
+use mathlib.Core.List.{List}
+use Prim.Native.Nat.{ℕ, zero, suc, _+_, _≤_, _<_, min}
+use native.Mathlib.Decide.{ℕ-discrete, decLt}
+use native.Mathlib.Numerals.{add-one}
+use native.Mathlib.Omega.{arith}
+use lib.Dec.{T}
+use lib.ListN.{length, getD, set, length-set}
+use lib.Seq.{getD-set-same, getD-set-other}
+use Rattle.protocol.specs.Statement.{Stmt}
+use Rattle.protocol.specs.Evidence.{signs}
+use Rattle.views.specs.Sets.{IsSet, Noted}
+use Rattle.views.proofs.Sets.{note-none}
+use Rattle.views.proofs.Views.{passes, fails}
+use Rattle.pool.specs.Pool.{stmtAt, recordOf}
+use Rattle.pool.proofs.Records.{whole, set-first, set-next}
+use Rattle.tables.specs.Index.{keyAt, Empty, Linked, Keyed}
+use Rattle.tables.proofs.Chains.{chained-first, chained-same, chained-new, empty-kept}
+use Rattle.votes.specs.declared.keys.Vote.{Vote}
+use Rattle.votes.specs.Votes.{isVote, alike, entry, placeOf, tagOf, signersOf, voteAt, Groups}
+use Rattle.votes.specs.Keys.{wordOf, whatOf, slotBy, slotAt, Key, Place, Sofar}
+use Rattle.votes.proofs.Alike.{Alike, says-vote, says-alike, alike-vote, alike-self, alike-both, alike-turned}
+
+pub yes-T : {b : Bool} → b ≡ true → T b
+yes-T e = rw e tt
+
+pub no-T : {b : Bool} → b ≡ false → T b → ⊥
+no-T e t = rw e at t
+
+-- the word y of a group is like x, with the signers r
+pub record Resigned (x r y : ℕ) : Type 0 where
+  pub place : placeOf y ≡ placeOf x
+  pub tag : tagOf y ≡ tagOf x
+  pub signers : signersOf y ≡ r
+
+-- the word y is of a group that begins with entry i
+pub record Begun (i k r y : ℕ) : Type 0 where
+  pub place : placeOf y ≡ i
+  pub tag : tagOf y ≡ k
+  pub signers : signersOf y ≡ r
+
+module _ (W ids : List ℕ) where
+  -- ---- who signed, where an entry does not have p
+
+  pub set-keeps : (p : Stmt → Bool) (i seen : ℕ) → i < 512 → p (entry W ids i) ≡ false → IsSet seen (signs p (recordOf W ids i)) → IsSet seen (signs p (recordOf W ids (i + 1)))
+  set-keeps p i seen l e s = set-next W ids p i seen (entry W ids i .origin) seen false l s (note-none seen (entry W ids i .origin) false refl) (sym e) refl
+
+  set-none : (p : Stmt → Bool) (i : ℕ) → i ≤ 512 → ((j : ℕ) → j < i → p (entry W ids j) ≡ false) → IsSet 0 (signs p (recordOf W ids i))
+  set-none p zero l f = set-first W ids p
+  set-none p (suc i) l f = rw add-one at (set-keeps p i 0 (omega arith) (f i (omega arith)) (set-none p i (omega arith) (λ j m. f j (omega arith))))
+
+  -- ---- the entry i
+
+  abbrev group : List ℕ → ℕ → Stmt
+  group G g = voteAt W ids G g
+
+  same : {a s : Stmt} → T (alike a s) → Alike a s
+  same {a} {s} t = says-alike a s .sound t
+
+  pub sofar-first : {K R G : List ℕ} → length G ≡ 512 → Empty R 0 → Empty R 1 → Sofar W ids 0 K R G 0
+  sofar-first h e f = record {
+    fewer = omega arith;
+    room = h;
+    worded = record { place = λ g l. absurd (omega arith); vote = λ g l. absurd (omega arith); tag = λ g l. absurd (omega arith); at = λ g l. absurd (omega arith); what = λ g l. absurd (omega arith) };
+    chained = chained-first e;
+    empty = f;
+    groups = record { most = omega arith; place = λ g l. absurd (omega arith); vote = λ g l. absurd (omega arith); tag = λ g l. absurd (omega arith); signers = λ g l. absurd (omega arith); covers = λ i l. absurd (omega arith) };
+    distinct = λ g h l. absurd (omega arith);
+  }
+
+  module _ {i n : ℕ} {K R G : List ℕ} (small : i < 512) (so : Sofar W ids i K R G n) where
+    -- no vote: all stays
+    pub sofar-skip : (b : Bool) → b ≡ isVote (entry W ids i) → b ≡ false → Sofar W ids (i + 1) K R G n
+    sofar-skip b e f = record {
+      fewer = omega (arith, so .fewer);
+      room = so .room;
+      worded = so .worded;
+      chained = so .chained;
+      empty = so .empty;
+      groups = record {
+        most = so .groups .most;
+        place = λ g l. omega (arith, so .groups .place g l);
+        vote = so .groups .vote;
+        tag = so .groups .tag;
+        signers = λ g l. set-keeps (alike (group G g)) i (signersOf (getD G g 0)) small (fails (says-alike (group G g) (entry W ids i)) (λ al. none (says-vote (entry W ids i) .complete (alike-vote al)))) (so .groups .signers g l);
+        covers = λ j l v. covered j v (decLt j i) (omega arith);
+      };
+      distinct = so .distinct;
+    }
+      where
+        none : T (isVote (entry W ids i)) → ⊥
+        none = no-T (sym e ∙ f)
+
+        covered : (j : ℕ) → T (isVote (entry W ids j)) → Dec (j < i) → j ≤ i → (g : ℕ) × (g < n) × T (alike (group G g) (entry W ids j))
+        covered j v (yes m) l = so .groups .covers j (omega arith) v
+        covered j v (no m) l = let q : j ≡ i = omega arith in absurd (none (subst (λ x. T (isVote (entry W ids x))) q v))
+
+    module _ (v : Vote) (g o r : ℕ) (is : v .number ≡ getD ids i 0) (found : Place W ids G n (v .number) g) (by : o ≡ entry W ids i .origin) where
+      at : Place W ids G n (getD ids i 0) g
+      at = subst (λ s. Place W ids G n s g) is found
+
+      -- a vote of group g
+      pub sofar-old : (x k : ℕ) → g < n → k ≡ signersOf (getD G g 0) → Noted k true o r → Resigned (getD G g 0) r x → Sofar W ids (i + 1) K R (set G g x) n
+      unfolding slotAt
+      sofar-old x k l was w y = record {
+        fewer = omega (arith, so .fewer);
+        room = length-set G g x ∙ so .room;
+        worded = record {
+          place = λ h m. rw (placed h) (so .worded .place h m);
+          vote = λ h m. rw (placed h) (so .worded .vote h m);
+          tag = λ h m. rw (placed h) (tagged h ∙ so .worded .tag h m);
+          at = λ h m. rw (placed h) (so .worded .at h m);
+          what = λ h m. rw (placed h) (so .worded .what h m);
+        };
+        chained = chained-same (λ h m. ap (slotBy (keyAt K 0 h) (keyAt K 1 h)) (tagged h)) (so .chained);
+        empty = so .empty;
+        groups = record {
+          most = so .groups .most;
+          place = λ h m. rw (placed h) (omega (arith, so .groups .place h m));
+          vote = λ h m. rw (placed h) (so .groups .vote h m);
+          tag = λ h m. rw (placed h) (tagged h ∙ so .groups .tag h m);
+          signers = λ h m. rw (placed h) (signed h m (ℕ-discrete h g));
+          covers = λ j m v. covered j v (decLt j i) (omega arith);
+        };
+        distinct = λ h j a b t. so .distinct h j a b (rw (placed h, placed j) at t);
+      }
+        where
+          here : T (alike (group G g) (entry W ids i))
+          here = yes-T (at .here l)
+
+          word : getD (set G g x) g 0 ≡ x
+          word = getD-set-same G g x 0 (omega (arith, so .room, so .fewer))
+
+          part : (f : ℕ → ℕ) → f x ≡ f (getD G g 0) → (h : ℕ) → f (getD (set G g x) h 0) ≡ f (getD G h 0)
+          part f e h = elim (ℕ-discrete h g) [
+            | yes q ↦ rw (q, word) e
+            | no d ↦ ap f (getD-set-other G g h x 0 d)
+          ]
+
+          placed : (h : ℕ) → placeOf (getD (set G g x) h 0) ≡ placeOf (getD G h 0)
+          placed = part placeOf (y .place)
+
+          tagged : (h : ℕ) → tagOf (getD (set G g x) h 0) ≡ tagOf (getD G h 0)
+          tagged = part tagOf (y .tag)
+
+          signed : (h : ℕ) → h < n → Dec (h ≡ g) → IsSet (signersOf (getD (set G g x) h 0)) (signs (alike (group G h)) (recordOf W ids (i + 1)))
+          signed h m (yes q) = rw (q, word, y .signers)
+              (set-next W ids (alike (group G g)) i (signersOf (getD G g 0)) o r true small (so .groups .signers g l) (subst (λ z. Noted z true o r) was w) (sym (at .here l)) by)
+          signed h m (no d) = rw (getD-set-other G g h x 0 d)
+              (set-keeps (alike (group G h)) i (signersOf (getD G h 0)) small
+              (fails (says-alike (group G h) (entry W ids i)) (λ al. d (so .distinct h g m l (says-alike (group G h) (group G g) .complete (alike-both (alike-turned al) (alike-turned (same here)))))))
+              (so .groups .signers h m))
+
+          covered : (j : ℕ) → T (isVote (entry W ids j)) → Dec (j < i) → j ≤ i → (h : ℕ) × (h < n) × T (alike (group (set G g x) h) (entry W ids j))
+          covered j v (yes m) k = let (h, a, t) = so .groups .covers j (omega arith) v in (h, a, rw (placed h) t)
+          covered j v (no m) k = let q : i ≡ j = omega arith in (g, l, rw (placed g) (subst (λ z. T (alike (group G g) (entry W ids z))) q here))
+
+      -- a vote of a new group
+      pub sofar-new : {K′ K″ R′ : List ℕ} (x z : ℕ) (b : Bool) → (g < n → ⊥) → b ≡ isVote (entry W ids i) → b ≡ true → Key W v → Keyed K 0 n (v .at) K′ → Keyed K′ 1 n (v .what) K″ → Noted 0 true o r
+          → Begun i (v .tag) r x → z ≡ slotBy (v .at) (v .what) (v .tag) → z < 512 → Linked R 0 z n R′ → Sofar W ids (i + 1) K″ R′ (set G n x) (n + 1)
+      unfolding slotAt
+      sofar-new {K′} {K″} {R′} x z b d e f key put put′ w y q c link = record {
+        fewer = omega (arith, so .fewer);
+        room = length-set G n x ∙ so .room;
+        worded = record {
+          place = λ h m. placed 512 h m (ℕ-discrete h n) small (λ l. so .worded .place h l);
+          vote = λ h m. voted h m (ℕ-discrete h n);
+          tag = λ h m. tagged h m (ℕ-discrete h n);
+          at = λ h m. signed-at h m (ℕ-discrete h n);
+          what = λ h m. meant h m (ℕ-discrete h n);
+        };
+        chained = chained-new (omega (arith, so .fewer)) c (slots (newKey ∙ refl) newKey′ (ap tagOf newG ∙ y .tag) ∙ sym q) link
+            (chained-same (λ h m. slots (oldKey h m) (oldKey′ h m) (ap tagOf (oldG h (λ u. omega arith)))) (so .chained));
+        empty = empty-kept (link .others 1 (omega arith) (λ u. omega arith)) (so .empty);
+        groups = record {
+          most = omega (arith, so .fewer);
+          place = λ h m. placed (min (i + 1) 512) h m (ℕ-discrete h n) (omega arith) (λ l. omega (arith, so .groups .place h l));
+          vote = λ h m. voted h m (ℕ-discrete h n);
+          tag = λ h m. tagged h m (ℕ-discrete h n);
+          signers = λ h m. signed h m (ℕ-discrete h n);
+          covers = λ j m v. covered j v (decLt j i) (omega arith);
+        };
+        distinct = λ h j l m t. apart h j l m t (ℕ-discrete h n) (ℕ-discrete j n);
+      }
+        where
+          vote : T (isVote (entry W ids i))
+          vote = yes-T (sym e ∙ f)
+
+          self : T (alike (entry W ids i) (entry W ids i))
+          self = says-alike (entry W ids i) (entry W ids i) .complete (alike-self (entry W ids i) (says-vote (entry W ids i) .sound vote))
+
+          slots : {j j′ k k′ l l′ : ℕ} → j ≡ j′ → k ≡ k′ → l ≡ l′ → slotBy j k l ≡ slotBy j′ k′ l′
+          slots p p′ p″ = cc
+
+          newG : getD (set G n x) n 0 ≡ x
+          newG = getD-set-same G n x 0 (omega (arith, so .room, so .fewer))
+
+          oldG : (h : ℕ) → (h ≡ n → ⊥) → getD (set G n x) h 0 ≡ getD G h 0
+          oldG h = getD-set-other G n h x 0
+
+          newKey : keyAt K″ 0 n ≡ v .at
+          newKey = put′ .others 0 (omega arith) (λ u. omega arith) .key n (omega (arith, so .fewer)) ∙ put .here
+
+          newKey′ : keyAt K″ 1 n ≡ v .what
+          newKey′ = put′ .here
+
+          oldKey : (h : ℕ) → h < n → keyAt K″ 0 h ≡ keyAt K 0 h
+          oldKey h l = put′ .others 0 (omega arith) (λ u. omega arith) .key h (omega (arith, so .fewer)) ∙ put .keys h (omega (arith, so .fewer)) (λ u. omega arith)
+
+          oldKey′ : (h : ℕ) → h < n → keyAt K″ 1 h ≡ keyAt K 1 h
+          oldKey′ h l = put′ .keys h (omega (arith, so .fewer)) (λ u. omega arith) ∙ put .others 1 (omega arith) (λ u. omega arith) .key h (omega (arith, so .fewer))
+
+          fresh : (h : ℕ) → h < n → alike (group G h) (entry W ids i) ≡ false
+          fresh h l = at .none (omega (arith, at .most)) h l
+
+          strange : (h : ℕ) → h < n → Alike (group G h) (entry W ids i) → ⊥
+          strange h l al = no-T (fresh h l) (says-alike (group G h) (entry W ids i) .complete al)
+
+          placed : (most h : ℕ) → h < n + 1 → Dec (h ≡ n) → i < most → (h < n → placeOf (getD G h 0) < most) → placeOf (getD (set G n x) h 0) < most
+          placed most h m (yes u) l k = rw (u, newG, y .place) l
+          placed most h m (no u) l k = rw (oldG h u) (k (omega arith))
+
+          voted : (h : ℕ) → h < n + 1 → Dec (h ≡ n) → T (isVote (group (set G n x) h))
+          voted h m (yes u) = rw (u, newG, y .place) vote
+          voted h m (no u) = rw (oldG h u) (so .worded .vote h (omega arith))
+
+          tagged : (h : ℕ) → h < n + 1 → Dec (h ≡ n) → tagOf (getD (set G n x) h 0) ≡ group (set G n x) h .kind
+          tagged h m (yes u) = rw (u, newG, y .place) (y .tag ∙ key .tag ∙ ap (λ s. stmtAt W s .kind) is)
+          tagged h m (no u) = rw (oldG h u) (so .worded .tag h (omega arith))
+
+          signed-at : (h : ℕ) → h < n + 1 → Dec (h ≡ n) → keyAt K″ 0 h ≡ wordOf (group (set G n x) h .at)
+          signed-at h m (yes u) = rw (u, newG, y .place) (newKey ∙ key .at ∙ ap (λ s. wordOf (stmtAt W s .at)) is)
+          signed-at h m (no u) = rw (oldG h u) (oldKey h (omega arith) ∙ so .worded .at h (omega arith))
+
+          meant : (h : ℕ) → h < n + 1 → Dec (h ≡ n) → keyAt K″ 1 h ≡ whatOf (group (set G n x) h)
+          meant h m (yes u) = rw (u, newG, y .place) (newKey′ ∙ key .what ∙ ap (λ s. whatOf (stmtAt W s)) is)
+          meant h m (no u) = rw (oldG h u) (oldKey′ h (omega arith) ∙ so .worded .what h (omega arith))
+
+          unlike : (j : ℕ) → j < i → alike (entry W ids i) (entry W ids j) ≡ false
+          unlike j m = fails (says-alike (entry W ids i) (entry W ids j)) (λ al. clash al (so .groups .covers j (omega arith) (says-vote (entry W ids j) .complete (alike-vote al))))
+            where
+              clash : Alike (entry W ids i) (entry W ids j) → (h : ℕ) × (h < n) × T (alike (group G h) (entry W ids j)) → ⊥
+              clash al (h, l, t) = strange h l (alike-both (alike-turned (same t)) (alike-turned al))
+
+          signed : (h : ℕ) → h < n + 1 → Dec (h ≡ n) → IsSet (signersOf (getD (set G n x) h 0)) (signs (alike (group (set G n x) h)) (recordOf W ids (i + 1)))
+          signed h m (yes u) = rw (u, newG, y .place, y .signers)
+              (set-next W ids (alike (entry W ids i)) i 0 o r true small (set-none (alike (entry W ids i)) i (omega arith) unlike) w (sym (passes (says-alike (entry W ids i) (entry W ids i)) (same self))) by)
+          signed h m (no u) = rw (oldG h u)
+              (set-keeps (alike (group G h)) i (signersOf (getD G h 0)) small (fresh h (omega arith)) (so .groups .signers h (omega arith)))
+
+          covered : (j : ℕ) → T (isVote (entry W ids j)) → Dec (j < i) → j ≤ i → (h : ℕ) × (h < n + 1) × T (alike (group (set G n x) h) (entry W ids j))
+          covered j a (yes m) k = let (h, l, t) = so .groups .covers j (omega arith) a in (h, omega arith, rw (oldG h (λ u. omega arith)) t)
+          covered j a (no m) k = let u : j ≡ i = omega arith in (n, omega arith, rw (newG, y .place, u) self)
+
+          apart : (h j : ℕ) → h < n + 1 → j < n + 1 → T (alike (group (set G n x) h) (group (set G n x) j)) → Dec (h ≡ n) → Dec (j ≡ n) → h ≡ j
+          apart h j l m t (yes u) (yes v) = u ∙ sym v
+          apart h j l m t (yes u) (no v) = absurd (strange j (omega arith) (alike-turned (same (rw (u, newG, y .place, oldG j v) at t))))
+          apart h j l m t (no u) (yes v) = absurd (strange h (omega arith) (same (rw (v, newG, y .place, oldG h u) at t)))
+          apart h j l m t (no u) (no v) = so .distinct h j (omega arith) (omega arith) (rw (oldG h u, oldG j v) at t)
+
+  pub sofar-whole : (len : ℕ) {i n : ℕ} {K R G : List ℕ} → i ≡ min len 512 → Sofar W ids i K R G n → Groups W ids len G n
+  sofar-whole len {i} {n} {G = G} e so = record {
+    most = so .groups .most;
+    place = λ g l. omega (arith, so .groups .place g l);
+    vote = so .groups .vote;
+    tag = so .groups .tag;
+    signers = λ g l. subst (λ X. IsSet (signersOf (getD G g 0)) (signs (alike (group G g)) X)) (whole W ids len i e) (so .groups .signers g l);
+    covers = λ j l v. so .groups .covers j (omega arith) v;
+  }
