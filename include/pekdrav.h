@@ -4,8 +4,8 @@
  * None keeps a pointer, allocates or blocks. The contracts stand in crates/pekdrav. Signatures are the host's: check one before the line goes to
  * pekdrav_add, and sign a line before it is sent.
  *
- * A view is a 64-bit word: the joined set in the low 32 bits, the left set in the high 32, bit k for controller k. Controllers are numbered 0 to 15, and
- * what a caller writes into the other bits means nothing. */
+ * A view is a 64-bit word: the joined set in the low 32 bits, the left set in the high 32, bit k for controller k. Controllers are numbered 0 to 15: the
+ * other bits are 0 in every view that a controller enters, and mean nothing in its fields and in a pool. */
 #ifndef PEKDRAV_H
 #define PEKDRAV_H
 
