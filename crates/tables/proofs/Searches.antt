@@ -54,10 +54,10 @@ key-slot K t w i e = ap slotOf e
 
 module _ {K R : List ℕ} {t n : ℕ} (ok : Indexed K R t n) where
   -- the newest row of the slot of w
-  pub starts : (w : ℕ) {s x : ℕ} → s ≡ slotOf w → s < 512 → x ≡ newestAt R t s → (x ≤ n) × (0 < x → slotAt K t (x - 1) ≡ slotOf w)
+  pub starts : (w : ℕ) {s x : ℕ} → s ≡ slotOf w → s < 256 → x ≡ newestAt R t s → (x ≤ n) × (0 < x → slotAt K t (x - 1) ≡ slotOf w)
   starts w {s} e l q = (omega (arith, ok .chained .slots s l .most), λ p. ap (λ z. slotAt K t (z - 1)) q ∙ ok .chained .slots s l .here (omega arith) ∙ e)
 
-  pub first-is : {w s x r : ℕ} → s ≡ slotOf w → s < 512 → x ≡ newestAt R t s → Latest K t w x r → Latest K t w n r
+  pub first-is : {w s x r : ℕ} → s ≡ slotOf w → s < 256 → x ≡ newestAt R t s → Latest K t w x r → Latest K t w n r
   unfolding slotAt
   first-is {w} {s} {x} {r} e l q f = record { most = omega (arith, f .most, ok .chained .slots s l .most); here = f .here; none = λ i a b g. go i a b g (decLt i x) }
     where

@@ -123,7 +123,7 @@ module _ {W ids K G : List ℕ} {n : ℕ} {v : Vote} (worded : Worded W ids K G 
       go h a b (no m) = f .none h (omega arith) b
 
   module _ {R : List ℕ} (ch : Chained (slotAt K G) R 0 n) where
-    pub searched-first : {z x : ℕ} → z ≡ slotBy (v .at) (v .what) (v .tag) → z < 512 → x ≡ newestAt R 0 z → Searched W ids K G n v x
+    pub searched-first : {z x : ℕ} → z ≡ slotBy (v .at) (v .what) (v .tag) → z < 256 → x ≡ newestAt R 0 z → Searched W ids K G n v x
     searched-first {z} {x} e l q = record {
       most = omega (arith, w .most);
       here = λ p. ap (λ y. slotAt K G (y - 1)) q ∙ w .here (omega arith) ∙ e;

@@ -73,7 +73,7 @@ pub record Place (W ids G : List ℕ) (n s r : ℕ) : Type 0 where
 
 -- The slot of the words of a vote: votes that are alike share it, and other ones seldom.
 unfoldable pub slotBy : ℕ → ℕ → ℕ → ℕ
-slotBy at what tag = ((folded at + tag % 65536) * 1640531527 + folded what * 668265263) / 8388608 % 512
+slotBy at what tag = ((folded at + tag % 65536) * 1640531527 + folded what * 668265263) / 16777216 % 256
 
 -- The slot of group g.
 unfoldable pub slotAt : List ℕ → List ℕ → ℕ → ℕ
