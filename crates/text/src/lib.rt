@@ -174,7 +174,7 @@ pub fn dec_len(v: u64) -> usize
     n + short_len(x)
 }
 
-// By a table: with a choice between figures and letters the eight digits of a view take half as many instructions again.
+// By a table: with a choice between figures and letters, writing a line of sixteen views takes half as many instructions again.
 fn glyph_of(d: u64) -> u8
     requires { ⌜ d < 16 ⌝ }
     ensures { λ r. ⌜ r ≡ glyph d ⌝ }
