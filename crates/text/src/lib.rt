@@ -204,6 +204,11 @@ pub fn write_dec(out: &mut [u8], at: usize, v: u64) -> usize
     requires { ⌜ at + length (decText v) ≤ length (now out) ⌝ }
     ensures { λ r. ⌜ (r ≡ at + length (decText v)) × (now (out .exit) ≡ sets (now (out .entry)) at (decText v)) ⌝ }
 {
+    // Most numbers of a line have one digit.
+    if v < 10 {
+        out[at] = glyph_of(v);
+        return at + 1;
+    }
     let end = at + dec_len(v);
     let mut i = end;
     let mut x = v;
