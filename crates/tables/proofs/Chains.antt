@@ -31,9 +31,9 @@ newest-old at n s x d w = record { most = omega (arith, w .most); here = w .here
     go i l q (no u) = w .all i (omega arith) q
 
 -- an array that was just made
-pub empty-made : (t : ℕ) → t < 2 → Empty (replicate 3072 0) t
+pub empty-made : (t : ℕ) → t < 2 → Empty (replicate 2560 0) t
 unfolding newestAt
-empty-made t l = record { none = λ s h. getD-replicate {A = ℕ} 3072 (t * 1536 + s) 0 0 (omega arith) }
+empty-made t l = record { none = λ s h. getD-replicate {A = ℕ} 2560 (t * 1280 + s) 0 0 (omega arith) }
 
 pub chained-first : {at : ℕ → ℕ} {R : List ℕ} {t : ℕ} → Empty R t → Chained at R t 0
 chained-first f = record { slots = λ s l. newest-first _ s _ (f .none s l); links = λ i l. absurd (omega arith) }
@@ -46,7 +46,7 @@ chained-same f w = record {
 }
 
 -- the index is the same
-chained-as : {at : ℕ → ℕ} {R R′ : List ℕ} {t n : ℕ} → n ≤ 512 → ((s : ℕ) → s < 512 → newestAt R′ t s ≡ newestAt R t s) → ((i : ℕ) → i < 512 → olderAt R′ t i ≡ olderAt R t i)
+chained-as : {at : ℕ → ℕ} {R R′ : List ℕ} {t n : ℕ} → n ≤ 512 → ((s : ℕ) → s < 256 → newestAt R′ t s ≡ newestAt R t s) → ((i : ℕ) → i < 512 → olderAt R′ t i ≡ olderAt R t i)
     → Chained at R t n → Chained at R′ t n
 chained-as few f g w = record { slots = λ s l. rw (f s l) (w .slots s l); links = λ i l. rw (g i (omega arith)) (w .links i l) }
 
@@ -57,10 +57,10 @@ pub chained-numbered : {at : ℕ → ℕ} {R R′ : List ℕ} {t n i x : ℕ} �
 chained-numbered few put w = chained-as few (put .slots) (put .links) w
 
 -- row n goes into its slot
-pub chained-new : {at : ℕ → ℕ} {R R′ : List ℕ} {t s n : ℕ} → n < 512 → s < 512 → at n ≡ s → Linked R t s n R′ → Chained at R t n → Chained at R′ t (n + 1)
+pub chained-new : {at : ℕ → ℕ} {R R′ : List ℕ} {t s n : ℕ} → n < 512 → s < 256 → at n ≡ s → Linked R t s n R′ → Chained at R t n → Chained at R′ t (n + 1)
 chained-new {at} {R} {R′} {t} {s} {n} l m e put w = record { slots = λ z h. slot z h (ℕ-discrete z s); links = λ i h. link i h (ℕ-discrete i n) }
   where
-    slot : (z : ℕ) → z < 512 → Dec (z ≡ s) → Newest at (n + 1) z (newestAt R′ t z)
+    slot : (z : ℕ) → z < 256 → Dec (z ≡ s) → Newest at (n + 1) z (newestAt R′ t z)
     slot z h (yes u) = newest-new at n z _ (e ∙ sym u) (ap (newestAt R′ t) u ∙ put .newest)
     slot z h (no u) = rw (put .slots z h u) (newest-old at n z _ (λ v. u (sym v ∙ e)) (w .slots z h))
 
@@ -93,7 +93,7 @@ pub keys-same : {K : List ℕ} {t : ℕ} → SameKeys K K t
 keys-same = record { key = λ i l. refl }
 
 -- a row with its key, its number and its slot
-pub added : {K K′ R R′ R″ : List ℕ} {t i w x s : ℕ} → t < 2 → i < 512 → Keyed K t i w K′ → Numbered R t i x R′ → s ≡ slotOf w → s < 512 → Linked R′ t s i R″ → Added K R t i w x K′ R″
+pub added : {K K′ R R′ R″ : List ℕ} {t i w x s : ℕ} → t < 2 → i < 512 → Keyed K t i w K′ → Numbered R t i x R′ → s ≡ slotOf w → s < 256 → Linked R′ t s i R″ → Added K R t i w x K′ R″
 unfolding slotAt
 added {K} {K′} {R} {R′} {R″} {t} {i} {w} {x} b l k n e m put = record {
   key = k .here;

@@ -1,53 +1,63 @@
 -- Laws of searches for the rows of a key.
 -- Assumes nothing.
-use mathlib.Core.Path.{_≡_, sym, ap, _∙_}
+use mathlib.Core.Path.{_≡_, sym, ap, subst, _∙_}
 use mathlib.Core.Bool.{Bool, false}
 use mathlib.Core.List.{List}
 use Prim.Native.Nat.{ℕ, _-_, _≤_, _<_}
 use native.Mathlib.Decide.{ℕ-discrete, decLt}
 use native.Mathlib.Omega.{arith}
-use Rattle.tables.specs.Index.{newestAt, olderAt, keyAt, Newest, slotOf, slotAt, Indexed, Latest, Passed}
+use Rattle.tables.specs.Index.{newestAt, olderAt, keyAt, Newest, Chained, slotOf, slotAt, Indexed, Latest, Passed}
 
--- a walk from `from` down has come to x, a row of the slot of w plus one, and no row between has the key w
-pub record Walked (K : List ℕ) (t w from x : ℕ) : Type 0 where
+-- a walk from `from` down over the rows that `at` puts into slot s has come to x, a row of that slot plus one, and no row between has P
+pub record Walked (at : ℕ → ℕ) (s : ℕ) (P : ℕ → Type 0) (from x : ℕ) : Type 0 where
   pub most : x ≤ from
-  pub here : 0 < x → slotAt K t (x - 1) ≡ slotOf w
-  pub none : (i : ℕ) → x ≤ i → i < from → keyAt K t i ≡ w → ⊥
+  pub here : 0 < x → at (x - 1) ≡ s
+  pub none : (i : ℕ) → x ≤ i → i < from → P i → ⊥
 
-pub walked-first : {K : List ℕ} {t w from : ℕ} → (0 < from → slotAt K t (from - 1) ≡ slotOf w) → Walked K t w from from
+pub walked-first : {at : ℕ → ℕ} {s : ℕ} {P : ℕ → Type 0} {from : ℕ} → (0 < from → at (from - 1) ≡ s) → Walked at s P from from
 walked-first f = record { most = omega arith; here = f; none = λ i a b. absurd (omega arith) }
 
-pub walked-found : {K : List ℕ} {t w from x k : ℕ} → Walked K t w from x → k ≡ keyAt K t (x - 1) → k ≡ w → Latest K t w from x
+pub older-most : {at : ℕ → ℕ} {R : List ℕ} {t n i y : ℕ} → Chained at R t n → i < n → y ≡ olderAt R t i → y ≤ i
+older-most {i = i} ch l e = omega (arith, ch .links i l .most)
+
+-- one row on: whatever has P is of the slot, so that the index leads to it
+pub walked-next : {at : ℕ → ℕ} {s : ℕ} {P : ℕ → Type 0} {R : List ℕ} {t n from x y : ℕ} → Chained at R t n → ((i : ℕ) → P i → at i ≡ s)
+    → Walked at s P from x → from ≤ n → 0 < x → (P (x - 1) → ⊥) → y ≡ olderAt R t (x - 1) → Walked at s P from y
+walked-next {at} {s} {P} {R} {t} {n} {from} {x} {y} ch within f b p d q = record {
+  most = omega (arith, older-most {i = x - 1} ch (omega (arith, f .most)) q, f .most);
+  here = λ h. ap (λ z. at (z - 1)) q ∙ before .here (omega arith) ∙ f .here p;
+  none = λ i a c g. go i a c g (ℕ-discrete i (x - 1)) (decLt i (x - 1));
+}
+  where
+    before : Newest at (x - 1) (at (x - 1)) (olderAt R t (x - 1))
+    before = ch .links (x - 1) (omega (arith, f .most))
+
+    go : (i : ℕ) → y ≤ i → i < from → P i → Dec (i ≡ x - 1) → Dec (i < x - 1) → ⊥
+    go i a c g (yes u) _ = d (subst P u g)
+    go i a c g (no u) (yes v) = omega (arith, before .all i v (within i g ∙ sym (f .here p)))
+    go i a c g (no u) (no v) = f .none i (omega arith) c g
+
+-- ---- by keys
+
+abbrev pub HasKey : List ℕ → ℕ → ℕ → ℕ → Type 0
+HasKey K t w i = keyAt K t i ≡ w
+
+pub walked-found : {K : List ℕ} {t w from x k : ℕ} → Walked (slotAt K t) (slotOf w) (HasKey K t w) from x → k ≡ keyAt K t (x - 1) → k ≡ w → Latest K t w from x
 walked-found f e g = record { most = f .most; here = λ p. sym e ∙ g; none = f .none }
 
-pub walked-none : {K : List ℕ} {t w from x : ℕ} → Walked K t w from x → x ≤ 0 → Latest K t w from 0
+pub walked-none : {K : List ℕ} {t w from x : ℕ} → Walked (slotAt K t) (slotOf w) (HasKey K t w) from x → x ≤ 0 → Latest K t w from 0
 walked-none f l = record { most = omega arith; here = λ p. absurd (omega arith); none = λ i a b. f .none i (omega arith) b }
 
+pub key-slot : (K : List ℕ) (t w i : ℕ) → HasKey K t w i → slotAt K t i ≡ slotOf w
+unfolding slotAt
+key-slot K t w i e = ap slotOf e
+
 module _ {K R : List ℕ} {t n : ℕ} (ok : Indexed K R t n) where
-  pub older-most : {i y : ℕ} → i < n → y ≡ olderAt R t i → y ≤ i
-  older-most {i} l e = omega (arith, ok .chained .links i l .most)
-
-  pub walked-next : {w from x y k : ℕ} → Walked K t w from x → from ≤ n → 0 < x → k ≡ keyAt K t (x - 1) → (k ≡ w → ⊥) → y ≡ olderAt R t (x - 1) → Walked K t w from y
-  unfolding slotAt
-  walked-next {w} {from} {x} {y} {k} f b p e d q = record {
-    most = omega (arith, older-most {i = x - 1} (omega (arith, f .most)) q, f .most);
-    here = λ h. ap (λ z. slotAt K t (z - 1)) q ∙ before .here (omega arith) ∙ f .here p;
-    none = λ i a c g. go i a c g (ℕ-discrete i (x - 1)) (decLt i (x - 1));
-  }
-    where
-      before : Newest (slotAt K t) (x - 1) (slotAt K t (x - 1)) (olderAt R t (x - 1))
-      before = ok .chained .links (x - 1) (omega (arith, f .most))
-
-      go : (i : ℕ) → y ≤ i → i < from → keyAt K t i ≡ w → Dec (i ≡ x - 1) → Dec (i < x - 1) → ⊥
-      go i a c g (yes u) _ = d (e ∙ ap (keyAt K t) (sym u) ∙ g)
-      go i a c g (no u) (yes v) = omega (arith, before .all i v (ap slotOf g ∙ sym (f .here p)))
-      go i a c g (no u) (no v) = f .none i (omega arith) c g
-
   -- the newest row of the slot of w
-  pub starts : (w : ℕ) {s x : ℕ} → s ≡ slotOf w → s < 512 → x ≡ newestAt R t s → (x ≤ n) × (0 < x → slotAt K t (x - 1) ≡ slotOf w)
+  pub starts : (w : ℕ) {s x : ℕ} → s ≡ slotOf w → s < 256 → x ≡ newestAt R t s → (x ≤ n) × (0 < x → slotAt K t (x - 1) ≡ slotOf w)
   starts w {s} e l q = (omega (arith, ok .chained .slots s l .most), λ p. ap (λ z. slotAt K t (z - 1)) q ∙ ok .chained .slots s l .here (omega arith) ∙ e)
 
-  pub first-is : {w s x r : ℕ} → s ≡ slotOf w → s < 512 → x ≡ newestAt R t s → Latest K t w x r → Latest K t w n r
+  pub first-is : {w s x r : ℕ} → s ≡ slotOf w → s < 256 → x ≡ newestAt R t s → Latest K t w x r → Latest K t w n r
   unfolding slotAt
   first-is {w} {s} {x} {r} e l q f = record { most = omega (arith, f .most, ok .chained .slots s l .most); here = f .here; none = λ i a b g. go i a b g (decLt i x) }
     where
@@ -58,12 +68,12 @@ module _ {K R : List ℕ} {t n : ℕ} (ok : Indexed K R t n) where
   -- the row before row i in its slot
   pub starts-next : {i x k : ℕ} → i < n → k ≡ keyAt K t i → x ≡ olderAt R t i → (x ≤ n) × (0 < x → slotAt K t (x - 1) ≡ slotOf k)
   unfolding slotAt
-  starts-next {i} l e q = (omega (arith, older-most l q), λ p. ap (λ z. slotAt K t (z - 1)) q ∙ ok .chained .links i l .here (omega arith) ∙ ap slotOf (sym e))
+  starts-next {i} l e q = (omega (arith, older-most (ok .chained) l q), λ p. ap (λ z. slotAt K t (z - 1)) q ∙ ok .chained .links i l .here (omega arith) ∙ ap slotOf (sym e))
 
   pub next-is : {i x k r : ℕ} → i < n → k ≡ keyAt K t i → x ≡ olderAt R t i → Latest K t k x r → Latest K t (keyAt K t i) i r
   unfolding slotAt
   next-is {i} {x} {k} {r} l e q f = record {
-    most = omega (arith, f .most, older-most l q);
+    most = omega (arith, f .most, older-most (ok .chained) l q);
     here = λ p. f .here p ∙ e;
     none = λ j a b g. go j a b g (decLt j x);
   }

@@ -13,68 +13,68 @@ use Rattle.tables.specs.Index.{newestAt, olderAt, numberAt, keyAt, Clear
 
 -- the first s slots are empty, and nothing else changed
 pub record Clearing (R : List ℕ) (t : ℕ) (R′ : List ℕ) (s : ℕ) : Type 0 where
-  pub long : length R′ ≡ 3072
-  pub zeros : (z : ℕ) → z < s → getD R′ (t * 1536 + z) 0 ≡ 0
-  pub rest : (j : ℕ) → ((z : ℕ) → z < 512 → j ≡ t * 1536 + z → ⊥) → getD R′ j 0 ≡ getD R j 0
+  pub long : length R′ ≡ 2560
+  pub zeros : (z : ℕ) → z < s → getD R′ (t * 1280 + z) 0 ≡ 0
+  pub rest : (j : ℕ) → ((z : ℕ) → z < 256 → j ≡ t * 1280 + z → ⊥) → getD R′ j 0 ≡ getD R j 0
 
-pub clearing-first : {R : List ℕ} {t : ℕ} → length R ≡ 3072 → Clearing R t R 0
+pub clearing-first : {R : List ℕ} {t : ℕ} → length R ≡ 2560 → Clearing R t R 0
 clearing-first h = record { long = h; zeros = λ z l. absurd (omega arith); rest = λ j d. refl }
 
-pub clearing-next : {R R′ : List ℕ} {t s : ℕ} → t < 2 → s < 512 → Clearing R t R′ s → Clearing R t (set R′ (t * 1536 + s) 0) (s + 1)
+pub clearing-next : {R R′ : List ℕ} {t s : ℕ} → t < 2 → s < 256 → Clearing R t R′ s → Clearing R t (set R′ (t * 1280 + s) 0) (s + 1)
 clearing-next {R} {R′} {t} {s} b l w = record {
-  long = length-set R′ (t * 1536 + s) 0 ∙ w .long;
+  long = length-set R′ (t * 1280 + s) 0 ∙ w .long;
   zeros = λ z m. elim (decLt z s) [
-    | yes k ↦ getD-set-other R′ (t * 1536 + s) (t * 1536 + z) 0 0 (λ e. omega arith) ∙ w .zeros z k
-    | no k ↦ (let e : z ≡ s = omega arith in rw e (getD-set-same R′ (t * 1536 + s) 0 0 (omega (arith, w .long))))
+    | yes k ↦ getD-set-other R′ (t * 1280 + s) (t * 1280 + z) 0 0 (λ e. omega arith) ∙ w .zeros z k
+    | no k ↦ (let e : z ≡ s = omega arith in rw e (getD-set-same R′ (t * 1280 + s) 0 0 (omega (arith, w .long))))
   ];
-  rest = λ j d. getD-set-other R′ (t * 1536 + s) j 0 0 (d s l) ∙ w .rest j d;
+  rest = λ j d. getD-set-other R′ (t * 1280 + s) j 0 0 (d s l) ∙ w .rest j d;
 }
 
-pub clearing-all : {R R′ : List ℕ} {t s : ℕ} → t < 2 → 512 ≤ s → Clearing R t R′ s → Cleared R t R′
+pub clearing-all : {R R′ : List ℕ} {t s : ℕ} → t < 2 → 256 ≤ s → Clearing R t R′ s → Cleared R t R′
 unfolding newestAt olderAt numberAt
 clearing-all {R} {R′} {t} b l w = record {
   empty = record { none = λ z m. w .zeros z (omega arith) };
   others = λ u h d. record {
-    newest = λ z m. w .rest (u * 1536 + z) (λ y n e. omega arith);
-    older = λ i m. w .rest (u * 1536 + 512 + i) (λ y n e. omega arith);
-    number = λ i m. w .rest (u * 1536 + 1024 + i) (λ y n e. omega arith);
+    newest = λ z m. w .rest (u * 1280 + z) (λ y n e. omega arith);
+    older = λ i m. w .rest (u * 1280 + 256 + i) (λ y n e. omega arith);
+    number = λ i m. w .rest (u * 1280 + 768 + i) (λ y n e. omega arith);
   };
 }
 
 -- ---- a row into a slot
 
-pub linked : (R : List ℕ) (t s i b : ℕ) → length R ≡ 3072 → t < 2 → s < 512 → i < 512 → b ≡ getD R (t * 1536 + s) 0
-    → Linked R t s i (set (set R (t * 1536 + 512 + i) b) (t * 1536 + s) (i + 1))
+pub linked : (R : List ℕ) (t s i b : ℕ) → length R ≡ 2560 → t < 2 → s < 256 → i < 512 → b ≡ getD R (t * 1280 + s) 0
+    → Linked R t s i (set (set R (t * 1280 + 256 + i) b) (t * 1280 + s) (i + 1))
 unfolding newestAt olderAt numberAt
 linked R t s i b h p q l e = record {
-  newest = getD-set-same (set R (t * 1536 + 512 + i) b) (t * 1536 + s) (i + 1) 0 (omega (arith, length-set R (t * 1536 + 512 + i) b));
-  older = getD-set-other (set R (t * 1536 + 512 + i) b) (t * 1536 + s) (t * 1536 + 512 + i) (i + 1) 0 (λ d. omega arith) ∙ getD-set-same R (t * 1536 + 512 + i) b 0 (omega arith) ∙ e;
-  slots = λ z m d. other (t * 1536 + z) (λ f. omega arith) (λ f. omega arith);
-  links = λ j m d. other (t * 1536 + 512 + j) (λ f. omega arith) (λ f. omega arith);
-  numbers = λ j m. other (t * 1536 + 1024 + j) (λ f. omega arith) (λ f. omega arith);
+  newest = getD-set-same (set R (t * 1280 + 256 + i) b) (t * 1280 + s) (i + 1) 0 (omega (arith, length-set R (t * 1280 + 256 + i) b));
+  older = getD-set-other (set R (t * 1280 + 256 + i) b) (t * 1280 + s) (t * 1280 + 256 + i) (i + 1) 0 (λ d. omega arith) ∙ getD-set-same R (t * 1280 + 256 + i) b 0 (omega arith) ∙ e;
+  slots = λ z m d. other (t * 1280 + z) (λ f. omega arith) (λ f. omega arith);
+  links = λ j m d. other (t * 1280 + 256 + j) (λ f. omega arith) (λ f. omega arith);
+  numbers = λ j m. other (t * 1280 + 768 + j) (λ f. omega arith) (λ f. omega arith);
   others = λ u m d. record {
-    newest = λ z k. other (u * 1536 + z) (λ f. omega arith) (λ f. omega arith);
-    older = λ j k. other (u * 1536 + 512 + j) (λ f. omega arith) (λ f. omega arith);
-    number = λ j k. other (u * 1536 + 1024 + j) (λ f. omega arith) (λ f. omega arith);
+    newest = λ z k. other (u * 1280 + z) (λ f. omega arith) (λ f. omega arith);
+    older = λ j k. other (u * 1280 + 256 + j) (λ f. omega arith) (λ f. omega arith);
+    number = λ j k. other (u * 1280 + 768 + j) (λ f. omega arith) (λ f. omega arith);
   };
 }
   where
-    other : (j : ℕ) → (j ≡ t * 1536 + s → ⊥) → (j ≡ t * 1536 + 512 + i → ⊥) → getD (set (set R (t * 1536 + 512 + i) b) (t * 1536 + s) (i + 1)) j 0 ≡ getD R j 0
-    other j d f = getD-set-other (set R (t * 1536 + 512 + i) b) (t * 1536 + s) j (i + 1) 0 d ∙ getD-set-other R (t * 1536 + 512 + i) j b 0 f
+    other : (j : ℕ) → (j ≡ t * 1280 + s → ⊥) → (j ≡ t * 1280 + 256 + i → ⊥) → getD (set (set R (t * 1280 + 256 + i) b) (t * 1280 + s) (i + 1)) j 0 ≡ getD R j 0
+    other j d f = getD-set-other (set R (t * 1280 + 256 + i) b) (t * 1280 + s) j (i + 1) 0 d ∙ getD-set-other R (t * 1280 + 256 + i) j b 0 f
 
 -- ---- a number and a key
 
-pub numbered : (R : List ℕ) (t i x : ℕ) → length R ≡ 3072 → t < 2 → i < 512 → Numbered R t i x (set R (t * 1536 + 1024 + i) x)
+pub numbered : (R : List ℕ) (t i x : ℕ) → length R ≡ 2560 → t < 2 → i < 512 → Numbered R t i x (set R (t * 1280 + 768 + i) x)
 unfolding newestAt olderAt numberAt
 numbered R t i x h p l = record {
-  here = getD-set-same R (t * 1536 + 1024 + i) x 0 (omega arith);
-  numbers = λ j m d. getD-set-other R (t * 1536 + 1024 + i) (t * 1536 + 1024 + j) x 0 (λ f. omega arith);
-  slots = λ z m. getD-set-other R (t * 1536 + 1024 + i) (t * 1536 + z) x 0 (λ f. omega arith);
-  links = λ j m. getD-set-other R (t * 1536 + 1024 + i) (t * 1536 + 512 + j) x 0 (λ f. omega arith);
+  here = getD-set-same R (t * 1280 + 768 + i) x 0 (omega arith);
+  numbers = λ j m d. getD-set-other R (t * 1280 + 768 + i) (t * 1280 + 768 + j) x 0 (λ f. omega arith);
+  slots = λ z m. getD-set-other R (t * 1280 + 768 + i) (t * 1280 + z) x 0 (λ f. omega arith);
+  links = λ j m. getD-set-other R (t * 1280 + 768 + i) (t * 1280 + 256 + j) x 0 (λ f. omega arith);
   others = λ u m d. record {
-    newest = λ z k. getD-set-other R (t * 1536 + 1024 + i) (u * 1536 + z) x 0 (λ f. omega arith);
-    older = λ j k. getD-set-other R (t * 1536 + 1024 + i) (u * 1536 + 512 + j) x 0 (λ f. omega arith);
-    number = λ j k. getD-set-other R (t * 1536 + 1024 + i) (u * 1536 + 1024 + j) x 0 (λ f. omega arith);
+    newest = λ z k. getD-set-other R (t * 1280 + 768 + i) (u * 1280 + z) x 0 (λ f. omega arith);
+    older = λ j k. getD-set-other R (t * 1280 + 768 + i) (u * 1280 + 256 + j) x 0 (λ f. omega arith);
+    number = λ j k. getD-set-other R (t * 1280 + 768 + i) (u * 1280 + 768 + j) x 0 (λ f. omega arith);
   };
 }
 

@@ -1,5 +1,5 @@
 -- Two tables in lent memory, each of at most 512 rows with an index: rows are found by their slots, the newest first.
--- Of the numbers, table t, 0 or 1, has the 1536 from t * 1536 on: for each of 512 slots its newest row plus one, for each row the one before it in its slot plus one,
+-- Of the numbers, table t, 0 or 1, has the 1280 from t * 1280 on: for each of 256 slots its newest row plus one, for each row the one before it in its slot plus one,
 -- and for each row a number. A 0 in the first two stands for none. Of the words, table t has the 512 from t * 512 on: the key of each row.
 -- Assumes nothing.
 use mathlib.Core.Path.{_≡_}
@@ -11,13 +11,13 @@ use lib.ListN.{getD}
 -- ---- what the memory holds of table t
 
 unfoldable pub newestAt : List ℕ → ℕ → ℕ → ℕ
-newestAt R t s = getD R (t * 1536 + s) 0
+newestAt R t s = getD R (t * 1280 + s) 0
 
 unfoldable pub olderAt : List ℕ → ℕ → ℕ → ℕ
-olderAt R t i = getD R (t * 1536 + 512 + i) 0
+olderAt R t i = getD R (t * 1280 + 256 + i) 0
 
 unfoldable pub numberAt : List ℕ → ℕ → ℕ → ℕ
-numberAt R t i = getD R (t * 1536 + 1024 + i) 0
+numberAt R t i = getD R (t * 1280 + 768 + i) 0
 
 unfoldable pub keyAt : List ℕ → ℕ → ℕ → ℕ
 keyAt K t i = getD K (t * 512 + i) 0
@@ -25,7 +25,7 @@ keyAt K t i = getD K (t * 512 + i) 0
 -- R and R′ have the same table t, and K and K′ the same keys of it.
 
 pub record SameRows (R R′ : List ℕ) (t : ℕ) : Type 0 where
-  pub newest : (s : ℕ) → s < 512 → newestAt R′ t s ≡ newestAt R t s
+  pub newest : (s : ℕ) → s < 256 → newestAt R′ t s ≡ newestAt R t s
   pub older : (i : ℕ) → i < 512 → olderAt R′ t i ≡ olderAt R t i
   pub number : (i : ℕ) → i < 512 → numberAt R′ t i ≡ numberAt R t i
 
@@ -36,7 +36,7 @@ pub record SameKeys (K K′ : List ℕ) (t : ℕ) : Type 0 where
 
 -- No slot has a row.
 pub record Empty (R : List ℕ) (t : ℕ) : Type 0 where
-  pub none : (s : ℕ) → s < 512 → newestAt R t s ≡ 0
+  pub none : (s : ℕ) → s < 256 → newestAt R t s ≡ 0
 
 -- The slots were emptied.
 pub record Cleared (R : List ℕ) (t : ℕ) (R′ : List ℕ) : Type 0 where
@@ -47,7 +47,7 @@ pub record Cleared (R : List ℕ) (t : ℕ) (R′ : List ℕ) : Type 0 where
 pub record Linked (R : List ℕ) (t s i : ℕ) (R′ : List ℕ) : Type 0 where
   pub newest : newestAt R′ t s ≡ i + 1
   pub older : olderAt R′ t i ≡ newestAt R t s
-  pub slots : (z : ℕ) → z < 512 → (z ≡ s → ⊥) → newestAt R′ t z ≡ newestAt R t z
+  pub slots : (z : ℕ) → z < 256 → (z ≡ s → ⊥) → newestAt R′ t z ≡ newestAt R t z
   pub links : (j : ℕ) → j < 512 → (j ≡ i → ⊥) → olderAt R′ t j ≡ olderAt R t j
   pub numbers : (j : ℕ) → j < 512 → numberAt R′ t j ≡ numberAt R t j
   pub others : (u : ℕ) → u < 2 → (u ≡ t → ⊥) → SameRows R R′ u
@@ -56,7 +56,7 @@ pub record Linked (R : List ℕ) (t s i : ℕ) (R′ : List ℕ) : Type 0 where
 pub record Numbered (R : List ℕ) (t i x : ℕ) (R′ : List ℕ) : Type 0 where
   pub here : numberAt R′ t i ≡ x
   pub numbers : (j : ℕ) → j < 512 → (j ≡ i → ⊥) → numberAt R′ t j ≡ numberAt R t j
-  pub slots : (z : ℕ) → z < 512 → newestAt R′ t z ≡ newestAt R t z
+  pub slots : (z : ℕ) → z < 256 → newestAt R′ t z ≡ newestAt R t z
   pub links : (j : ℕ) → j < 512 → olderAt R′ t j ≡ olderAt R t j
   pub others : (u : ℕ) → u < 2 → (u ≡ t → ⊥) → SameRows R R′ u
 
@@ -76,14 +76,14 @@ pub record Newest (at : ℕ → ℕ) (n s x : ℕ) : Type 0 where
 
 -- The index of table t leads to the rows below n: to the newest of each slot, and from each row to the one before it in its slot.
 pub record Chained (at : ℕ → ℕ) (R : List ℕ) (t n : ℕ) : Type 0 where
-  pub slots : (s : ℕ) → s < 512 → Newest at n s (newestAt R t s)
+  pub slots : (s : ℕ) → s < 256 → Newest at n s (newestAt R t s)
   pub links : (i : ℕ) → i < n → Newest at i (at i) (olderAt R t i)
 
 -- ---- the index by keys
 
 -- The slot of a word: both halves go into it.
 unfoldable pub slotOf : ℕ → ℕ
-slotOf w = (w % 4294967296 * 2654435769 + w / 4294967296 * 668265263) / 8388608 % 512
+slotOf w = (w % 4294967296 * 2654435769 + w / 4294967296 * 668265263) / 16777216 % 256
 
 -- The slot of row i.
 unfoldable pub slotAt : List ℕ → ℕ → ℕ → ℕ

@@ -4,8 +4,8 @@ ghost use Prim.Native.Nat.{_<_};
 ghost use lib.ListN.{length};
 ghost use Rattle.tables.specs.Index.{newestAt, olderAt, numberAt, keyAt, Cleared, Linked, Numbered, Keyed};
 
-// 512 slots, 512 links and 512 numbers of two tables.
-pub const ROWS: usize = 3072;
+// 256 slots, 512 links and 512 numbers of two tables. More slots would take longer to clear than they save.
+pub const ROWS: usize = 2560;
 
 // 512 keys of two tables.
 pub const KEYS: usize = 1024;
@@ -13,7 +13,7 @@ pub const KEYS: usize = 1024;
 // How many numbers and words the memory has. A proof that one was written asks for it.
 
 fn rows_room(rows: &[u16; ROWS]) -> usize
-    ensures { λ r. ⌜ length (now (rows .entry)) ≡ 3072 ⌝ }
+    ensures { λ r. ⌜ length (now (rows .entry)) ≡ 2560 ⌝ }
 {
     let s = &rows[..];
     s.len()
@@ -34,10 +34,10 @@ fn wide(x: u16) -> usize
 
 // The newest row of a slot, plus one.
 pub fn newest(rows: &[u16; ROWS], t: usize, slot: usize) -> usize
-    requires { ⌜ (t < 2) × (slot < 512) ⌝ }
+    requires { ⌜ (t < 2) × (slot < 256) ⌝ }
     ensures { λ r. ⌜ r ≡ newestAt (now (rows .entry)) t slot ⌝ }
 {
-    wide(rows[t * 1536 + slot])
+    wide(rows[t * 1280 + slot])
 }
 
 // The row before this one in its slot, plus one.
@@ -45,7 +45,7 @@ pub fn older(rows: &[u16; ROWS], t: usize, row: usize) -> usize
     requires { ⌜ (t < 2) × (row < 512) ⌝ }
     ensures { λ r. ⌜ r ≡ olderAt (now (rows .entry)) t row ⌝ }
 {
-    wide(rows[t * 1536 + 512 + row])
+    wide(rows[t * 1280 + 256 + row])
 }
 
 // The number of a row.
@@ -53,7 +53,7 @@ pub fn number(rows: &[u16; ROWS], t: usize, row: usize) -> u16
     requires { ⌜ (t < 2) × (row < 512) ⌝ }
     ensures { λ r. ⌜ r ≡ numberAt (now (rows .entry)) t row ⌝ }
 {
-    rows[t * 1536 + 1024 + row]
+    rows[t * 1280 + 768 + row]
 }
 
 // The key of a row.
@@ -70,9 +70,9 @@ pub fn clear(rows: &mut [u16; ROWS], t: usize)
     ensures { λ _. ⌜ Cleared (now (rows .entry)) t (now (rows .exit)) ⌝ }
 {
     rows_room(rows);
-    let from = t * 1536;
+    let from = t * 1280;
     let mut s = 0usize;
-    while s < 512 {
+    while s < 256 {
         rows[from + s] = 0;
         s += 1;
     }
@@ -80,13 +80,13 @@ pub fn clear(rows: &mut [u16; ROWS], t: usize)
 
 // Puts a row into a slot, before the rows that the slot has.
 pub fn link(rows: &mut [u16; ROWS], t: usize, slot: usize, row: usize)
-    requires { ⌜ (t < 2) × (slot < 512) × (row < 512) ⌝ }
+    requires { ⌜ (t < 2) × (slot < 256) × (row < 512) ⌝ }
     ensures { λ _. ⌜ Linked (now (rows .entry)) t slot row (now (rows .exit)) ⌝ }
 {
     rows_room(rows);
-    let before = rows[t * 1536 + slot];
-    rows[t * 1536 + 512 + row] = before;
-    rows[t * 1536 + slot] = row as u16 + 1;
+    let before = rows[t * 1280 + slot];
+    rows[t * 1280 + 256 + row] = before;
+    rows[t * 1280 + slot] = row as u16 + 1;
 }
 
 // Gives a row its number.
@@ -95,7 +95,7 @@ pub fn set_number(rows: &mut [u16; ROWS], t: usize, row: usize, x: u16)
     ensures { λ _. ⌜ Numbered (now (rows .entry)) t row x (now (rows .exit)) ⌝ }
 {
     rows_room(rows);
-    rows[t * 1536 + 1024 + row] = x;
+    rows[t * 1280 + 768 + row] = x;
 }
 
 // Gives a row its key.

@@ -8,11 +8,11 @@ use crate::rows::ROWS;
 
 // The slot of a word. What multiplication mixes best are the high bits.
 fn slot(w: u64) -> usize
-    ensures { λ r. ⌜ (r ≡ slotOf w) × (r < 512) ⌝ }
+    ensures { λ r. ⌜ (r ≡ slotOf w) × (r < 256) ⌝ }
 {
     let low = w % 4294967296;
     let high = w / 4294967296;
-    ((low * 2654435769 + high * 668265263) / 8388608 % 512) as usize
+    ((low * 2654435769 + high * 668265263) / 16777216 % 256) as usize
 }
 
 // Puts a row behind those that the table has.

@@ -1,5 +1,5 @@
 -- Digits and their bytes. Assumes nothing.
-use Prim.Native.Nat.{ℕ, _+_, _-_, _<_, _≤_}
+use Prim.Native.Nat.{ℕ, zero, suc, _+_, _-_, _<_, _≤_}
 use native.Mathlib.Omega.{arith}
 use mathlib.Core.Path.{_≡_, refl, _∙_}
 use mathlib.Core.Bool.{Bool, true, false, false≢true}
@@ -27,6 +27,18 @@ digit-back c h = omega arith
 
 pub digit-less : (c : ℕ) → (48 ≤ c) × (c < 58) → c - 48 < 10
 digit-less c h = omega arith
+
+-- ---- what the last arm of a table knows: none of the numbers before it
+abbrev pub NoneOf : ℕ → ℕ → Type 0
+NoneOf zero d = Unit {0}
+NoneOf (suc n) d = NoneOf n d × (d ≡ n → ⊥)
+
+pub not-below : (n d : ℕ) → NoneOf n d → n ≤ d
+not-below zero d h = omega arith
+not-below (suc n) d h = let l : n ≤ d = not-below n d (h .0) in let k : d ≡ n → ⊥ = h .1 in omega arith
+
+pub last-one : (n d : ℕ) → NoneOf n d → d < suc n → d ≡ n
+last-one n d h l = let k : n ≤ d = not-below n d h in omega arith
 
 pub glyph-small : (d : ℕ) → d < 10 → glyph d ≡ 48 + d
 glyph-small d h = simp (lt-ltb d 10 h)

@@ -6,6 +6,7 @@ use native.Mathlib.Numerals.{add-one}
 use native.Mathlib.Omega.{arith}
 use mathlib.Core.Path.{_≡_, ap, _∙_}
 use mathlib.Core.Bool.{true, false}
+use mathlib.Core.Logic.{⊎-elim}
 use mathlib.Core.List.{List, _∷_}
 use lib.ListN.{length, drop, getD, drop-of-length-le}
 use lib.Seq.{drop-cons}
@@ -13,6 +14,7 @@ use borrow.Author.Tests.{lt-ltb, le-ltb, eq-eqb, ne-eqb}
 use Rattle.text.specs.declared.Read.the-variants.{Got, Refused}
 use Rattle.text.specs.Text.{decText}
 use Rattle.text.specs.Scan.{isDigit, hexVal, scanDec, zeroThen, decFrom, decAt, scanHex}
+use Rattle.text.proofs.Bytes.{below?}
 use Rattle.text.proofs.Decimal.{one-long, one-longer}
 use Rattle.text.proofs.Hex.{hex-grow}
 
@@ -91,12 +93,20 @@ module _ (s : List ℕ) (i a : ℕ) where
     hex-go zero q p = absurd (omega arith)
     hex-go (suc k) q p = let e : suc k - 1 ≡ k = omega arith in rw (drop-cons s i 0 h) (rw (lt-ltb (hexVal (getD s i 0)) 16 p) (rw (add-one i, e)))
 
+-- fewer bytes than digits: wherever the scan stops, it refuses
+pub hex-room : (k : ℕ) (s : List ℕ) (i a : ℕ) → length s - i < k → scanHex k a i (drop i s) ≡ Refused
+hex-room zero s i a h = absurd (omega arith)
+hex-room (suc k) s i a h =
+    ⊎-elim (λ l. ⊎-elim (λ d. let e : suc k - 1 ≡ k = omega arith in hex-go s i a l (suc k) (omega arith) d ∙ rw e (hex-room k s (i + 1) (a * 16 + hexVal (getD s i 0)) (omega arith)))
+    (λ g. hex-stop s i a l (suc k) (omega arith) g) (below? (hexVal (getD s i 0)) 16))
+    (λ g. hex-short s i a (suc k) (omega arith) g) (below? i (length s))
+
 -- the value of fewer than 16 digits has room for one more
 pub hex-small : (a k : ℕ) → a < 16 ^ k → k ≤ 15 → a < 1152921504606846976
 hex-small a k h l = lt-of-lt-of-le h (pow-le-pow-right {n = 16} (omega arith) {i = k} {j = 15} l)
 
-pub hex-more : (k a d left : ℕ) → a < 16 ^ (k - left) → d < 16 → 0 < left → left ≤ k → a * 16 + d < 16 ^ (k - (left - 1))
-hex-more k a d left h l p q = let e : k - (left - 1) ≡ suc (k - left) = omega arith in rw e (hex-grow (k - left) a d h l)
+pub hex-more : (at i a d : ℕ) → a < 16 ^ (i - at) → d < 16 → at ≤ i → a * 16 + d < 16 ^ (i + 1 - at)
+hex-more at i a d h l q = let e : i + 1 - at ≡ suc (i - at) = omega arith in rw e (hex-grow (i - at) a d h l)
 
 -- ---- lengths
 pub two-long : (n : ℕ) → 10 ≤ n → n < 100 → length (decText n) ≡ 2

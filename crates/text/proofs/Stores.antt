@@ -23,6 +23,10 @@ set-sets l i j x (y ∷ xs) h = set-sets (set l i y) (suc i) j x xs (omega arith
 pub sets-before : (l : List ℕ) (i x : ℕ) (xs : List ℕ) → 0 < i → set (sets l i xs) (i - 1) x ≡ sets l (i - 1) (x ∷ xs)
 sets-before l i x xs h = set-sets l i (i - 1) x xs (omega arith) ∙ ap (λ (k : ℕ). sets (set l (i - 1) x) k xs) (omega arith)
 
+-- ---- a decimal of one digit
+pub one-digit : (out : List ℕ) (at v : ℕ) → v < 10 → (at + 1 ≡ at + length (decText v)) × (set out at (glyph v) ≡ sets out at (decText v))
+one-digit out at v h = (omega (arith, one-long v h), rw (dec-small v h))
+
 -- ---- a decimal, written from its last digit on: the digits of x are still to come, and end before i
 pub record Left (out₀ : List ℕ) (at v : ℕ) (out : List ℕ) (i x : ℕ) : Type 0 where
   pub tail : List ℕ

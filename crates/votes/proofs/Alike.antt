@@ -237,6 +237,6 @@ mix-part w m l e f h =
 
 -- ---- the slot
 
-pub slot-is : (at what tag x y : ℕ) → x ≡ folded at → y ≡ folded what → ((x + tag % 65536) * 1640531527 + y * 668265263) / 8388608 % 512 ≡ slotBy at what tag
+pub slot-is : (at what tag x y : ℕ) → x ≡ folded at → y ≡ folded what → ((x + tag % 65536) * 1640531527 + y * 668265263) / 16777216 % 256 ≡ slotBy at what tag
 unfolding slotBy
-slot-is at what tag x y e f = ap₂ (λ a b. ((a + tag % 65536) * 1640531527 + b * 668265263) / 8388608 % 512) e f
+slot-is at what tag x y e f = ap₂ (λ a b. ((a + tag % 65536) * 1640531527 + b * 668265263) / 16777216 % 256) e f

@@ -160,7 +160,7 @@ module _ (W ids : List ℕ) where
 
       -- a vote of a new group
       pub sofar-new : {K′ K″ R′ : List ℕ} (x z : ℕ) (b : Bool) → (g < n → ⊥) → b ≡ isVote (entry W ids i) → b ≡ true → Key W v → Keyed K 0 n (v .at) K′ → Keyed K′ 1 n (v .what) K″ → Noted 0 true o r
-          → Begun i (v .tag) r x → z ≡ slotBy (v .at) (v .what) (v .tag) → z < 512 → Linked R 0 z n R′ → Sofar W ids (i + 1) K″ R′ (set G n x) (n + 1)
+          → Begun i (v .tag) r x → z ≡ slotBy (v .at) (v .what) (v .tag) → z < 256 → Linked R 0 z n R′ → Sofar W ids (i + 1) K″ R′ (set G n x) (n + 1)
       unfolding slotAt
       sofar-new {K′} {K″} {R′} x z b d e f key put put′ w y q c link = record {
         fewer = omega (arith, so .fewer);

@@ -1,9 +1,9 @@
 -- Votes by three words: votes that are alike have the same words, and votes with the same words are alike but for their histories.
 -- Assumes nothing.
 use mathlib.Core.Path.{_≡_}
-use mathlib.Core.Bool.{Bool, true, false, not, _||_}
+use mathlib.Core.Bool.{Bool, true, false, not, _&&_, _||_}
 use mathlib.Core.List.{List, [], _∷_}
-use Prim.Native.Nat.{ℕ, _+_, _*_, _/_, _%_, _≤_, _<_}
+use Prim.Native.Nat.{ℕ, _+_, _-_, _*_, _/_, _%_, _≤_, _<_}
 use lib.Dec.{T, eqb}
 use lib.ListN.{length, getD}
 use Rattle.protocol.specs.Lists.{if_then_else_}
@@ -55,6 +55,16 @@ pub record Worded (W ids K G : List ℕ) (n : ℕ) : Type 0 where
   pub at : (g : ℕ) → g < n → keyAt K 0 g ≡ wordOf (voteAt W ids G g .at)
   pub what : (g : ℕ) → g < n → keyAt K 1 g ≡ whatOf (voteAt W ids G g)
 
+-- Whether group g has the words of the vote v.
+unfoldable pub hasWords : List ℕ → List ℕ → Vote → ℕ → Bool
+hasWords K G v g = eqb (keyAt K 1 g) (v .what) && eqb (keyAt K 0 g) (v .at) && eqb (tagOf (getD G g 0)) (v .tag)
+
+-- Of the groups below `from`, r is the newest with the words of v, plus one, or 0 where there is none.
+pub record LatestWith (K G : List ℕ) (v : Vote) (from r : ℕ) : Type 0 where
+  pub most : r ≤ from
+  pub here : 0 < r → hasWords K G v (r - 1) ≡ true
+  pub none : (g : ℕ) → r ≤ g → g < from → hasWords K G v g ≡ true → ⊥
+
 -- r is the group of statement s, or n.
 pub record Place (W ids G : List ℕ) (n s r : ℕ) : Type 0 where
   pub most : r ≤ n
@@ -63,11 +73,19 @@ pub record Place (W ids G : List ℕ) (n s r : ℕ) : Type 0 where
 
 -- The slot of the words of a vote: votes that are alike share it, and other ones seldom.
 unfoldable pub slotBy : ℕ → ℕ → ℕ → ℕ
-slotBy at what tag = ((folded at + tag % 65536) * 1640531527 + folded what * 668265263) / 8388608 % 512
+slotBy at what tag = ((folded at + tag % 65536) * 1640531527 + folded what * 668265263) / 16777216 % 256
 
 -- The slot of group g.
 unfoldable pub slotAt : List ℕ → List ℕ → ℕ → ℕ
 slotAt K G g = slotBy (keyAt K 0 g) (keyAt K 1 g) (tagOf (getD G g 0))
+
+-- The index of the first table leads on from `from`, a group of the slot of v plus one or 0.
+pub record Leads (K R G : List ℕ) (v : Vote) (from : ℕ) : Type 0 where
+  pub groups : ℕ
+  pub few : groups ≤ 512
+  pub chained : Chained (slotAt K G) R 0 groups
+  pub most : from ≤ groups
+  pub here : 0 < from → slotAt K G (from - 1) ≡ slotBy (v .at) (v .what) (v .tag)
 
 -- The first i entries are in n groups, no two of which are alike, and the index of the first table leads to them.
 pub record Sofar (W ids : List ℕ) (i : ℕ) (K R G : List ℕ) (n : ℕ) : Type 0 where

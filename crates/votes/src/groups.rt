@@ -6,7 +6,7 @@ ghost use Rattle.protocol.specs.Lists.{any};
 ghost use Rattle.pool.specs.Pool.{recordIn};
 ghost use Rattle.tables.specs.Index.{Empty, Chained};
 ghost use Rattle.votes.specs.Votes.{isVote, Sifted};
-ghost use Rattle.votes.specs.Keys.{Key, Worded, slotAt, Place, Sofar};
+ghost use Rattle.votes.specs.Keys.{Key, Worded, hasWords, slotAt, Leads, LatestWith, Place, Sofar};
 use crate::Gathered;
 use crate::group;
 use crate::keys;
@@ -25,7 +25,38 @@ fn room(groups: &[u64; 512]) -> usize
     s.len()
 }
 
-// The group of a vote, or n.
+// Whether group g has the words of a vote.
+fn has_words(keys: &[u64; KEYS], groups: &[u64; 512], g: usize, v: Vote) -> bool
+    requires { ⌜ g < 512 ⌝ }
+    ensures { λ r. ⌜ r ≡ hasWords (now (keys .entry)) (now (groups .entry)) v g ⌝ }
+{
+    if tables::key(keys, 1, g) != v.what {
+        return false;
+    }
+    if tables::key(keys, 0, g) != v.at {
+        return false;
+    }
+    group::tag_of(groups[g]) == v.tag
+}
+
+// Of the groups below `from`, whose last is of the slot of a vote, the newest with its words, plus one. It reads no statement: most votes are found
+// by their words alone, and the search is fastest where it has little at hand.
+fn walk(keys: &[u64; KEYS], rows: &[u16; ROWS], groups: &[u64; 512], v: Vote, from: usize) -> usize
+    requires { ⌜ Leads (now keys) (now rows) (now groups) v from ⌝ }
+    ensures { λ r. ⌜ LatestWith (now (keys .entry)) (now (groups .entry)) v from r ⌝ }
+{
+    let mut x = from;
+    while x > 0 {
+        let g = x - 1;
+        if has_words(keys, groups, g, v) {
+            return x;
+        }
+        x = tables::older(rows, 0, g);
+    }
+    0
+}
+
+// The group of a vote, or n: of the groups with its words, the one with its history where it is for one.
 fn find(
     words: &[u64; POOL_WORDS],
     ids: &[u16; RECORD],
@@ -38,24 +69,15 @@ fn find(
     requires { ⌜ (n ≤ 512) × Worded (now words) (now ids) (now keys) (now groups) n × Key (now words) v × Chained (slotAt (now keys) (now groups)) (now rows) 0 n ⌝ }
     ensures { λ r. ⌜ Place (now (words .entry)) (now (ids .entry)) (now (groups .entry)) n (v .number) r ⌝ }
 {
-    let mut x = tables::newest(rows, 0, keys::slot_of(v));
+    let newest = tables::newest(rows, 0, keys::slot_of(v));
+    let mut x = walk(keys, rows, groups, v, newest);
     while x > 0 {
         let g = x - 1;
-        x = tables::older(rows, 0, g);
-        if tables::key(keys, 1, g) != v.what {
-            continue;
-        }
-        if tables::key(keys, 0, g) != v.at {
-            continue;
-        }
-        let w = groups[g];
-        if group::tag_of(w) != v.tag {
-            continue;
-        }
-        let f = group::place_of(w);
+        let f = group::place_of(groups[g]);
         if keys::same_names(words, ids[f], v.number) {
             return g;
         }
+        x = walk(keys, rows, groups, v, tables::older(rows, 0, g));
     }
     n
 }

@@ -98,9 +98,9 @@ pub fn same_names(words: &[u64; POOL_WORDS], i: u16, j: u16) -> bool
 
 // The slot of a vote. What multiplication mixes best are the high bits.
 pub fn slot_of(v: Vote) -> usize
-    ensures { λ r. ⌜ (r ≡ slotBy (v .at) (v .what) (v .tag)) × (r < 512) ⌝ }
+    ensures { λ r. ⌜ (r ≡ slotBy (v .at) (v .what) (v .tag)) × (r < 256) ⌝ }
 {
     let x = fold(v.at) + v.tag % 65536;
     let y = fold(v.what);
-    ((x * 1640531527 + y * 668265263) / 8388608 % 512) as usize
+    ((x * 1640531527 + y * 668265263) / 16777216 % 256) as usize
 }

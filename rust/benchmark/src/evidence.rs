@@ -40,8 +40,10 @@ fn compared(name: &str, cases: Vec<Case>) {
     }
 }
 
-/// Does the work of one side again and again, for a tool that counts its instructions.
-pub fn repeat(kind: &str, count: usize, side: &str, rounds: usize) {
+/// Does the work of one side on a record, as `honest, 64`, again and again, for a tool that counts its instructions.
+pub fn repeat(record: &str, side: &str, rounds: usize) {
+    let (kind, count) = record.split_once(", ").unwrap_or((record, "0"));
+    let count = count.parse().unwrap_or(0);
     let cases = match kind {
         "honest" => honest(count),
         "breadth" => vec![breadth(count)],

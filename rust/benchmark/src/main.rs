@@ -1,7 +1,8 @@
 //! How fast the proved code is beside the reference: one run, the same inputs, both built for release.
 //!
 //! `ring-benchmark [PART ..]`, with parts `statements`, `scan`, `evidence`, `turns` and `schedules`; all of them without an argument.
-//! `ring-benchmark repeat KIND COUNT SIDE ROUNDS` does the evidence of one record and times nothing: `instructions` counts what it takes.
+//! `ring-benchmark repeat PART CASE SIDE ROUNDS` does the work of one case of `statements` or `evidence` and times nothing: `instructions`
+//! counts what it takes.
 
 mod evidence;
 mod measure;
@@ -20,10 +21,10 @@ const PARTS: [(&str, fn()); 5] = [
 
 fn main() {
     let asked: Vec<String> = std::env::args().skip(1).collect();
-    if let [word, kind, count, side, rounds] = asked.as_slice() {
+    if let [word, part, case, side, rounds] = asked.as_slice() {
         if word == "repeat" {
-            let number = |text: &str| text.parse().unwrap_or(0);
-            return evidence::repeat(kind, number(count), side, number(rounds));
+            let repeat: fn(&str, &str, usize) = if part == "statements" { statements::repeat } else { evidence::repeat };
+            return repeat(case, side, rounds.parse().unwrap_or(0));
         }
     }
     let wanted = |name: &str| asked.is_empty() || asked.iter().any(|word| word == name);

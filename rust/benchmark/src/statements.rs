@@ -11,7 +11,7 @@ use crate::measure::{head, measure, row};
 const LINES: usize = 8_192;
 
 /// Lines that `keep` takes, of one damage after the other.
-fn lines(damages: &[Damage], keep: impl Fn(&[u8], Option<Statement>) -> bool) -> Vec<Vec<u8>> {
+fn lines(damages: &[Damage], keep: impl Fn(Option<Statement>) -> bool) -> Vec<Vec<u8>> {
     let mut rng = Rng::new(7);
     let mut lines = Vec::new();
     for &damage in damages.iter().cycle() {
@@ -19,7 +19,7 @@ fn lines(damages: &[Damage], keep: impl Fn(&[u8], Option<Statement>) -> bool) ->
             break;
         }
         let line = line(&mut rng, damage);
-        if keep(&line, Statement::read(&line)) {
+        if keep(Statement::read(&line)) {
             lines.push(line);
         }
     }
@@ -46,19 +46,36 @@ fn theirs(lines: &[Vec<u8>]) {
     }
 }
 
-fn compared(name: &str, lines: &[Vec<u8>]) {
-    let bytes: usize = lines.iter().map(Vec::len).sum();
-    let name = format!("{name} ({} bytes a line)", bytes / lines.len());
-    row(&name, &measure(lines, 64, mine, theirs));
+const KINDS: [&str; 5] = ["all kinds", "no views", "1 to 15 views", "16 views", "damaged, refused"];
+
+/// The lines of a kind.
+fn lines_of(kind: &str) -> Vec<Vec<u8>> {
+    let views = |read: Option<Statement>| read.map(|statement| statement.fields().count);
+    let proper = [Damage::Proper];
+    let damages: Vec<Damage> = DAMAGES.into_iter().filter(|damage| *damage != Damage::Long).collect();
+    match kind {
+        "no views" => lines(&proper, |read| views(read) == Some(0)),
+        "1 to 15 views" => lines(&proper, |read| views(read).is_some_and(|count| (1..16).contains(&count))),
+        "16 views" => lines(&proper, |read| views(read) == Some(16)),
+        "damaged, refused" => lines(&damages, |read| read.is_none()),
+        _ => lines(&proper, |read| read.is_some()),
+    }
+}
+
+/// Does the work of one side on the lines of a kind again and again, for a tool that counts its instructions.
+pub fn repeat(kind: &str, side: &str, rounds: usize) {
+    let lines = lines_of(kind);
+    for _ in 0..rounds {
+        if side == "mine" { mine(&lines) } else { theirs(&lines) }
+    }
 }
 
 pub fn print() {
-    let views = |statement: &Statement| statement.fields().count;
     head("Reading a line and writing it again", "line");
-    compared("all kinds", &lines(&[Damage::Proper], |_, read| read.is_some()));
-    compared("no views", &lines(&[Damage::Proper], |_, read| read.is_some_and(|s| views(&s) == 0)));
-    compared("1 to 15 views", &lines(&[Damage::Proper], |_, read| read.is_some_and(|s| (1..16).contains(&views(&s)))));
-    compared("16 views", &lines(&[Damage::Proper], |_, read| read.is_some_and(|s| views(&s) == 16)));
-    let damages: Vec<Damage> = DAMAGES.into_iter().filter(|damage| *damage != Damage::Long).collect();
-    compared("damaged, refused", &lines(&damages, |_, read| read.is_none()));
+    for kind in KINDS {
+        let lines = lines_of(kind);
+        let bytes: usize = lines.iter().map(Vec::len).sum();
+        let name = format!("{kind} ({} bytes a line)", bytes / lines.len());
+        row(&name, &measure(&lines, 64, mine, theirs));
+    }
 }

@@ -6,10 +6,10 @@ use Rattle.tables.proofs.rows.clear.Statement.{statement}
 use Rattle.tables.proofs.rows.clear.Tie as tie
 
 abbrev Inv-loop : tie.InvT-loop
-Inv-loop rows₀ t from s₀ rows s = (s ≤ 512) × Clearing rows₀ t rows s
+Inv-loop rows₀ t from s₀ rows s = (s ≤ 256) × Clearing rows₀ t rows s
 
 abbrev μ-loop : tie.MeasureT-loop
-μ-loop rows₀ t from s₀ rows s = 512 - s
+μ-loop rows₀ t from s₀ rows s = 256 - s
 
 pub clear-spec : {M : Type 1} → statement M
 clear-spec =

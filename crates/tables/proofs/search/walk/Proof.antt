@@ -1,11 +1,13 @@
 use borrow.Author.Needs.{needs}
 use native.Mathlib.Omega.{arith}
-use Rattle.tables.proofs.Searches.{Walked, walked-first, walked-found, walked-none, walked-next, older-most}
+use mathlib.Core.Path.{sym, _∙_}
+use Rattle.tables.specs.Index.{slotOf, slotAt}
+use Rattle.tables.proofs.Searches.{Walked, walked-first, walked-next, older-most, HasKey, walked-found, walked-none, key-slot}
 use Rattle.tables.proofs.search.walk.Statement.{statement}
 use Rattle.tables.proofs.search.walk.Tie as tie
 
 abbrev Inv-loop : tie.InvT-loop
-Inv-loop keys rows t w from x₀ x = Walked keys t w from x
+Inv-loop keys rows t w from x₀ x = Walked (slotAt keys t) (slotOf w) (HasKey keys t w) from x
 
 abbrev μ-loop : tie.MeasureT-loop
 μ-loop keys rows t w from x₀ x = x
@@ -21,6 +23,6 @@ walk-spec =
     (λ c κs. (c .before .before .pre .0, omega (arith, c .before .before .pre .1 .1 .few, c .before .before .pre .1 .2, c .before .loop .inv .most, c .loop-test .taken)))
     (λ c. walked-found (c .before .before .before .loop .inv) (c .before .key .ensures) (c .if1 .taken))
     (λ c κs. (c .before .before .before .before .pre .0, omega (arith, c .before .before .before .before .pre .1 .1 .few, c .before .before .before .before .pre .1 .2, c .before .before .before .loop .inv .most, c .before .before .loop-test .taken)))
-    (λ c. omega (arith, older-most (c .before .before .before .before .before .pre .1 .1) (omega (arith, c .before .before .before .before .before .pre .1 .2, c .before .before .before .before .loop .inv .most, c .before .before .before .loop-test .taken)) (c .older .ensures), c .before .before .before .loop-test .taken))
-    (λ c. walked-next (c .before .before .before .before .before .pre .1 .1) (c .before .before .before .before .loop .inv) (c .before .before .before .before .before .pre .1 .2) (c .before .before .before .loop-test .taken) (c .before .before .key .ensures) (c .before .if1 .left) (c .older .ensures))
+    (λ c. omega (arith, older-most (c .before .before .before .before .before .pre .1 .1 .chained) (omega (arith, c .before .before .before .before .before .pre .1 .2, c .before .before .before .before .loop .inv .most, c .before .before .before .loop-test .taken)) (c .older .ensures), c .before .before .before .loop-test .taken))
+    (λ c. walked-next (c .before .before .before .before .before .pre .1 .1 .chained) (key-slot _ _ _) (c .before .before .before .before .loop .inv) (c .before .before .before .before .before .pre .1 .2) (c .before .before .before .loop-test .taken) (λ e. c .before .if1 .left (c .before .before .key .ensures ∙ e)) (c .older .ensures))
     (λ c. walked-none (c .before .loop .inv) (omega arith)))
