@@ -9,14 +9,14 @@ use mathlib.Core.List.{List, _++_}
 use lib.ListN.{length, take, drop, length-append}
 use lib.Seq.{sets-eq, take-append-seam}
 use Rattle.bench.specs.Rows.{Printed, Answered}
-use Rattle.bench.specs.Running.{Wrote, Long}
+use Rattle.bench.specs.Running.{PrintedInto, Long}
 use Rattle.bench.proofs.One.{printed-one}
 
-pub wrote-long : {S R : List ℕ} {r : ℕ} {R′ : List ℕ} → Wrote S R r R′ → Long S r
+pub wrote-long : {S R : List ℕ} {r : ℕ} {R′ : List ℕ} → PrintedInto S R r R′ → Long S r
 wrote-long w = record { text = w .text; printed = w .printed; long = w .long; small = w .small }
 
 -- the rows have room
-pub has-room : (S R : List ℕ) (r : ℕ) (R′ : List ℕ) (w : Wrote S R r R′) → length (w .text) ≤ length R → Answered S R r R′
+pub has-room : (S R : List ℕ) (r : ℕ) (R′ : List ℕ) (w : PrintedInto S R r R′) → length (w .text) ≤ length R → Answered S R r R′
 has-room S R r R′ w l = record {
   text = w .text;
   printed = w .printed;
@@ -25,10 +25,10 @@ has-room S R r R′ w l = record {
   short = λ h. absurd (omega arith);
 }
 
-pub known-room : (S R : List ℕ) (n r : ℕ) (R′ : List ℕ) → Long S n → n ≤ length R → Wrote S R r R′ → Answered S R r R′
+pub known-room : (S R : List ℕ) (n r : ℕ) (R′ : List ℕ) → Long S n → n ≤ length R → PrintedInto S R r R′ → Answered S R r R′
 known-room S R n r R′ k l w = has-room S R r R′ w (omega (arith, k .long, ap length (printed-one S (w .text) (k .text) (w .printed) (k .printed))))
 
-pub large-room : (S R : List ℕ) (r : ℕ) (R′ : List ℕ) → 2621504 ≤ length R → Wrote S R r R′ → Answered S R r R′
+pub large-room : (S R : List ℕ) (r : ℕ) (R′ : List ℕ) → 2621504 ≤ length R → PrintedInto S R r R′ → Answered S R r R′
 large-room S R r R′ l w = has-room S R r R′ w (omega (arith, w .small))
 
 -- the rows have no room

@@ -24,7 +24,7 @@ use Rattle.bench.specs.Rows.{headerText, refusedRow, rowsFrom, Printed}
 use Rattle.schedule.proofs.Words.{verbIs, written-verb, OfVerb, of-verb}
 use Rattle.schedule.proofs.Commands.{follows}
 use Rattle.statements.proofs.Fits.{keeps-fits}
-use Rattle.schedule.proofs.Whole.{written-ended}
+use Rattle.schedule.proofs.Lines.{written-ended}
 
 module _ (T′ : List ℕ) where
   -- what follows a word and its comma

@@ -22,11 +22,11 @@ use Rattle.bench.specs.declared.row.Word.{Word}
 use Rattle.bench.specs.declared.row.Word.the-variants.{Taken, Signed, Entered, Delivered, Left, Quiet, Refused}
 use Rattle.bench.specs.declared.row.Value.{Value}
 use Rattle.bench.specs.declared.row.Value.the-variants.{Number, View}
-use Rattle.bench.specs.Seats.{wordOf, valueOf}
+use Rattle.bench.specs.Seats.{wordOfAnswer, valueOfAnswer}
 use Rattle.bench.specs.Running.{rowIs}
 use Rattle.bench.specs.Bench.{Reply}
 use Rattle.bench.specs.Rows.{wordText, valueText, rowText}
-use Rattle.bench.specs.Writing.{wordFor, wordIs, valueIs, shownText, rowOf, Shows}
+use Rattle.bench.specs.Writing.{wordFor, wordIs, valueIs, valueShown, rowOf, RowShows}
 
 -- ---- one byte more of a text
 pub put-next : (out₀ out t : List ℕ) (at i : ℕ) → i < length t → out ≡ sets out₀ at (take i t) → set out (at + i) (getD t i 0) ≡ sets out₀ at (take (i + 1) t)
@@ -80,7 +80,7 @@ abbrev pub FitsValue : Value → Type 0
 FitsValue (Number n) = n < 18446744073709551616
 FitsValue (View v) = Unit {0}
 
-pub value-most : (v : Value) → FitsValue v → length (shownText v) ≤ 20
+pub value-most : (v : Value) → FitsValue v → length (valueShown v) ≤ 20
 value-most (Number n) h = most-long n h
 value-most (View v) h = omega (arith, view-long (viewIs v))
 
@@ -92,31 +92,31 @@ who-most n h = long-below 1 n (omega arith)
 
 -- ---- a row, in runs
 module _ (n who : ℕ) (w : Word) (v : Value) where
-  runs : rowOf n who w v ≡ (decText n ++ ((44 ∷ decText who) ++ ((44 ∷ wordIs w) ++ (44 ∷ shownText v)))) ++ (10 ∷ [])
+  runs : rowOf n who w v ≡ (decText n ++ ((44 ∷ decText who) ++ ((44 ∷ wordIs w) ++ (44 ∷ valueShown v)))) ++ (10 ∷ [])
   unfolding rowOf parted
   runs = refl
 
-  pub row-size : length (rowOf n who w v) ≡ length (decText n) + length (decText who) + length (wordIs w) + length (shownText v) + 4
+  pub row-size : length (rowOf n who w v) ≡ length (decText n) + length (decText who) + length (wordIs w) + length (valueShown v) + 4
   row-size =
       ap length runs
       ∙ omega (
         arith,
-        length-append (decText n ++ ((44 ∷ decText who) ++ ((44 ∷ wordIs w) ++ (44 ∷ shownText v)))) (10 ∷ []),
-        length-append (decText n) ((44 ∷ decText who) ++ ((44 ∷ wordIs w) ++ (44 ∷ shownText v))),
-        length-append (decText who) ((44 ∷ wordIs w) ++ (44 ∷ shownText v)),
-        length-append (wordIs w) (44 ∷ shownText v),
+        length-append (decText n ++ ((44 ∷ decText who) ++ ((44 ∷ wordIs w) ++ (44 ∷ valueShown v)))) (10 ∷ []),
+        length-append (decText n) ((44 ∷ decText who) ++ ((44 ∷ wordIs w) ++ (44 ∷ valueShown v))),
+        length-append (decText who) ((44 ∷ wordIs w) ++ (44 ∷ valueShown v)),
+        length-append (wordIs w) (44 ∷ valueShown v),
       )
 
   -- NO ROW HAS MORE THAN 40 BYTES
   pub row-most : n < 100000 → who < 100 → FitsValue v → length (rowOf n who w v) ≤ 40
   row-most hn hw hv = omega (arith, row-size, line-most n hn, who-most who hw, word-most w, value-most v hv)
 
-  pub row-runs : (out : List ℕ) (at a b c d : ℕ) → a ≡ at + length (decText n) → b ≡ a + 1 + length (decText who) → c ≡ b + 1 + length (wordIs w) → d ≡ c + 1 + length (shownText v)
-      → set (sets (sets (sets (sets out at (decText n)) a (44 ∷ decText who)) b (44 ∷ wordIs w)) c (44 ∷ shownText v)) d 10 ≡ sets out at (rowOf n who w v)
+  pub row-runs : (out : List ℕ) (at a b c d : ℕ) → a ≡ at + length (decText n) → b ≡ a + 1 + length (decText who) → c ≡ b + 1 + length (wordIs w) → d ≡ c + 1 + length (valueShown v)
+      → set (sets (sets (sets (sets out at (decText n)) a (44 ∷ decText who)) b (44 ∷ wordIs w)) c (44 ∷ valueShown v)) d 10 ≡ sets out at (rowOf n who w v)
   row-runs out at a b c d ea eb ec ed =
-      let front : List ℕ = decText n ++ ((44 ∷ decText who) ++ ((44 ∷ wordIs w) ++ (44 ∷ shownText v))) in
+      let front : List ℕ = decText n ++ ((44 ∷ decText who) ++ ((44 ∷ wordIs w) ++ (44 ∷ valueShown v))) in
       let place : d ≡ at + length front = ed ∙ omega (arith, row-size, ap length runs ∙ length-append front (10 ∷ [])) in
-      ap (λ (o : List ℕ). set o d 10) (four-runs out at a b c (decText n) (44 ∷ decText who) (44 ∷ wordIs w) (44 ∷ shownText v) ea (omega arith) (omega arith))
+      ap (λ (o : List ℕ). set o d 10) (four-runs out at a b c (decText n) (44 ∷ decText who) (44 ∷ wordIs w) (44 ∷ valueShown v) ea (omega arith) (omega arith))
       ∙ ap (λ (k : ℕ). set (sets out at front) k 10) place ∙ sym (sets-append front (10 ∷ []) out at) ∙ ap (sets out at) (sym runs)
 
 -- ---- the reply that a row shows
@@ -130,15 +130,15 @@ word-for quiet = refl
 word-for (refused r) = refl
 
 -- THE ROW IS THAT OF THE REPLY
-pub shown : (n : ℕ) {r : Reply} {who : ℕ} {w : Word} {v : Value} → Shows r who w v → rowOf n who w v ≡ rowText n r
+pub shown : (n : ℕ) {r : Reply} {who : ℕ} {w : Word} {v : Value} → RowShows r who w v → rowOf n who w v ≡ rowText n r
 unfolding rowOf rowText
 shown n {r} {who} {w} {v} s = rw (← s .named, ← s .word, ← s .value, word-for (r .answer))
 
 -- a line's row, as it is put
-pub row-put : (who : ℕ) (a : Answered) (number n at : ℕ) (R : List ℕ) {R′ : List ℕ} {r : ℕ} {w : Word} {v : Value} → w ≡ wordOf a → v ≡ valueOf a number
+pub row-put : (who : ℕ) (a : Answered) (number n at : ℕ) (R : List ℕ) {R′ : List ℕ} {r : ℕ} {w : Word} {v : Value} → w ≡ wordOfAnswer a → v ≡ valueOfAnswer a number
     → (r ≡ at + length (rowOf n who w v)) × (R′ ≡ sets R at (rowOf n who w v)) × (length (rowOf n who w v) ≤ 40)
     → (r ≡ at + length (rowIs n who a number)) × (R′ ≡ sets R at (rowIs n who a number)) × (length (rowIs n who a number) ≤ 40)
 unfolding rowIs
 row-put who a number n at R {R′} {r} {w} {v} e f h =
-    let q : rowOf n who w v ≡ rowOf n who (wordOf a) (valueOf a number) = ap₂ (rowOf n who) e f in
+    let q : rowOf n who w v ≡ rowOf n who (wordOfAnswer a) (valueOfAnswer a number) = ap₂ (rowOf n who) e f in
     subst (λ t. (r ≡ at + length t) × (R′ ≡ sets R at t) × (length t ≤ 40)) q h

@@ -28,13 +28,13 @@ use Rattle.statements.specs.Meaning.{stmtOf}
 use Rattle.pool.specs.declared.Found.the-variants as found
 use Rattle.pool.specs.declared.Placed.{Placed as Answered}
 use Rattle.pool.specs.declared.Placed.the-variants as placed
-use Rattle.pool.specs.Pool.{stmtAt, poolLen, recordOf, recordLen, recordIn}
+use Rattle.pool.specs.Pool.{stmtAt, poolLen, recordUpTo, recordLen, recordIn, poolOf, AllIn, Grows}
 use Rattle.pool.specs.Changes as memory
 use Rattle.pool.proofs.Searches.{found-at, found-none}
 use Rattle.engine.specs.declared.Refusal.{Refusal}
 use Rattle.engine.specs.declared.Refusal.the-variants as refusal
 use Rattle.engine.specs.declared.Answer.the-variants.{Taken, Refused}
-use Rattle.engine.specs.Meaning.{poolIs, AllIn, answerIs, refusalIs}
+use Rattle.engine.specs.Meaning.{answerIs, refusalIs}
 use Rattle.engine.proofs.Pools.{Located, there, absent, in-pool, grown-pool}
 use Rattle.schedule.specs.declared.line.Line.{Line as Held}
 use Rattle.schedule.specs.declared.line.Line.the-variants as is
@@ -48,7 +48,7 @@ use Rattle.schedule.specs.Reading.{meant, Tells, Lying, LiedOf}
 use Rattle.schedule.proofs.Lies.{lie-untold}
 use Rattle.bench.specs.Bench as bench
 use Rattle.bench.specs.Bench.{Seat, emptySeat, Bench, step}
-use Rattle.bench.specs.Seats.{benchOf, Distinct, Sound, Grows, Full, refusedFor, takenAs, Seated, Gives, GivesAll, Fit, seatOf, isCall, ToldAs, SteppedAs, SteppedBy, Pools, PoolsBy, NoStatement, Needless}
+use Rattle.bench.specs.Seats.{benchOf, Distinct, Sound, Full, refusedFor, takenAs, Seated, Gives, GivesAll, Fit, seatOf, isCall, ToldAs, SteppedAs, SteppedBy, Pools, PoolsBy, NoStatement, Needless}
 use Rattle.bench.proofs.Records.{keeps-same}
 use Rattle.bench.proofs.Seats.{grows-same, seat-same, one-grows, one-distinct, pool-size, all-needless}
 
@@ -86,7 +86,7 @@ stepped-seated {W} {R} {R′} {g} {k} {l} {r} {s} b d m e = record {
 -- a line on the pool that was refused
 module _ {W : List ℕ} {g : Setting} {l : Line} {s : Stepped} where
   pools-refused : (who : ℕ) (q : Refusal) → who ≤ 16 → Distinct W → ToldAs g who (refusedFor q) s
-      → ((X : List Seat) → step (benchOf (g .ready) (g .faulty) X W) (some l) ≡ bench.refuse (benchOf (g .ready) (g .faulty) X W) who (refusalIs q)) → Pools W g l s W
+      → ((X : List Seat) → step (benchOf (g .ready) (g .faulty) X W) (some l) ≡ bench.refuseLine (benchOf (g .ready) (g .faulty) X W) who (refusalIs q)) → Pools W g l s W
   unfolding answerIs
   pools-refused who q b d e h = record {
     over = λ R w. record {
@@ -110,27 +110,27 @@ module _ (g : Setting) (s : Stepped) where
   unfolding step
   no-statement-early e q = record { pools = λ W d. pools-refused 16 refusal.OutOfPlace (omega arith) d e (λ X. go (g .ready) q (benchOf (g .ready) (g .faulty) X W)) }
     where
-      go : (b : Bool) → b ≡ false → (d : Bench) → (if b then bench.refuse d 16 controller.badStatement else bench.refuse d 16 controller.outOfPlace) ≡ bench.refuse d 16 controller.outOfPlace
+      go : (b : Bool) → b ≡ false → (d : Bench) → (if b then bench.refuseLine d 16 controller.badStatement else bench.refuseLine d 16 controller.outOfPlace) ≡ bench.refuseLine d 16 controller.outOfPlace
       go b e d = rw e
 
   pub no-statement-bad : ToldAs g 16 (refusedFor refusal.BadStatement) s → g .ready ≡ true → NoStatement g s
   unfolding step
   no-statement-bad e q = record { pools = λ W d. pools-refused 16 refusal.BadStatement (omega arith) d e (λ X. go (g .ready) q (benchOf (g .ready) (g .faulty) X W)) }
     where
-      go : (b : Bool) → b ≡ true → (d : Bench) → (if b then bench.refuse d 16 controller.badStatement else bench.refuse d 16 controller.outOfPlace) ≡ bench.refuse d 16 controller.badStatement
+      go : (b : Bool) → b ≡ true → (d : Bench) → (if b then bench.refuseLine d 16 controller.badStatement else bench.refuseLine d 16 controller.outOfPlace) ≡ bench.refuseLine d 16 controller.badStatement
       go b e d = rw e
 
 -- ---- a setup
 
-pub no-pool : (W : List ℕ) → poolLen W ≡ 0 → [] ≡ poolIs W
-unfolding poolIs table
+pub no-pool : (W : List ℕ) → poolLen W ≡ 0 → [] ≡ poolOf W
+unfolding poolOf table
 no-pool W e = sym (ap (λ n. table n (stmtAt W)) e)
 
 module _ (members sender faulty : ℕ) where
   -- the tests, over plain values
   abbrev settled : Bench → Bool → Bool → Bool → bench.Stepped
   settled b ready allowed near =
-      if ready || not allowed then bench.refuse b (if near then sender else 16) controller.badSetup
+      if ready || not allowed then bench.refuseLine b (if near then sender else 16) controller.badSetup
       else record {
         reply = record { who = sender; answer = controller.taken; number = 0 };
         bench = record { isSetUp = true; faulty = faulty; seats = table controllers (λ k. record { controller = started k members sender; statements = [] }); pool = [] };
@@ -164,7 +164,7 @@ module _ (members sender faulty : ℕ) where
     refuses : (who : ℕ) (near : Bool) → who ≡ (if near then sender else 16) → who ≤ 16 → ToldAs g who (refusedFor refusal.BadSetup) s → ltb sender 16 ≡ near → (g .ready || not (setupAllowed 0 members sender)) ≡ true
         → Pools W g (setup members sender faulty) s W
     refuses who near w b e h o = pools-refused who refusal.BadSetup b d e (λ X. setup-is (benchOf (g .ready) (g .faulty) X W) refl refl h
-        ∙ (let d : Bench = benchOf (g .ready) (g .faulty) X W in rw o (ap (λ t. bench.refuse d t controller.badSetup) (sym w))))
+        ∙ (let d : Bench = benchOf (g .ready) (g .faulty) X W in rw o (ap (λ t. bench.refuseLine d t controller.badSetup) (sym w))))
 
     pub setup-far : ToldAs g 16 (refusedFor refusal.BadSetup) s → 16 ≤ sender → Pools W g (setup members sender faulty) s W
     setup-far e l = refuses 16 false refl (omega arith) e (le-ltb sender 16 l) (ap (λ t. g .ready || not t) (far l) ∙ or-both (g .ready))
@@ -197,25 +197,25 @@ module _ (members sender faulty : ℕ) where
 
 module _ {W W′ : List ℕ} (g : Grows W W′) (R : List ℕ) (w : AllIn W R) where
   pub record-kept : recordIn W′ R ≡ recordIn W R
-  unfolding recordOf AllIn
+  unfolding recordUpTo AllIn
   record-kept = table-cong (recordLen R) (λ i. stmtAt W′ (getD R i 0)) (λ i. stmtAt W (getD R i 0)) (λ i h. g .same _ (w i h))
 
   pub whole-kept : AllIn W′ R
   unfolding AllIn
-  whole-kept i h = let a = w i h in omega (arith, g .len)
+  whole-kept i h = let a = w i h in omega (arith, g .more)
 
 -- ---- a lie
 
 abbrev told : Bench → Stmt → Bool → Bool → Bool → Bool → bench.Stepped
 told b s ready marked again full =
-    if ready then (if not marked then bench.refuse b (s .origin) controller.outOfPlace
-    else if again then bench.refuse b (s .origin) controller.repeated
-    else if full then bench.refuse b (s .origin) controller.full
+    if ready then (if not marked then bench.refuseLine b (s .origin) controller.outOfPlace
+    else if again then bench.refuseLine b (s .origin) controller.repeated
+    else if full then bench.refuseLine b (s .origin) controller.full
     else record {
       reply = record { who = s .origin; answer = controller.taken; number = length (b .pool) };
       bench = record { isSetUp = b .isSetUp; faulty = b .faulty; seats = b .seats; pool = b .pool ++ (s ∷ []) };
     })
-    else bench.refuse b (s .origin) controller.outOfPlace
+    else bench.refuseLine b (s .origin) controller.outOfPlace
 
 lie-is : (b : Bench) (s : Stmt) {ready marked again full : Bool} → b .isSetUp ≡ ready → bit (b .faulty) (s .origin) ≡ marked → any (sameStmt s) (b .pool) ≡ again → leb 512 (length (b .pool)) ≡ full
     → step b (some (lie s)) ≡ told b s ready marked again full
@@ -234,19 +234,19 @@ marked-is f k r l e = let m : f % 65536 ≡ f = omega arith in e ∙ ap (λ x. m
     and-true false = refl
 
 module _ (W : List ℕ) (s : Stmt) where
-  present-in : (i : ℕ) → memory.numberOf W s ≡ some i → any (sameStmt s) (poolIs W) ≡ true
-  unfolding poolIs
+  present-in : (i : ℕ) → memory.poolNumber W s ≡ some i → any (sameStmt s) (poolOf W) ≡ true
+  unfolding poolOf
   present-in i e = go (in-pool W s)
     where
-      go : Located s (stmtAt W) (poolLen W) (memory.numberOf W s) → any (sameStmt s) (table (poolLen W) (stmtAt W)) ≡ true
+      go : Located s (stmtAt W) (poolLen W) (memory.poolNumber W s) → any (sameStmt s) (table (poolLen W) (stmtAt W)) ≡ true
       go (there j q l h m y) = y
       go (absent q y) = absurd (none≢some (sym q ∙ e))
 
-  absent-in : memory.numberOf W s ≡ none → any (sameStmt s) (poolIs W) ≡ false
-  unfolding poolIs
+  absent-in : memory.poolNumber W s ≡ none → any (sameStmt s) (poolOf W) ≡ false
+  unfolding poolOf
   absent-in e = go (in-pool W s)
     where
-      go : Located s (stmtAt W) (poolLen W) (memory.numberOf W s) → any (sameStmt s) (table (poolLen W) (stmtAt W)) ≡ false
+      go : Located s (stmtAt W) (poolLen W) (memory.poolNumber W s) → any (sameStmt s) (table (poolLen W) (stmtAt W)) ≡ false
       go (there j q l h m y) = absurd (none≢some (sym e ∙ q))
       go (absent q y) = y
 
@@ -267,21 +267,21 @@ module _ (W : List ℕ) (g : Setting) (st : Statement) (s : Stepped) (d : Distin
     lie-unmarked e b = pools-refused (st .origin) refusal.OutOfPlace (omega arith) d e (λ X. lie-is (benchOf (g .ready) (g .faulty) X W) (stmtOf st) q b refl refl)
 
     module _ (b : bit (g .faulty) (st .origin) ≡ true) where
-      pub lie-again : ToldAs g (st .origin) (refusedFor refusal.Repeated) s → (i : ℕ) → found.At i ≡ memory.foundOf (memory.numberOf W (stmtOf st)) → Pools W g (lie (stmtOf st)) s W
+      pub lie-again : ToldAs g (st .origin) (refusedFor refusal.Repeated) s → (i : ℕ) → found.At i ≡ memory.foundOf (memory.poolNumber W (stmtOf st)) → Pools W g (lie (stmtOf st)) s W
       unfolding stmtOf
-      lie-again e i f = pools-refused (st .origin) refusal.Repeated (omega arith) d e (λ X. lie-is (benchOf (g .ready) (g .faulty) X W) (stmtOf st) q b (present-in W (stmtOf st) i (found-at (memory.numberOf W (stmtOf st)) i f)) refl)
+      lie-again e i f = pools-refused (st .origin) refusal.Repeated (omega arith) d e (λ X. lie-is (benchOf (g .ready) (g .faulty) X W) (stmtOf st) q b (present-in W (stmtOf st) i (found-at (memory.poolNumber W (stmtOf st)) i f)) refl)
 
-      module _ (W′ : List ℕ) (n : memory.numberOf W (stmtOf st) ≡ none) where
+      module _ (W′ : List ℕ) (n : memory.poolNumber W (stmtOf st) ≡ none) where
         pub lie-full : ToldAs g (st .origin) (refusedFor refusal.Full) s → memory.Appended W W′ st placed.Full → Pools W g (lie (stmtOf st)) s W′
         unfolding stmtOf
         lie-full e a = elim (decLt (poolLen W) 512) [
           | yes l ↦ absurd (full≢at (a .answer ∙ ap (λ o. memory.placedAt o (poolLen W)) n ∙ sym (if-true (ltb (poolLen W) 512) (placed.At (poolLen W)) placed.Full (lt-ltb (poolLen W) 512 l))))
           | no l ↦ subst (λ U. Pools W g (lie (stmtOf st)) s U) (sym (a .full (omega arith)))
-              (pools-refused (st .origin) refusal.Full (omega arith) d e (λ X. lie-is (benchOf (g .ready) (g .faulty) X W) (stmtOf st) q b (absent-in W (stmtOf st) n) (le-leb 512 (length (poolIs W)) (omega (arith, pool-size W)))))
+              (pools-refused (st .origin) refusal.Full (omega arith) d e (λ X. lie-is (benchOf (g .ready) (g .faulty) X W) (stmtOf st) q b (absent-in W (stmtOf st) n) (le-leb 512 (length (poolOf W)) (omega (arith, pool-size W)))))
         ]
 
 module _ (W W′ : List ℕ) (g : Setting) (st : Statement) (d : Distinct W) (near : st .origin < 16) (short : st .history .len ≤ 16) (q : g .ready ≡ true) (b : bit (g .faulty) (st .origin) ≡ true) (n : ℕ)
-    (z : memory.numberOf W (stmtOf st) ≡ none) (a : memory.Appended W W′ st (placed.At n)) where
+    (z : memory.poolNumber W (stmtOf st) ≡ none) (a : memory.Appended W W′ st (placed.At n)) where
   room : poolLen W < 512
   room = elim (decLt (poolLen W) 512) [
     | yes l ↦ l
@@ -291,7 +291,7 @@ module _ (W W′ : List ℕ) (g : Setting) (st : Statement) (d : Distinct W) (ne
   placed-at : n ≡ poolLen W
   placed-at = at-injective (a .answer ∙ ap (λ o. memory.placedAt o (poolLen W)) z ∙ sym (if-true (ltb (poolLen W) 512) (placed.At (poolLen W)) placed.Full (lt-ltb (poolLen W) 512 room)))
 
-  longer : poolIs W′ ≡ poolIs W ++ (stmtOf st ∷ [])
+  longer : poolOf W′ ≡ poolOf W ++ (stmtOf st ∷ [])
   longer = grown-pool W W′ st short (a .new z room) room
 
   pub lie-taken : (s : Stepped) → ToldAs g (st .origin) (takenAs n false) s → Pools W g (lie (stmtOf st)) s W′
@@ -300,7 +300,7 @@ module _ (W W′ : List ℕ) (g : Setting) (st : Statement) (d : Distinct W) (ne
     over = λ R w. record {
       who = omega (arith, e .who-is);
       advanced = record {
-        steps = λ X x. lie-is (benchOf (g .ready) (g .faulty) X W) (stmtOf st) q b (absent-in W (stmtOf st) z) (lt-leb 512 (length (poolIs W)) (omega (arith, pool-size W, room)))
+        steps = λ X x. lie-is (benchOf (g .ready) (g .faulty) X W) (stmtOf st) q b (absent-in W (stmtOf st) z) (lt-leb 512 (length (poolOf W)) (omega (arith, pool-size W, room)))
             ∙ stepped (sym (e .who-is)) (sym (ap (answerIs W′) (e .answer))) (pool-size W ∙ sym placed-at ∙ sym (e .number)) (sym (ap (λ (t : Setting). t .ready) (e .setting))) (sym (ap (λ (t : Setting). t .faulty) (e .setting)))
             (sym (seat-same X 0 (x ∙ sym (record-kept (one-grows W W′ (stmtOf st) longer) R w)))
             ∙ if-false (s .fresh) (table controllers (λ j. record { controller = started j (s .setting .members) (s .setting .sender); statements = [] })) (set X 0 (record { controller = getD X 0 emptySeat .controller; statements = recordIn W′ R })) (e .fresh)) (sym longer);

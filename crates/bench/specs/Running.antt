@@ -9,10 +9,10 @@ use lib.ListN.{length, getD, drop}
 use lib.Seq.{sets}
 use Rattle.protocol.specs.Call.{started}
 use Rattle.views.specs.Table.{table}
-use Rattle.pool.specs.Pool.{recordLen}
+use Rattle.pool.specs.Pool.{recordLen, AllIn}
 use Rattle.engine.specs.declared.Controller.{Controller}
 use Rattle.engine.specs.declared.Answer.{Answer}
-use Rattle.engine.specs.Meaning.{controllerIs, AllIn}
+use Rattle.engine.specs.Meaning.{controllerIs}
 use Rattle.bench.specs.declared.state.Setting.{Setting}
 use Rattle.bench.specs.declared.lines.Place.{Place}
 use Rattle.bench.specs.declared.lines.Moved.{Moved}
@@ -20,11 +20,11 @@ use Rattle.schedule.specs.Line.{Line, ended, lines, Reads, ReadAll}
 use Rattle.bench.specs.Bench.{Seat, Bench, Reply, newBench}
 use Rattle.bench.specs.Rows.{rowText, rowsFrom, Printed}
 use Rattle.bench.specs.Writing.{rowOf}
-use Rattle.bench.specs.Seats.{blank, seatIs, benchOf, Distinct, Full, Advanced, wordOf, valueOf}
+use Rattle.bench.specs.Seats.{blank, seatIs, benchOf, Distinct, Full, Advanced, wordOfAnswer, valueOfAnswer}
 
 -- The row of a line.
 unfoldable pub rowIs : ℕ → ℕ → Answer → ℕ → List ℕ
-rowIs n who a number = rowOf n who (wordOf a) (valueOf a number)
+rowIs n who a number = rowOf n who (wordOfAnswer a) (valueOfAnswer a number)
 
 -- The sixteen seats.
 unfoldable pub seatsIs : List ℕ → List Controller → List (List ℕ) → List Seat
@@ -35,7 +35,7 @@ abbrev pub benchIs : Setting → List ℕ → List Controller → List (List ℕ
 benchIs g W cs Rs = benchOf (g .ready) (g .faulty) (seatsIs W cs Rs) W
 
 -- What the bench keeps of its pool, its controllers and their records.
-pub record Kept (W : List ℕ) (cs : List Controller) (Rs : List (List ℕ)) : Type 0 where
+pub record BenchKept (W : List ℕ) (cs : List Controller) (Rs : List (List ℕ)) : Type 0 where
   pub distinct : Distinct W
   pub long : length cs ≡ 16
   pub records : length Rs ≡ 16
@@ -83,7 +83,7 @@ pub record Room (place : Place) (next : ℕ) : Type 0 where
   pub at : place .at + next ≤ 65536
 
 -- The row went into the rows R where the run stood; it goes on so many bytes later, with the next line.
-pub record Passed (R : List ℕ) (place : Place) (next : ℕ) (row : List ℕ) (on : Place) (R′ : List ℕ) : Type 0 where
+pub record RowWritten (R : List ℕ) (place : Place) (next : ℕ) (row : List ℕ) (on : Place) (R′ : List ℕ) : Type 0 where
   pub at : on .at ≡ place .at + next
   pub number : on .n ≡ place .n + 1
   pub end : on .out ≡ place .out + length row
@@ -91,8 +91,8 @@ pub record Passed (R : List ℕ) (place : Place) (next : ℕ) (row : List ℕ) (
   pub small : length row ≤ 40
 
 -- What a row of a line that leaves all settings as they are does to the run.
-pub record Put (R : List ℕ) (place : Place) (next : ℕ) (row : List ℕ) (on : Place) (R′ : List ℕ) : Type 0 where
-  pub passed : Passed R place next row on R′
+pub record RowPut (R : List ℕ) (place : Place) (next : ℕ) (row : List ℕ) (on : Place) (R′ : List ℕ) : Type 0 where
+  pub passed : RowWritten R place next row on R′
   pub setting : on .setting ≡ place .setting
 
 -- Up to where a record is known to have every number after a line, over a pool of n statements: the whole pool, or as before.
@@ -105,7 +105,7 @@ pub record LineRun (W R : List ℕ) (place : Place) (k : ℕ) (T : List ℕ) (ro
   pub line : Line
   pub reads : Reads (ended T) (some line)
   pub reply : Reply
-  pub passed : Passed rows place (length T + 1) (rowText (place .n) reply) (s .place) rows′
+  pub passed : RowWritten rows place (length T + 1) (rowText (place .n) reply) (s .place) rows′
   pub advanced : Advanced W R (place .setting) k line reply (s .place .setting) (s .fresh) W′ R′
   pub full-is : s .fresh ≡ false → Full R′ (s .full)
 
@@ -118,7 +118,7 @@ pub record Ran (S : List ℕ) (R R′ : List ℕ) (out : ℕ) : Type 0 where
   pub ran : Reading S printed []
 
 -- Of what is printed for S, as much as has room stands in R′ from the start; r is the length of all of it.
-pub record Wrote (S R : List ℕ) (r : ℕ) (R′ : List ℕ) : Type 0 where
+pub record PrintedInto (S R : List ℕ) (r : ℕ) (R′ : List ℕ) : Type 0 where
   pub text : List ℕ
   pub printed : Printed S text
   pub long : r ≡ length text

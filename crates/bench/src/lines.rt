@@ -9,9 +9,9 @@ ghost use Rattle.protocol.specs.Call.{setupAllowed};
 ghost use Rattle.engine.specs.Meaning.{refusalIs};
 ghost use Rattle.schedule.specs.declared.line.Parsed.the-variants.{Readable};
 ghost use Rattle.bench.specs.Rows.{Answered};
-ghost use Rattle.bench.specs.Seats.{Sound, Full, Fit, seatOf, isCall, wordOf, valueOf};
+ghost use Rattle.bench.specs.Seats.{Sound, Full, Fit, seatOf, isCall, wordOfAnswer, valueOfAnswer};
 ghost use Rattle.bench.specs.Writing.{rowOf};
-ghost use Rattle.bench.specs.Running.{rowIs, Started, Room, Put, fullAfter, LineRun, Begins, Ran, Wrote, Long};
+ghost use Rattle.bench.specs.Running.{rowIs, Started, Room, RowPut, fullAfter, LineRun, Begins, Ran, PrintedInto, Long};
 ghost use Rattle.pool.specs.Pool.{poolLen};
 use crate::row;
 use crate::row::Value;
@@ -36,7 +36,7 @@ const SEATS: usize = View::WIDTH as usize;
 pub const ROWS_MAX: usize = 2621504;
 
 fn word_of(a: Answer) -> Word
-    ensures { λ r. ⌜ r ≡ wordOf a ⌝ }
+    ensures { λ r. ⌜ r ≡ wordOfAnswer a ⌝ }
 {
     match a {
         Answer::Taken => Word::Taken,
@@ -65,7 +65,7 @@ fn refusal_number(r: Refusal) -> u64
 }
 
 fn value_of(a: Answer, n: u64) -> Value
-    ensures { λ r. ⌜ r ≡ valueOf a n ⌝ }
+    ensures { λ r. ⌜ r ≡ valueOfAnswer a n ⌝ }
 {
     match a {
         Answer::Taken => Value::Number(n),
@@ -96,7 +96,7 @@ struct Moved {
 // Writes a row, and goes on with the line that starts so many bytes later.
 fn put_line(rows: &mut [u8], place: Place, next: usize, who: u64, word: Word, value: Value) -> Place
     requires { ⌜ Room place next × (who ≤ 16) ⌝ }
-    ensures { λ r. ⌜ Put (now (rows .entry)) place next (rowOf (place .n) who word value) r (now (rows .exit)) ⌝ }
+    ensures { λ r. ⌜ RowPut (now (rows .entry)) place next (rowOf (place .n) who word value) r (now (rows .exit)) ⌝ }
 {
     let end = row::put_row_within(rows, place.out, place.n, who, word, value);
     Place {
@@ -110,7 +110,7 @@ fn put_line(rows: &mut [u8], place: Place, next: usize, who: u64, word: Word, va
 // The row of an answer.
 fn put_step(rows: &mut [u8], place: Place, next: usize, who: u64, a: Answer, number: u64) -> Place
     requires { ⌜ Room place next × (who ≤ 16) ⌝ }
-    ensures { λ r. ⌜ Put (now (rows .entry)) place next (rowIs (place .n) who a number) r (now (rows .exit)) ⌝ }
+    ensures { λ r. ⌜ RowPut (now (rows .entry)) place next (rowIs (place .n) who a number) r (now (rows .exit)) ⌝ }
 {
     put_line(rows, place, next, who, word_of(a), value_of(a, number))
 }
@@ -274,7 +274,7 @@ fn run_lines(schedule: &[u8], rows: &mut [u8]) -> usize
 // Of the rows of a schedule, writes what has room, and answers how many bytes they all have. No schedule has more than 65,536 lines, and
 // no row more than 40 bytes.
 fn run_rows(schedule: &[u8], rows: &mut [u8]) -> usize
-    ensures { λ r. ⌜ Wrote (now (schedule .entry)) (now (rows .entry)) r (now (rows .exit)) ⌝ }
+    ensures { λ r. ⌜ PrintedInto (now (schedule .entry)) (now (rows .entry)) r (now (rows .exit)) ⌝ }
 {
     row::put_header(rows);
     if schedule.len() == 0 {

@@ -5,7 +5,7 @@ ghost use Prim.Native.Nat.{_+_, _<_, _≤_};
 ghost use lib.ListN.{length};
 ghost use lib.Seq.{sets};
 ghost use Rattle.bench.specs.Rows.{headerText};
-ghost use Rattle.bench.specs.Writing.{wordIs, shownText, rowOf};
+ghost use Rattle.bench.specs.Writing.{wordIs, valueShown, rowOf};
 use views::View;
 
 pub enum Word {
@@ -70,7 +70,7 @@ fn put_word(out: &mut [u8], at: usize, word: Word) -> usize
 // A comma and the value; the longest has twenty digits.
 fn put_value(out: &mut [u8], at: usize, value: Value) -> usize
     requires { ⌜ at + 21 ≤ length (now out) ⌝ }
-    ensures { λ r. ⌜ (r ≡ at + 1 + length (shownText value)) × (now (out .exit) ≡ sets (now (out .entry)) at (44 ∷ shownText value)) × (length (shownText value) ≤ 20) ⌝ }
+    ensures { λ r. ⌜ (r ≡ at + 1 + length (valueShown value)) × (now (out .exit) ≡ sets (now (out .entry)) at (44 ∷ valueShown value)) × (length (valueShown value) ≤ 20) ⌝ }
 {
     match value {
         Value::Number(n) => statements::put_number(out, at, n),

@@ -3,7 +3,7 @@ ghost use mathlib.Core.Path.{_≡_};
 ghost use mathlib.Core.Bool.{true};
 ghost use Prim.Native.Nat.{_+_, _≤_};
 ghost use lib.ListN.{length};
-ghost use Rattle.bench.specs.Seats.{Sound, listed, Below, Marks, Marked, FirstFree, unmarked, Filled, refusedFor, takenAs, Gives, GivesAll};
+ghost use Rattle.bench.specs.Seats.{Sound, hasNumber, NumbersBelow, Marks, Marked, FirstFree, unmarked, RecordFilled, refusedFor, takenAs, Gives, GivesAll};
 use engine::Answer;
 use engine::Refusal;
 use pool::POOL_WORDS;
@@ -38,7 +38,7 @@ pub fn taken(n: u64, whole: bool) -> Given
 
 // Whether a record has the number n. The pool's statements differ, so that it has the statement just where it has the number.
 fn has_number(ids: &[u16; RECORD], n: u16) -> bool
-    ensures { λ r. ⌜ r ≡ listed (now (ids .entry)) n ⌝ }
+    ensures { λ r. ⌜ r ≡ hasNumber (now (ids .entry)) n ⌝ }
 {
     let end = pool::record_length(ids);
     let mut i = 0usize;
@@ -59,7 +59,7 @@ fn index(id: u16) -> usize
 
 // Which numbers a record has.
 fn marks_of(ids: &[u16; RECORD]) -> [bool; 512]
-    requires { ⌜ Below (now ids) 512 ⌝ }
+    requires { ⌜ NumbersBelow (now ids) 512 ⌝ }
     ensures { λ r. ⌜ Marks (now (ids .entry)) r ⌝ }
 {
     let end = pool::record_length(ids);
@@ -129,7 +129,7 @@ fn count_free(marks: &[bool; 512], n: usize) -> usize
 // Every number below n that has no mark goes to the end of the record, rising.
 fn fill(ids: &mut [u16; RECORD], marks: &[bool; 512], n: usize)
     requires { ⌜ n ≤ 512 ⌝ }
-    ensures { λ _. ⌜ Filled (now (ids .entry)) (now (marks .entry)) n (now (ids .exit)) ⌝ }
+    ensures { λ _. ⌜ RecordFilled (now (ids .entry)) (now (marks .entry)) n (now (ids .exit)) ⌝ }
 {
     let mut i = first_free(marks, 0, n);
     while i < n {

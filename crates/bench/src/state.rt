@@ -7,7 +7,7 @@ ghost use Rattle.statements.specs.Meaning.{stmtOf};
 ghost use Rattle.schedule.specs.declared.line.Parsed.the-variants.{Readable};
 ghost use Rattle.schedule.specs.Line as lines;
 ghost use Rattle.schedule.specs.Reading.{Lying};
-ghost use Rattle.bench.specs.Seats.{Distinct, Sound, Fit, seatOf, isCall, numberIs, changesIs, refusedFor, Called, ToldAs, SteppedBy, Pools, PoolsBy, NoStatement, Needless};
+ghost use Rattle.bench.specs.Seats.{Distinct, Sound, Fit, seatOf, isCall, numberIs, changesIs, refusedFor, CalledByLine, ToldAs, SteppedBy, Pools, PoolsBy, NoStatement, Needless};
 use crate::seat;
 use crate::seat::Given;
 use engine::Answer;
@@ -69,7 +69,7 @@ pub fn call(
     line: Line,
 ) -> Outcome
     requires { ⌜ Sound (now words) (now ids) × (isCall line ≡ true) ⌝ }
-    ensures { λ r. ⌜ Called (now (words .entry)) (now (ids .entry)) c line r (now (words .exit)) (now (ids .exit)) ⌝ }
+    ensures { λ r. ⌜ CalledByLine (now (words .entry)) (now (ids .entry)) c line r (now (words .exit)) (now (ids .exit)) ⌝ }
 {
     match line {
         Line::Join(_) => c.join(),

@@ -21,16 +21,16 @@ use Rattle.views.specs.Held.{viewIs, viewsIs, heldAt}
 use Rattle.views.specs.declared.View as held
 use Rattle.views.specs.declared.History.{History}
 use Rattle.views.proofs.Tables.{table-length}
-use Rattle.pool.specs.Pool.{recordIn}
+use Rattle.pool.specs.Pool.{recordIn, AllIn}
 use Rattle.pool.specs.Changes.{Emptied}
 use Rattle.statements.specs.declared.Binding.the-variants.{Unbound}
 use Rattle.engine.specs.declared.Controller.{Controller}
 use Rattle.engine.specs.declared.Outcome.{Outcome}
 use Rattle.engine.specs.declared.Refusal.{Refusal}
-use Rattle.rules.specs.declared.Send.the-variants.{Nothing, Payload}
+use Rattle.rules.specs.declared.OptionalPayload.the-variants.{Nothing, Payload}
 use Rattle.engine.specs.declared.Answer.{Answer}
 use Rattle.engine.specs.declared.Answer.the-variants.{Taken, Refused}
-use Rattle.engine.specs.Meaning.{initialIs, controllerIs, AllIn, refusalIs, answerIs}
+use Rattle.engine.specs.Meaning.{initialIs, controllerIs, refusalIs, answerIs}
 use Rattle.engine.specs.Promise.{unchanged, Meets, IsRefused, Calls, startedOf, Starts}
 
 -- ---- pool and record stay as they were

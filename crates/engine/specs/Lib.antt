@@ -1,4 +1,4 @@
 -- What the engine's values mean, and what its calls promise.
 pub mod Meaning
 pub mod Promise
-pub mod Looks
+pub mod Situation

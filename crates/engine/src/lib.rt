@@ -2,12 +2,12 @@
 mod add;
 mod calls;
 mod keep;
-mod look;
 mod perform;
+mod situation;
 mod turn;
 
 pub use calls::refuse;
-use rules::Send;
+use rules::OptionalPayload;
 use statements::Binding;
 use views::History;
 use views::View;
@@ -22,7 +22,7 @@ pub struct Controller {
     pub delivered: bool,
     pub joining: bool,
     pub leaving: bool,
-    pub sending: Send,
+    pub sending: OptionalPayload,
 }
 
 // Why a call is refused, in the order of the table of refusals.

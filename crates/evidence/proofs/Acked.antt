@@ -19,9 +19,9 @@ use Rattle.protocol.proofs.Says.{Says, says-and, says-eqb}
 use Rattle.protocol.proofs.Quorums.{someone}
 use Rattle.protocol.proofs.Decided.{says-kind, says-prepared, says-stored}
 use Rattle.protocol.proofs.Asked.{says-pairwise, certificates-in, certificates-out}
-use Rattle.views.specs.View.{ring}
+use Rattle.views.specs.View.{ringOfWord}
 use Rattle.views.proofs.Views.{passes, fails}
-use Rattle.pool.specs.Pool.{stmtAt, recordOf}
+use Rattle.pool.specs.Pool.{stmtAt, recordUpTo}
 use Rattle.votes.specs.Votes.{entry, placeOf, voteAt}
 use Rattle.votes.proofs.Alike.{Alike, says-alike}
 use Rattle.evidence.specs.Shown.{isBacked, Backed, AckedOf, PreparedList, certifiesBy, storesIt, CertificatesOf}
@@ -29,8 +29,8 @@ use Rattle.ranking.proofs.Members.{table-out}
 use Rattle.evidence.proofs.Backing.{Late, Cast, cast-of, signed-map, cast-quorum, quorum-cast}
 
 -- a statement of a record, by its place
-placed : (W ids : List ℕ) (len : ℕ) {s : Stmt} → s ∈ recordOf W ids len → (i : ℕ) × (i < min len 512) × (entry W ids i ≡ s)
-unfolding recordOf
+placed : (W ids : List ℕ) (len : ℕ) {s : Stmt} → s ∈ recordUpTo W ids len → (i : ℕ) × (i < min len 512) × (entry W ids i ≡ s)
+unfolding recordUpTo
 placed W ids len m = table-out (min len 512) (λ i. stmtAt W (getD ids i 0)) m
 
 -- An ack of what the sender prepared.
@@ -93,8 +93,8 @@ module _ (W ids G : List ℕ) (n : ℕ) where
 
 -- the groups before g have certificates for the payload alone
 pub record Gathered (W ids : List ℕ) (len init sender : ℕ) (G : List ℕ) (g : ℕ) (some : Bool) (payload : ℕ) : Type 0 where
-  pub sound : some ≡ true → Certificate (ring init) sender (recordOf W ids len) payload
-  pub all : (h : ℕ) → h < g → T (certifies sender (recordOf W ids len) (voteAt W ids G h)) → (some ≡ true) × (voteAt W ids G h .payload ≡ payload)
+  pub sound : some ≡ true → Certificate (ringOfWord init) sender (recordUpTo W ids len) payload
+  pub all : (h : ℕ) → h < g → T (certifies sender (recordUpTo W ids len) (voteAt W ids G h)) → (some ≡ true) × (voteAt W ids G h .payload ≡ payload)
 
 -- no group before g is of stores of m
 pub record Unstored (W ids G : List ℕ) (m g : ℕ) : Type 0 where
@@ -104,10 +104,10 @@ pub record Unstored (W ids G : List ℕ) (m g : ℕ) : Type 0 where
 
 module _ (W ids : List ℕ) (len init : ℕ) (G : List ℕ) (n : ℕ) (backed : Backed W ids len init G n) where
   abbrev X : List Stmt
-  X = recordOf W ids len
+  X = recordUpTo W ids len
 
   -- the group of what a quorum of a sealed top cast
-  group : (k m : ℕ) {H : List View} → Late init X k → Shown (ring init) X (sealed H) → Quorum 16 (top (ring init) H) (Signed X (Cast init X k (top (ring init) H) m))
+  group : (k m : ℕ) {H : List View} → Late init X k → Shown (ringOfWord init) X (sealed H) → Quorum 16 (top (ringOfWord init) H) (Signed X (Cast init X k (top (ringOfWord init) H) m))
       → (g : ℕ) × (g < n) × (vote W ids G n g .kind ≡ k) × (vote W ids G n g .payload ≡ m)
   group k m l g q =
       let (_, (s, i, _, c)) = someone q in
@@ -122,7 +122,7 @@ module _ (W ids : List ℕ) (len init : ℕ) (G : List ℕ) (n : ℕ) (backed : 
 
   module _ (sender : ℕ) where
     abbrev Cert : ℕ → Type 0
-    Cert m = Certificate (ring init) sender X m
+    Cert m = Certificate (ringOfWord init) sender X m
 
     says-certifies : (s : Stmt) → Says (certifies sender X s) ((s .kind ≡ 7) × T (isPrepared sender X (s .payload)))
     unfolding certifies
@@ -187,26 +187,26 @@ module _ (W ids : List ℕ) (len init : ℕ) (G : List ℕ) (n : ℕ) (backed : 
 
         pub gathered-clash : some ≡ true → (m ≡ payload → ⊥) → (s : Bool) (q : ℕ) → CertificatesOf init sender X (record { conflict = true; some = s; payload = q })
         gathered-clash t d s q = record {
-          conflict = ap not (sym (fails (says-pairwise (λ a b. says-eqb {m = a} {n = b}) (certificates (ring init) sender X))
-              (λ h. d (h m (certificates-in (ring init) sender X here) payload (certificates-in (ring init) sender X (c .sound t))))));
+          conflict = ap not (sym (fails (says-pairwise (λ a b. says-eqb {m = a} {n = b}) (certificates (ringOfWord init) sender X))
+              (λ h. d (h m (certificates-in (ringOfWord init) sender X here) payload (certificates-in (ringOfWord init) sender X (c .sound t))))));
           certificate = λ e. absurd (subst T e tt);
         }
 
     pub gathered-end : (g payload : ℕ) (some : Bool) → g ≡ n → Gathered W ids len init sender G g some payload → CertificatesOf init sender X (record { conflict = false; some = some; payload = payload })
     gathered-end g payload s e c = record {
-      conflict = ap not (sym (passes (says-pairwise (λ a b. says-eqb {m = a} {n = b}) (certificates (ring init) sender X))
-          (λ a i b j. only (certificates-out (ring init) sender X i) .1 ∙ sym (only (certificates-out (ring init) sender X j) .1))));
-      certificate = λ z. go s refl (certificates (ring init) sender X) refl;
+      conflict = ap not (sym (passes (says-pairwise (λ a b. says-eqb {m = a} {n = b}) (certificates (ringOfWord init) sender X))
+          (λ a i b j. only (certificates-out (ringOfWord init) sender X i) .1 ∙ sym (only (certificates-out (ringOfWord init) sender X j) .1))));
+      certificate = λ z. go s refl (certificates (ringOfWord init) sender X) refl;
     }
       where
         only : {m : ℕ} → Cert m → (s ≡ true) × (m ≡ payload)
         only k = let (h, l, t, q) = cert-complete k in let (y, p) = c .all h (omega arith) t in (y, sym q ∙ p)
 
-        go : (b : Bool) → s ≡ b → (l : List ℕ) → certificates (ring init) sender X ≡ l → when b payload ≡ first l
-        go true f [] h = absurd (List·Memᴰ·not-nil (subst (λ l. payload ∈ l) h (certificates-in (ring init) sender X (c .sound f))))
-        go true f (m ∷ l) h = ap some (sym (only (certificates-out (ring init) sender X (subst (λ l. m ∈ l) (sym h) (List·Memᴰ·head refl))) .1))
+        go : (b : Bool) → s ≡ b → (l : List ℕ) → certificates (ringOfWord init) sender X ≡ l → when b payload ≡ first l
+        go true f [] h = absurd (List·Memᴰ·not-nil (subst (λ l. payload ∈ l) h (certificates-in (ringOfWord init) sender X (c .sound f))))
+        go true f (m ∷ l) h = ap some (sym (only (certificates-out (ringOfWord init) sender X (subst (λ l. m ∈ l) (sym h) (List·Memᴰ·head refl))) .1))
         go false f [] h = refl
-        go false f (m ∷ l) h = absurd (subst T (sym (only (certificates-out (ring init) sender X (subst (λ l. m ∈ l) (sym h) (List·Memᴰ·head refl))) .0) ∙ f) tt)
+        go false f (m ∷ l) h = absurd (subst T (sym (only (certificates-out (ringOfWord init) sender X (subst (λ l. m ∈ l) (sym h) (List·Memᴰ·head refl))) .0) ∙ f) tt)
 
     -- ---- one payload alone
 
@@ -257,13 +257,13 @@ module _ (W ids : List ℕ) (len init : ℕ) (G : List ℕ) (n : ℕ) (backed : 
         ];
       }
 
-      pub stored-found : g < n → r ≡ true → true ≡ isStored (ring init) X m
+      pub stored-found : g < n → r ≡ true → true ≡ isStored (ringOfWord init) X m
       stored-found l y =
           let (k, q) = says-stores-it (vote W ids G n g) .sound (subst T (sym y ∙ stores-here) tt) in
           let (H, h, b) = cast-quorum init X 8 (vote W ids G n g) (inr refl) k (backed .sound g l) in
-          sym (passes (says-stored (ring init) X m) (H, h, signed-map init X (λ s c. record { kind = c .kind; at = c .at; payload = c .payload ∙ q }) b))
+          sym (passes (says-stored (ringOfWord init) X m) (H, h, signed-map init X (λ s c. record { kind = c .kind; at = c .at; payload = c .payload ∙ q }) b))
 
-    pub stored-none : (g : ℕ) → g ≡ n → Unstored W ids G m g → false ≡ isStored (ring init) X m
-    stored-none g e c = sym (fails (says-stored (ring init) X m) (λ (H, h, q).
+    pub stored-none : (g : ℕ) → g ≡ n → Unstored W ids G m g → false ≡ isStored (ringOfWord init) X m
+    stored-none g e c = sym (fails (says-stored (ringOfWord init) X m) (λ (H, h, q).
         let (f, l, k, p) = group 8 m (inr refl) h (signed-map init X (λ s a. record { kind = a .kind; at = a .at; payload = a .payload }) q) in
         c .none f (omega arith) (says-stores-it (vote W ids G n f) .complete (k, p))))

@@ -20,15 +20,14 @@ use Rattle.protocol.proofs.Histories.{sealed-short}
 use Rattle.protocol.proofs.Decided.{says-same, says-in, says-shown, says-certified}
 use Rattle.protocol.proofs.Asked.{says-holds, candidates-exact, certificates-in, certificates-out, one-payload, greatest-holds}
 use Rattle.views.specs.Sets.{IsSet}
-use Rattle.views.specs.View.{viewOf, ring, quorumHas}
+use Rattle.views.specs.View.{viewOf, ringOfWord, quorumHas, viewsOf}
 use Rattle.views.proofs.Tables.{table-length}
 use Rattle.views.proofs.Views.{fails, signed-by-set}
 use Rattle.evidence.specs.declared.Evidence.{Evidence}
-use Rattle.ranking.specs.Slots.{viewsOf}
 use Rattle.evidence.specs.Shown.{payloadCount, listed, twofold, PreparedList}
 use Rattle.evidence.specs.Evidence.{Settled, reportedOn, reportedAll, countsBelow, reportsBelow}
 use Rattle.evidence.specs.Reports.{bindingHolds, keptHolds, countsBy, countsAt, hasReports, countsUnder}
-use Rattle.evidence.proofs.Sifted.{any-filter, any-same}
+use Rattle.evidence.proofs.Listing.{any-filter, any-same}
 use Rattle.evidence.proofs.Payloads.{twofold-is}
 
 -- ---- what a report says
@@ -163,9 +162,9 @@ module _ (e : Evidence) (C P : List ℕ) (H : List View) (t k u : ℕ) (s : Stmt
 
 -- ---- what the evidence tells
 
-module _ (init sender : ℕ) (X : List Stmt) (C Gr : List ℕ) (e : Evidence) (settled : Settled (ring init) sender X C Gr e) where
+module _ (init sender : ℕ) (X : List Stmt) (C Gr : List ℕ) (e : Evidence) (settled : Settled (ringOfWord init) sender X C Gr e) where
   abbrev R : Ring
-  R = ring init
+  R = ringOfWord init
 
   abbrev G : List View
   G = viewsOf Gr (e .length)

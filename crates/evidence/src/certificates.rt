@@ -5,7 +5,7 @@ ghost use Prim.Native.Nat.{ℕ, _<_};
 ghost use lib.ListN.{length};
 ghost use Rattle.protocol.specs.Evidence.{signs, isStored};
 ghost use Rattle.views.specs.Sets.{IsSet};
-ghost use Rattle.views.specs.View.{ring};
+ghost use Rattle.views.specs.View.{ringOfWord};
 ghost use Rattle.pool.specs.Pool.{stmtAt, recordLen, recordIn};
 ghost use Rattle.votes.specs.Votes.{alike, entry, placeOf, tagOf, signersOf, GroupsIn};
 ghost use Rattle.sealing.specs.Memos.{Judged};
@@ -280,7 +280,7 @@ pub fn is_stored(
     m: u64,
 ) -> bool
     requires { ⌜ BackedIn (now words) (now ids) init (now groups) n ⌝ }
-    ensures { λ r. ⌜ r ≡ isStored (ring init) (recordIn (now (words .entry)) (now (ids .entry))) m ⌝ }
+    ensures { λ r. ⌜ r ≡ isStored (ringOfWord init) (recordIn (now (words .entry)) (now (ids .entry))) m ⌝ }
 {
     let mut g = 0usize;
     while g < n {

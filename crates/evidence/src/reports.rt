@@ -10,11 +10,10 @@ ghost use Rattle.protocol.specs.Evidence.{signs};
 ghost use Rattle.protocol.specs.Turn.{mergeAll};
 ghost use Rattle.protocol.proofs.Bits.{Fits};
 ghost use Rattle.views.specs.Sets.{IsSet};
-ghost use Rattle.views.specs.View.{viewOf, ring};
+ghost use Rattle.views.specs.View.{viewOf, ringOfWord, viewsOf};
 ghost use Rattle.pool.specs.Pool.{stmtAt, recordIn};
-ghost use Rattle.ranking.specs.Slots.{viewsOf};
 ghost use Rattle.statements.specs.Meaning.{bindingIs};
-ghost use Rattle.evidence.specs.Evidence.{ringOf, Settled, reportedAll, reportsBelow};
+ghost use Rattle.evidence.specs.Evidence.{ringIs, Settled, reportedAll, reportsBelow};
 ghost use Rattle.evidence.specs.Reports.{bindingHolds, keptHolds, countsBy, countsAt, hasReports, countsUnder};
 use crate::Evidence;
 use crate::Ring;
@@ -60,7 +59,7 @@ fn is_in(list: &[u64; View::LIMIT], n: usize, v: u64) -> bool
 // The last of the first n views; the initial view, if there is none.
 fn top_of(list: &[u64; View::LIMIT], n: usize, init: u64) -> u64
     requires { ⌜ n ≤ 16 ⌝ }
-    ensures { λ r. ⌜ viewOf r ≡ top (ring init) (viewsOf (now (list .entry)) n) ⌝ }
+    ensures { λ r. ⌜ viewOf r ≡ top (ringOfWord init) (viewsOf (now (list .entry)) n) ⌝ }
 {
     if n == 0 {
         return init;
@@ -216,20 +215,20 @@ fn is_reported_on(
 pub fn reported(
     words: &[u64; POOL_WORDS],
     ids: &[u16; RECORD],
-    ring: Ring,
+    ringOfWord: Ring,
     e: Evidence,
     candidates: &[u64; View::LIMIT],
     greatest: &[u64; View::LIMIT],
 ) -> bool
-    requires { ⌜ Settled (ringOf ring) (ring .sender) (recordIn (now words) (now ids)) (now candidates) (now greatest) e ⌝ }
-    ensures { λ r. ⌜ r ≡ reportedAll (ringOf ring) (ring .sender) (recordIn (now (words .entry)) (now (ids .entry))) ⌝ }
+    requires { ⌜ Settled (ringIs ringOfWord) (ringOfWord .sender) (recordIn (now words) (now ids)) (now candidates) (now greatest) e ⌝ }
+    ensures { λ r. ⌜ r ≡ reportedAll (ringIs ringOfWord) (ringOfWord .sender) (recordIn (now (words .entry)) (now (ids .entry))) ⌝ }
 {
     let mut prepared = [0u64; PAYLOADS];
-    prepares::list(words, ids, ring.sender, &mut prepared);
+    prepares::list(words, ids, ringOfWord.sender, &mut prepared);
     let mut listed = [0u16; RECORD];
     reports_in(words, ids, &mut listed);
     let n = e.length;
-    let t = top_of(greatest, n, ring.init);
+    let t = top_of(greatest, n, ringOfWord.init);
     let mut i = 0usize;
     while i < n {
         let u = view_in(greatest, i);
@@ -271,18 +270,18 @@ fn counts_below(
 pub fn merged(
     words: &[u64; POOL_WORDS],
     ids: &[u16; RECORD],
-    ring: Ring,
+    ringOfWord: Ring,
     e: Evidence,
     candidates: &[u64; View::LIMIT],
     greatest: &[u64; View::LIMIT],
     own: Binding,
 ) -> Binding
-    requires { ⌜ Settled (ringOf ring) (ring .sender) (recordIn (now words) (now ids)) (now candidates) (now greatest) e ⌝ }
-    ensures { λ r. ⌜ bindingIs r ≡ mergeAll (bindingIs own) (reportsBelow (ringOf ring) (ring .sender) (recordIn (now (words .entry)) (now (ids .entry)))) ⌝ }
+    requires { ⌜ Settled (ringIs ringOfWord) (ringOfWord .sender) (recordIn (now words) (now ids)) (now candidates) (now greatest) e ⌝ }
+    ensures { λ r. ⌜ bindingIs r ≡ mergeAll (bindingIs own) (reportsBelow (ringIs ringOfWord) (ringOfWord .sender) (recordIn (now (words .entry)) (now (ids .entry)))) ⌝ }
 {
     let mut prepared = [0u64; PAYLOADS];
-    prepares::list(words, ids, ring.sender, &mut prepared);
-    let t = top_of(greatest, e.length, ring.init);
+    prepares::list(words, ids, ringOfWord.sender, &mut prepared);
+    let t = top_of(greatest, e.length, ringOfWord.init);
     let mut b = own;
     let mut i = pool::record_length(ids);
     while 0 < i {

@@ -27,7 +27,7 @@ use Rattle.protocol.proofs.Model.{entered-top, top-is-view}
 use Rattle.protocol.proofs.Promises.{promises, no-conflict}
 use Rattle.schedule.specs.Line.{Line}
 use Rattle.bench.specs.Bench.{step}
-use Rattle.guarantee.specs.Events.{follower, isFollower, afterLine, occurs, line, after}
+use Rattle.guarantee.specs.Events.{follower, isFollower, afterLine, occurs, lineAt, after}
 use Rattle.guarantee.specs.Rows.{RepliedTo, finalPool, FewFaulty, Says, rows, Kept}
 use Rattle.guarantee.proofs.Laws.{longer-on, holds, at-in, at-left, map-at}
 use Rattle.guarantee.proofs.Lines.{Acts, Calls, out, follower-is}
@@ -80,9 +80,9 @@ module _ (S : Schedule) where
   -- after more lines the pool has more at its end
   pool-longer : (m n : ℕ) → first < m → m ≤ n → (D : List Stmt) × (after L n .pool ≡ after L m .pool ++ D)
   unfolding after afterLine
-  pool-longer m n h l = longer-on (λ n. after L n .pool) m (λ j i. next j (omega arith) (line L j) refl) n l
+  pool-longer m n h l = longer-on (λ n. after L n .pool) m (λ j i. next j (omega arith) (lineAt L j) refl) n l
     where
-      next : (j : ℕ) → first < j → (x : Option (Option Line)) → line L j ≡ x → (D : List Stmt) × (afterLine (after L j) x .pool ≡ after L j .pool ++ D)
+      next : (j : ℕ) → first < j → (x : Option (Option Line)) → lineAt L j ≡ x → (D : List Stmt) × (afterLine (after L j) x .pool ≡ after L j .pool ++ D)
       next j h none e = ([], sym (append-nil (after L j .pool)))
       next j h (some l) e = grows (u S) (valid S j h) l (effect-at S j l e h)
 

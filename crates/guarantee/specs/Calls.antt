@@ -12,16 +12,11 @@ use Rattle.protocol.specs.Pool.{hasRoom}
 use Rattle.protocol.specs.Run.{Call, setupCall, turnCall, call, Run, ring, event, statements}
 use Rattle.protocol.specs.Promises.{Observed}
 use Rattle.views.specs.View.{viewOf}
-use Rattle.pool.specs.Pool.{stmtAt, poolLen, recordIn}
+use Rattle.pool.specs.Pool.{stmtAt, poolLen, recordIn, poolOf, Grows}
 use Rattle.engine.specs.declared.Outcome.{Outcome}
-use Rattle.engine.specs.Meaning.{controllerIs, poolIs, answerIs}
+use Rattle.engine.specs.Meaning.{controllerIs, answerIs}
 use Rattle.engine.specs.Promise.{Called}
-use Rattle.host.specs.Host.{Fresh, CalledAt}
-
--- The pool has all that it had, under the same numbers.
-pub record Grows (W W′ : List ℕ) : Type 0 where
-  pub more : poolLen W ≤ poolLen W′
-  pub same : (n : ℕ) → n < poolLen W → stmtAt W′ n ≡ stmtAt W n
+use Rattle.host.specs.Host.{Fresh, HostCalled}
 
 -- What there is of one engine: the words of its pool, the numbers of its record, and what the last call on it returned.
 pub record Engine : Type 0 where
@@ -48,7 +43,7 @@ pub record EngineRun (run : Run) (k : ℕ) (e : ℕ → Engine) : Type 0 where
   pub unset : controllerIs (fresh .last .controller) ≡ notSetUp
   pub started : EngineCalls fresh (setupCall k (run .members) (run .sender)) (e 0)
   -- What the run says of the pool's room is asked at the calls on k alone: controllers may share a pool or have one each.
-  pub room : (n : ℕ) (c : Call) → event run n ≡ some (call k c) → run .room n ≡ hasRoom (poolIs (e n .pool))
+  pub room : (n : ℕ) (c : Call) → event run n ≡ some (call k c) → run .room n ≡ hasRoom (poolOf (e n .pool))
   -- "Each call gets the controller and record that the last call on that rule-follower returned".
   pub called : (n : ℕ) (c : Call) → event run n ≡ some (call k c) → EngineCalls (e n) c (e (suc n))
   -- "nobody else writes them meanwhile": another event may put statements into the pool.
@@ -87,7 +82,7 @@ pub record Host : Type 0 where
 -- A call took the host from h to h′. After it the host may have put statements into the pool.
 pub record HostCalls (h : Host) (k : Call) (h′ : Host) : Type 0 where
   pub left : List ℕ
-  pub called : CalledAt (h .pool) (h .fields) (h .ids) k (h′ .answer) (h′ .value ∷ []) left (h′ .fields) (h′ .ids)
+  pub called : HostCalled (h .pool) (h .fields) (h .ids) k (h′ .answer) (h′ .value ∷ []) left (h′ .fields) (h′ .ids)
   pub grows : Grows left (h′ .pool)
 
 -- No call took place: the pool alone may have grown.
@@ -101,7 +96,7 @@ pub record HostRun (run : Run) (k : ℕ) (h : ℕ → Host) : Type 0 where
   pub fresh : Host
   pub unset : Fresh (fresh .fields) (fresh .ids)
   pub started : HostCalls fresh (setupCall k (run .members) (run .sender)) (h 0)
-  pub room : (n : ℕ) (c : Call) → event run n ≡ some (call k c) → run .room n ≡ hasRoom (poolIs (h n .pool))
+  pub room : (n : ℕ) (c : Call) → event run n ≡ some (call k c) → run .room n ≡ hasRoom (poolOf (h n .pool))
   pub called : (n : ℕ) (c : Call) → event run n ≡ some (call k c) → HostCalls (h n) c (h (suc n))
   pub others : (n : ℕ) → ((c : Call) → ¬ (event run n ≡ some (call k c))) → HostWaits (h n) (h (suc n))
 

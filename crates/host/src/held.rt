@@ -1,10 +1,11 @@
 // A controller that is kept in lent memory: specs/Memory.antt says what each word stands for.
 ghost use mathlib.Core.Path.{_≡_};
 ghost use Prim.Native.Nat.{_<_};
-ghost use Rattle.statements.specs.Meaning.{bindingNumber};
-ghost use Rattle.host.specs.Memory.{heldIn, bindingIn, bindingPayload, sendIn, sendNumber, sendPayload, enteredIn, controllerAt, Worded};
+ghost use Rattle.protocol.specs.Statement.{bindingNumber, bindingPayload};
+ghost use Rattle.statements.specs.Meaning.{bindingIs};
+ghost use Rattle.host.specs.Memory.{heldIn, bindingIn, sendIn, sendNumber, sendPayload, enteredIn, controllerAt, EnteredWords};
 use engine::Controller;
-use rules::Send;
+use rules::OptionalPayload;
 use statements::Binding;
 use views::History;
 use views::View;
@@ -30,13 +31,13 @@ fn binding_in(n: u64, payload: u64) -> Binding
     Binding::Barred
 }
 
-fn send_in(n: u64, payload: u64) -> Send
+fn send_in(n: u64, payload: u64) -> OptionalPayload
     ensures { λ r. ⌜ r ≡ sendIn n payload ⌝ }
 {
     if n == 0 {
-        return Send::Nothing;
+        return OptionalPayload::Nothing;
     }
-    Send::Payload(payload)
+    OptionalPayload::Payload(payload)
 }
 
 // The views that were entered.
@@ -98,7 +99,7 @@ fn word_of(v: View) -> u64
 
 // The words of the views that were entered: how many in word 12, and those from word 16 on.
 fn words_of(entered: History) -> [u64; 32]
-    ensures { λ r. ⌜ Worded entered r ⌝ }
+    ensures { λ r. ⌜ EnteredWords entered r ⌝ }
 {
     let views = entered.views;
     let mut words = [0u64; 32];
@@ -113,7 +114,7 @@ fn words_of(entered: History) -> [u64; 32]
 }
 
 fn binding_number(b: Binding) -> u64
-    ensures { λ r. ⌜ r ≡ bindingNumber b ⌝ }
+    ensures { λ r. ⌜ r ≡ bindingNumber (bindingIs b) ⌝ }
 {
     match b {
         Binding::Unbound => 0,
@@ -123,7 +124,7 @@ fn binding_number(b: Binding) -> u64
 }
 
 fn binding_payload(b: Binding) -> u64
-    ensures { λ r. ⌜ r ≡ bindingPayload b ⌝ }
+    ensures { λ r. ⌜ r ≡ bindingPayload (bindingIs b) ⌝ }
 {
     match b {
         Binding::Unbound => 0,
@@ -132,21 +133,21 @@ fn binding_payload(b: Binding) -> u64
     }
 }
 
-fn send_number(s: Send) -> u64
+fn send_number(s: OptionalPayload) -> u64
     ensures { λ r. ⌜ r ≡ sendNumber s ⌝ }
 {
     match s {
-        Send::Nothing => 0,
-        Send::Payload(_) => 1,
+        OptionalPayload::Nothing => 0,
+        OptionalPayload::Payload(_) => 1,
     }
 }
 
-fn send_payload(s: Send) -> u64
+fn send_payload(s: OptionalPayload) -> u64
     ensures { λ r. ⌜ r ≡ sendPayload s ⌝ }
 {
     match s {
-        Send::Nothing => 0,
-        Send::Payload(m) => m,
+        OptionalPayload::Nothing => 0,
+        OptionalPayload::Payload(m) => m,
     }
 }
 

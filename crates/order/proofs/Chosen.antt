@@ -15,7 +15,7 @@ use Rattle.rules.specs.declared.Situation.{Situation}
 use Rattle.rules.specs.declared.Action.{Action}
 use Rattle.rules.specs.declared.Action.the-variants.{Rest, Report, Enter, AgreeView, AgreeHistory, Ack, Store, Deliver, Join, Leave, Prepare}
 use Rattle.rules.specs.Actions.{actionIs, acts}
-use Rattle.rules.specs.Rules.{Owns, Lent, AllHold, Rule, firstAmong, Does}
+use Rattle.rules.specs.Rules.{Owns, Lent, AllLent, Rule, firstAmong, Does}
 
 -- ---- the first of several
 
@@ -60,7 +60,7 @@ skipped o l e = rw e
 
 -- where K is lent, L is
 abbrev pub Lends : Situation → List Lent → List Lent → Type 0
-Lends s K L = (d : Controller) (X : List Stmt) → AllHold s d X K → AllHold s d X L
+Lends s K L = (d : Controller) (X : List Stmt) → AllLent s d X K → AllLent s d X L
 
 module _ {K L : List Lent} {s : Situation} {rule : Rule} where
   pub one : (l : List Rule) {r : Action} → Does L s rule r → acts r ≡ true → Lends s K L → Does K s (firstAmong (rule ∷ l)) r

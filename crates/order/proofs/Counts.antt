@@ -13,7 +13,7 @@ use Rattle.protocol.proofs.Asked.{candidates-exact, greatest-holds}
 use Rattle.views.proofs.Tables.{table-length}
 use Rattle.evidence.specs.declared.Evidence.{Evidence}
 use Rattle.evidence.specs.Evidence.{Settled}
-use Rattle.ranking.specs.Slots.{viewsOf}
+use Rattle.views.specs.View.{viewsOf}
 
 some-in : {A : Type 0} {a : A} (l : List A) → a ∈ l → 0 < length l
 some-in [] m = absurd (List·Memᴰ·not-nil m)

@@ -13,14 +13,12 @@ use borrow.Author.Tests.{lt-ltb, le-ltb}
 use mir.Val.{boolByte}
 use Rattle.text.proofs.Stores.{sets-append}
 use Rattle.views.specs.Table.{table}
-use Rattle.views.specs.View.{viewOf}
+use Rattle.views.specs.View.{viewOf, viewsOf, wordOf}
 use Rattle.views.proofs.Tables.{table-length, table-at, table-cong}
 use Rattle.protocol.specs.Lists.{if_then_else_, first, when}
 use Rattle.protocol.specs.View.{View, Ring}
 use Rattle.protocol.specs.Statement.{Stmt}
 use Rattle.protocol.specs.Evidence.{wished, candidates, greatest, certificates, isStored}
-use Rattle.pool.specs.Pool.{wordOf}
-use Rattle.ranking.specs.Slots.{viewsOf}
 use Rattle.evidence.specs.declared.Evidence.{Evidence}
 use Rattle.evidence.specs.Evidence.{EvidenceOf}
 use Rattle.screen.proofs.ScreenLaws.{words-count}

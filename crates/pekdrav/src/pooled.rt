@@ -1,7 +1,7 @@
 // A pool whose statements go in and come out by their text.
 ghost use mathlib.Core.Path.{_≡_};
 ghost use Rattle.pool.specs.Changes.{Cleared};
-ghost use Rattle.pekdrav.specs.Pooled.{placeNumber, Put, Texted};
+ghost use Rattle.pekdrav.specs.Pooled.{placeNumber, AppendedText, Texted};
 use pool::POOL_WORDS;
 use pool::Placed;
 
@@ -19,7 +19,7 @@ fn place_number(p: Placed) -> u16
 // text of no statement that keeps the field rules.
 #[no_mangle]
 pub extern "C" fn pekdrav_append(words: &mut [u64; POOL_WORDS], line: &[u8]) -> u16
-    ensures { λ r. ⌜ Put (now (line .entry)) (now (words .entry)) r (now (words .exit)) ⌝ }
+    ensures { λ r. ⌜ AppendedText (now (line .entry)) (now (words .entry)) r (now (words .exit)) ⌝ }
 {
     let r = statements::read(line);
     if !r.ok {

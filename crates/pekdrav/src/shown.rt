@@ -4,10 +4,9 @@ ghost use mathlib.Core.Bool.{cond};
 ghost use Prim.Native.Nat.{_≤_};
 ghost use lib.ListN.{length};
 ghost use lib.Seq.{sets};
-ghost use Rattle.views.specs.View.{viewOf, ring};
-ghost use Rattle.pool.specs.Pool.{wordOf, recordIn};
-ghost use Rattle.ranking.specs.Slots.{viewsOf};
-ghost use Rattle.screen.specs.Screen.{Shows};
+ghost use Rattle.views.specs.View.{viewOf, ringOfWord, viewsOf, wordOf};
+ghost use Rattle.pool.specs.Pool.{recordIn};
+ghost use Rattle.screen.specs.Screen.{ScreenShows};
 ghost use Rattle.pekdrav.specs.Evidence.{sixteen, toldOf};
 use evidence::Ring;
 use pool::POOL_WORDS;
@@ -66,13 +65,13 @@ pub extern "C" fn pekdrav_evidence(
     sender: u8,
     out: &mut [u64; TOLD_WORDS],
 )
-    ensures { λ _. ⌜ now (out .exit) ≡ toldOf (ring init) sender (recordIn (now (words .entry)) (now (ids .entry))) ⌝ }
+    ensures { λ _. ⌜ now (out .exit) ≡ toldOf (ringOfWord init) sender (recordIn (now (words .entry)) (now (ids .entry))) ⌝ }
 {
     room(out);
     let mut candidates = [0u64; View::LIMIT];
     let mut greatest = [0u64; View::LIMIT];
-    let ring = Ring { init, sender };
-    let e = evidence::of_record(words, ids, ring, &mut candidates, &mut greatest);
+    let ringOfWord = Ring { init, sender };
+    let e = evidence::of_record(words, ids, ringOfWord, &mut candidates, &mut greatest);
     let agreed = !e.conflict;
     let certified = agreed & e.certified;
     let count = when(agreed & !e.many, e.count as u64);
@@ -99,7 +98,7 @@ pub extern "C" fn pekdrav_shown(
     sender: u8,
     out: &mut [u8],
 ) -> usize
-    ensures { λ r. ⌜ Shows (ring init) sender (recordIn (now (words .entry)) (now (ids .entry))) (now (out .entry)) r (now (out .exit)) ⌝ }
+    ensures { λ r. ⌜ ScreenShows (ringOfWord init) sender (recordIn (now (words .entry)) (now (ids .entry))) (now (out .entry)) r (now (out .exit)) ⌝ }
 {
     screen::shown(words, ids, Ring { init, sender }, out)
 }

@@ -10,7 +10,7 @@ use Rattle.protocol.specs.View.{View}
 use Rattle.protocol.specs.History.{top}
 use Rattle.protocol.proofs.Bits.{Fits}
 use Rattle.views.specs.Table.{table}
-use Rattle.views.specs.View.{viewOf, ring}
+use Rattle.views.specs.View.{viewOf, ringOfWord}
 use Rattle.views.proofs.Views.{fits-in}
 use Rattle.views.proofs.Histories.{top-none, top-some}
 use Rattle.pool.specs.Pool.{word, viewWord, countOf, viewAt, stmtAt}
@@ -49,10 +49,10 @@ module _ (W : List ℕ) (n : ℕ) where
   unfolding stmtAt
   views-fit v m = in-table (Fits 16) (countOf W n) (viewAt W n) nth-fits v m
 
-  pub top-fits : (init : ℕ) → Fits 16 (viewOf init) → Fits 16 (top (ring init) (stmtAt W n .views))
+  pub top-fits : (init : ℕ) → Fits 16 (viewOf init) → Fits 16 (top (ringOfWord init) (stmtAt W n .views))
   unfolding stmtAt
   top-fits init f = go (countOf W n)
     where
-      go : (c : ℕ) → Fits 16 (top (ring init) (table c (viewAt W n)))
-      go zero = subst (Fits 16) (top-none (viewAt W n) (ring init) 0 refl) f
-      go (suc c) = subst (Fits 16) (top-some (viewAt W n) (ring init) (suc c) (λ e. omega arith)) (nth-fits (suc c - 1))
+      go : (c : ℕ) → Fits 16 (top (ringOfWord init) (table c (viewAt W n)))
+      go zero = subst (Fits 16) (top-none (viewAt W n) (ringOfWord init) 0 refl) f
+      go (suc c) = subst (Fits 16) (top-some (viewAt W n) (ringOfWord init) (suc c) (λ e. omega arith)) (nth-fits (suc c - 1))

@@ -18,7 +18,7 @@ use Rattle.protocol.specs.Statement.{Stmt}
 use Rattle.views.specs.declared.View as held
 use Rattle.views.specs.declared.History.{History}
 use Rattle.views.specs.Table.{table}
-use Rattle.views.specs.View.{viewOf, viewIn}
+use Rattle.views.specs.View.{viewOf, viewIn, wordOf}
 use Rattle.views.specs.Held.{viewIs, heldAt, viewsIs}
 use Rattle.views.proofs.Tables.{table-length, table-at, table-cong, take-table}
 use Rattle.views.proofs.Views.{view-whole}
@@ -26,7 +26,7 @@ use Rattle.views.proofs.Held.{held-fits}
 use Rattle.statements.specs.declared.Statement.{Statement}
 use Rattle.statements.specs.Meaning.{firstViews, stmtOf}
 use Rattle.statements.proofs.FieldLaws.{views-table}
-use Rattle.pool.specs.Pool.{wordOf, viewsFrom, lastWord, poolWords, headAt, word, viewWord, countOf, viewAt, stmtAt}
+use Rattle.pool.specs.Pool.{viewsFrom, lastWord, poolWords, headAt, word, viewWord, countOf, viewAt, stmtAt}
 use Rattle.pool.specs.Changes.{owner, Beside, headWord, putAt, Put, IsHead}
 
 -- statements are the same if their fields are

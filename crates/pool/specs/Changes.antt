@@ -13,14 +13,14 @@ use Rattle.protocol.specs.Lists.{if_then_else_, find, isSome}
 use Rattle.protocol.specs.View.{sameView}
 use Rattle.protocol.specs.Statement.{Stmt, sameStmt}
 use Rattle.views.specs.Table.{table}
-use Rattle.views.specs.View.{viewOf}
+use Rattle.views.specs.View.{viewOf, wordOf}
 use Rattle.statements.specs.declared.Statement.{Statement}
 use Rattle.statements.specs.Meaning.{stmtOf}
 use Rattle.pool.specs.declared.Found.{Found}
 use Rattle.pool.specs.declared.Found.the-variants as found
 use Rattle.pool.specs.declared.Placed.{Placed}
 use Rattle.pool.specs.declared.Placed.the-variants as placed
-use Rattle.pool.specs.Pool.{wordOf, viewsFrom, lastWord, poolWords, stmtAt, poolLen, poolOf, recordLen, recordIn}
+use Rattle.pool.specs.Pool.{viewsFrom, lastWord, poolWords, stmtAt, poolLen, poolOf, recordLen, recordIn}
 
 -- The statement that word i is of. It is 512 for the number of statements, which is of none.
 unfoldable pub owner : ℕ → ℕ
@@ -63,8 +63,8 @@ pub record IsHead (w : ℕ) (s : Stmt) (c : ℕ) : Type 0 where
   pub stored : min (w / 1099511627776 % 256) 1 ≡ s .stored
 
 -- The first number of the pool whose statement is s.
-unfoldable pub numberOf : List ℕ → Stmt → Option ℕ
-numberOf W s = find (λ i. sameStmt s (stmtAt W i)) (table (poolLen W) (λ i. i))
+unfoldable pub poolNumber : List ℕ → Stmt → Option ℕ
+poolNumber W s = find (λ i. sameStmt s (stmtAt W i)) (table (poolLen W) (λ i. i))
 
 abbrev pub foundOf : Option ℕ → Found
 foundOf none = found.Nothing
@@ -77,7 +77,7 @@ placedAt (some i) n = placed.At i
 
 -- The memory W after s went into its pool: as before where s was in it or it is full.
 unfoldable pub pooledIn : List ℕ → Stmt → List ℕ
-pooledIn W s = if isSome (numberOf W s) || leb 512 (poolLen W) then W else set (putAt W (poolLen W) s) lastWord (poolLen W + 1)
+pooledIn W s = if isSome (poolNumber W s) || leb 512 (poolLen W) then W else set (putAt W (poolLen W) s) lastWord (poolLen W + 1)
 
 -- One statement more, which is st, and all others as before.
 pub record Grown (W W′ : List ℕ) (st : Statement) : Type 0 where
@@ -88,11 +88,11 @@ pub record Grown (W W′ : List ℕ) (st : Statement) : Type 0 where
 
 -- st is in the pool where r says, and the pool has grown only where st was not in it and there was room.
 pub record Appended (W W′ : List ℕ) (st : Statement) (r : Placed) : Type 0 where
-  pub answer : r ≡ placedAt (numberOf W (stmtOf st)) (poolLen W)
+  pub answer : r ≡ placedAt (poolNumber W (stmtOf st)) (poolLen W)
   pub is : W′ ≡ pooledIn W (stmtOf st)
-  pub old : (i : ℕ) → numberOf W (stmtOf st) ≡ some i → W′ ≡ W
+  pub old : (i : ℕ) → poolNumber W (stmtOf st) ≡ some i → W′ ≡ W
   pub full : 512 ≤ poolLen W → W′ ≡ W
-  pub new : numberOf W (stmtOf st) ≡ none → poolLen W < 512 → Grown W W′ st
+  pub new : poolNumber W (stmtOf st) ≡ none → poolLen W < 512 → Grown W W′ st
 
 -- The pool is empty now: the number of its statements was set to 0.
 pub record Cleared (W W′ : List ℕ) : Type 0 where

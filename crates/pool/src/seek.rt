@@ -5,7 +5,7 @@ ghost use Rattle.protocol.specs.History.{sameViews};
 ghost use Rattle.protocol.specs.Statement.{sameStmt};
 ghost use Rattle.statements.specs.Meaning.{firstViews, stmtOf};
 ghost use Rattle.pool.specs.Pool.{stmtAt};
-ghost use Rattle.pool.specs.Changes.{headOf, isOther, foundOf, numberOf, Appended};
+ghost use Rattle.pool.specs.Changes.{headOf, isOther, foundOf, poolNumber, Appended};
 use crate::Found;
 use crate::LAST;
 use crate::POOL_WORDS;
@@ -85,7 +85,7 @@ pub fn same_at(words: &[u64; POOL_WORDS], n: u16, st: Statement) -> bool
 
 // The number of st in the pool.
 pub fn find(words: &[u64; POOL_WORDS], st: Statement) -> Found
-    ensures { λ r. ⌜ r ≡ foundOf (numberOf (now (words .entry)) (stmtOf st)) ⌝ }
+    ensures { λ r. ⌜ r ≡ foundOf (poolNumber (now (words .entry)) (stmtOf st)) ⌝ }
 {
     let end = read::pool_len(words);
     let key = head_of(st);

@@ -4,9 +4,11 @@ ghost use mathlib.Core.List.{map};
 ghost use Prim.Native.Nat.{_+_, _≤_, min};
 ghost use lib.ListN.{length};
 ghost use lib.Seq.{sets};
-ghost use Rattle.statements.specs.Meaning.{firstViews, bindingNumber, payloadOf, stmtOf};
+ghost use Rattle.protocol.specs.Statement.{bindingNumber};
+ghost use Rattle.statements.specs.Meaning.{firstViews, bindingIs, payloadOf, stmtOf};
 ghost use Rattle.views.specs.Held.{viewsIs};
-ghost use Rattle.pool.specs.Pool.{wordOf, lastWord, poolWords, stmtAt};
+ghost use Rattle.views.specs.View.{wordOf};
+ghost use Rattle.pool.specs.Pool.{lastWord, poolWords, stmtAt};
 ghost use Rattle.pool.specs.Changes.{headWord, IsHead, Put, Cleared};
 use crate::AT;
 use crate::KEPT;
@@ -76,7 +78,7 @@ pub fn clear(words: &mut [u64; POOL_WORDS])
 
 // The binding that a number and a payload stand for.
 fn binding_of(number: u64, payload: u64) -> Binding
-    ensures { λ r. ⌜ (bindingNumber r ≡ min number 2) × (payloadOf r payload ≡ payload) ⌝ }
+    ensures { λ r. ⌜ (bindingNumber (bindingIs r) ≡ min number 2) × (payloadOf r payload ≡ payload) ⌝ }
 {
     if number == 0 {
         return Binding::Unbound;

@@ -18,9 +18,9 @@ use Rattle.protocol.specs.View.{View, size, Within}
 use Rattle.protocol.proofs.Counting.{count-mono}
 use Rattle.protocol.proofs.Different.{ordered-append}
 use Rattle.views.specs.Table.{table}
-use Rattle.views.specs.View.{viewOf}
+use Rattle.views.specs.View.{viewOf, viewsOf}
 use Rattle.views.proofs.Tables.{table-length, table-cong}
-use Rattle.ranking.specs.Slots.{Scale, viewScale, viewsOf, Stands, Slots, Filled, here, occupied, Broken, Chain, Compared, Listed}
+use Rattle.ranking.specs.Slots.{Scale, viewScale, Stands, Slots, Filled, here, occupied, Broken, Chain, Compared, Listed}
 use Rattle.ranking.proofs.Members.{in-left, in-right, Climbs}
 
 -- ---- sizes

@@ -8,7 +8,7 @@ ghost use Rattle.protocol.specs.Statement.{Stmt};
 ghost use Rattle.views.specs.View.{viewOf};
 ghost use Rattle.tables.specs.Index.{keyAt};
 ghost use Rattle.ranking.specs.Slots.{viewScale, choiceMark, Slots, Filled, Compared, Listed};
-ghost use Rattle.ranking.specs.Ranking.{Choices, CandidatesOf};
+ghost use Rattle.ranking.specs.Ranking.{MarkedChoices, CandidatesOf};
 use crate::MEMO;
 use crate::Ranked;
 use tables::KEYS;
@@ -153,7 +153,7 @@ pub fn rank(
     out: &mut [u64; View::LIMIT],
 ) -> Ranked
     requires { ⌜ nc ≤ 512 ⌝ }
-    ensures { λ r. ⌜ ((X : List Stmt) → Choices init X (now (keys .entry)) (now (memo .entry)) nc → CandidatesOf init X (now (out .exit)) r) ⌝ }
+    ensures { λ r. ⌜ ((X : List Stmt) → MarkedChoices init X (now (keys .entry)) (now (memo .entry)) nc → CandidatesOf init X (now (out .exit)) r) ⌝ }
 {
     room(out);
     let mut slots = [init; SIZES];

@@ -6,8 +6,9 @@ ghost use lib.ListN.{getD, length};
 ghost use Rattle.protocol.specs.History.{holds};
 ghost use Rattle.protocol.specs.Statement.{Stmt};
 ghost use Rattle.pool.specs.Pool.{stmtAt};
-ghost use Rattle.ranking.specs.Slots.{historyScale, numberIn, sealMark, viewsOf, Slots, Filled};
-ghost use Rattle.ranking.specs.Ranking.{FirstMarked, ChainOf, Agreements, HistoriesOf};
+ghost use Rattle.views.specs.View.{viewsOf};
+ghost use Rattle.ranking.specs.Slots.{historyScale, numberIn, sealMark, Slots, Filled};
+ghost use Rattle.ranking.specs.Ranking.{FirstMarked, ChainOf, MarkedAgreements, HistoriesOf};
 use crate::MEMO;
 use crate::Summit;
 use crate::candidates;
@@ -156,7 +157,7 @@ pub fn climb(
     out: &mut [u64; View::LIMIT],
 ) -> Summit
     requires { ⌜ na ≤ 512 ⌝ }
-    ensures { λ r. ⌜ ((X : List Stmt) → Agreements init X (now (words .entry)) (now (rows .entry)) (now (memo .entry)) na → HistoriesOf init X (now (out .exit)) r) ⌝ }
+    ensures { λ r. ⌜ ((X : List Stmt) → MarkedAgreements init X (now (words .entry)) (now (rows .entry)) (now (memo .entry)) na → HistoriesOf init X (now (out .exit)) r) ⌝ }
 {
     candidates::room(out);
     let a = first_marked(memo, na);

@@ -20,14 +20,13 @@ use Rattle.protocol.proofs.Asked.{says-same-stmt}
 use Rattle.views.specs.declared.View as held
 use Rattle.views.specs.declared.History.{History}
 use Rattle.views.specs.Table.{table}
-use Rattle.views.specs.View.{viewIn}
+use Rattle.views.specs.View.{viewIn, viewsIn}
 use Rattle.views.specs.Held.{viewIs, heldAt, viewsIs}
 use Rattle.views.proofs.Tables.{any-zero, any-more}
 use Rattle.views.proofs.Held.{views-of, cut-is}
-use Rattle.pool.specs.Pool.{recordOf}
+use Rattle.pool.specs.Pool.{recordUpTo}
 use Rattle.pool.proofs.Records as records
-use Rattle.evidence.proofs.Sifted.{any-among}
-use Rattle.rules.specs.Actions.{viewsIn}
+use Rattle.evidence.proofs.Listing.{any-among}
 use Rattle.rules.specs.Rules.{ownKind, ownAt, Owns, firstPrepare}
 
 -- ---- one statement
@@ -134,15 +133,15 @@ pub prepare-own : (sender : ℕ) (s : Stmt) (b r : Bool) → b ≡ ownKind sende
 unfolding prepares isKind ownKind
 prepare-own sender s b r e f = and-comm (eqb (s .kind) 6) (eqb (s .origin) sender) ∙ sym e ∙ f
 
-module _ (W ids : List ℕ) (sender len i : ℕ) (so-far : any (prepares sender) (recordOf W ids i) ≡ false) where
+module _ (W ids : List ℕ) (sender len i : ℕ) (so-far : any (prepares sender) (recordUpTo W ids i) ≡ false) where
   pub prepare-first : (m : ℕ) → i < min len 512 → prepares sender (records.entry W ids i) ≡ true → m ≡ records.entry W ids i .payload
-      → some m ≡ firstPrepare sender (recordOf W ids len)
-  unfolding firstPrepare recordOf
+      → some m ≡ firstPrepare sender (recordUpTo W ids len)
+  unfolding firstPrepare recordUpTo
   prepare-first m l e q = rw (find-at (prepares sender) (records.entry W ids) (min len 512) i l (rw (records.so-far W ids i (omega arith)) at so-far) e) (ap some q)
 
-  pub prepare-none : i ≡ min len 512 → none ≡ firstPrepare sender (recordOf W ids len)
+  pub prepare-none : i ≡ min len 512 → none ≡ firstPrepare sender (recordUpTo W ids len)
   unfolding firstPrepare
-  prepare-none l = rw (find-nothing (prepares sender) (recordOf W ids len) (records.none W ids (prepares sender) len i l so-far))
+  prepare-none l = rw (find-nothing (prepares sender) (recordUpTo W ids len) (records.none W ids (prepares sender) len i l so-far))
 
 -- ---- words as a history
 

@@ -13,14 +13,14 @@ use Rattle.protocol.specs.Statement.{Stmt}
 use Rattle.protocol.specs.Evidence.{prepares, wished, candidates, isStored}
 use Rattle.protocol.specs.Controller.{Controller}
 use Rattle.protocol.specs.Turn as turn
-use Rattle.views.specs.View.{viewIn}
+use Rattle.views.specs.View.{viewIn, viewsIn}
 use Rattle.views.specs.Held.{viewIs}
 use Rattle.statements.specs.Meaning.{bindingIs}
-use Rattle.evidence.specs.Evidence.{ringOf, certificateOf}
-use Rattle.rules.specs.declared.Send.{Send}
+use Rattle.evidence.specs.Evidence.{ringIs, certificateOf}
+use Rattle.rules.specs.declared.OptionalPayload.{OptionalPayload}
 use Rattle.rules.specs.declared.Situation.{Situation}
 use Rattle.rules.specs.declared.Action.{Action}
-use Rattle.rules.specs.Actions.{sendIs, viewsIn, actionIs}
+use Rattle.rules.specs.Actions.{payloadIs, actionIs}
 
 -- ---- what is asked of the record
 
@@ -49,13 +49,13 @@ pub record Owns (X Y : List Stmt) (k : ℕ) : Type 0 where
 -- s is the situation of the controller d with the record X.
 pub record SituationOf (d : Controller) (X : List Stmt) (s : Situation) : Type 0 where
   pub number : d .number ≡ s .number
-  pub ring : d .ring ≡ ringOf (s .ring)
+  pub ring : d .ring ≡ ringIs (s .ring)
   pub sender : d .sender ≡ s .ring .sender
   pub binding : d .binding ≡ bindingIs (s .binding)
   pub delivered : d .delivered ≡ s .delivered
   pub joining : d .joinRequested ≡ s .joining
   pub leaving : d .leaveRequested ≡ s .leaving
-  pub sending : d .sendRequested ≡ sendIs (s .sending)
+  pub sending : d .sendRequested ≡ payloadIs (s .sending)
   pub active : ltb 0 (length (d .entered)) ≡ s .active
   pub entered : turn.hasEntered d X (viewIs (s .top)) ≡ s .entered
   pub stands : turn.stands d X ≡ s .stands
@@ -72,15 +72,15 @@ pub data Lent : Type 0 where
   greatestViews : List ℕ → Lent
 
 -- What is lent is what it says, of the controller d with the record X.
-abbrev pub Holds : Situation → Controller → List Stmt → Lent → Type 0
-Holds s d X (statements Z) = Z ≡ X
-Holds s d X (ownStatements Y) = Owns X Y (s .number)
-Holds s d X (candidateViews C) = viewsIn C (s .shown .count) ≡ candidates (d .ring) X
-Holds s d X (greatestViews G) = viewsIn G (s .shown .length) ≡ turn.G d X
+abbrev pub LentIs : Situation → Controller → List Stmt → Lent → Type 0
+LentIs s d X (statements Z) = Z ≡ X
+LentIs s d X (ownStatements Y) = Owns X Y (s .number)
+LentIs s d X (candidateViews C) = viewsIn C (s .shown .count) ≡ candidates (d .ring) X
+LentIs s d X (greatestViews G) = viewsIn G (s .shown .length) ≡ turn.G d X
 
-abbrev pub AllHold : Situation → Controller → List Stmt → List Lent → Type 0
-AllHold s d X [] = Unit {0}
-AllHold s d X (l ∷ L) = Holds s d X l × AllHold s d X L
+abbrev pub AllLent : Situation → Controller → List Stmt → List Lent → Type 0
+AllLent s d X [] = Unit {0}
+AllLent s d X (l ∷ L) = LentIs s d X l × AllLent s d X L
 
 -- ---- what a rule promises
 
@@ -93,8 +93,8 @@ firstAmong rules d X = firstOf (map (λ rule. rule d X) rules)
 
 -- For every controller whose situation s is, and of whom L is lent, r is what the rule has it do.
 pub record Does (L : List Lent) (s : Situation) (rule : Rule) (r : Action) : Type 0 where
-  pub means : (d : Controller) (X : List Stmt) → SituationOf d X s → AllHold s d X L → actionIs s (candidates (d .ring) X) r ≡ rule d X
+  pub means : (d : Controller) (X : List Stmt) → SituationOf d X s → AllLent s d X L → actionIs s (candidates (d .ring) X) r ≡ rule d X
 
 -- Of rule 5: what there is to ack.
-pub record Acks (X : List Stmt) (s : Situation) (r : Send) : Type 0 where
-  pub means : (d : Controller) → SituationOf d X s → turn.toAck d X (d .binding) ≡ sendIs r
+pub record Acks (X : List Stmt) (s : Situation) (r : OptionalPayload) : Type 0 where
+  pub means : (d : Controller) → SituationOf d X s → turn.toAck d X (d .binding) ≡ payloadIs r

@@ -25,7 +25,7 @@ use statements::Binding;
 use views::View;
 
 // A payload that is to be sent, or none.
-pub enum Send {
+pub enum OptionalPayload {
     Nothing,
     Payload(u64),
 }
@@ -53,7 +53,7 @@ pub struct Situation {
     pub delivered: bool,
     pub joining: bool,
     pub leaving: bool,
-    pub sending: Send,
+    pub sending: OptionalPayload,
     // It has entered some view; the top; the top and nothing greater.
     pub active: bool,
     pub entered: bool,

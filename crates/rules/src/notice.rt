@@ -8,7 +8,7 @@ ghost use Rattle.views.specs.Held.{viewIs};
 ghost use Rattle.pool.specs.Pool.{recordIn};
 ghost use Rattle.rules.specs.Rules.{statements, ownStatements, Does, Acks};
 use crate::Action;
-use crate::Send;
+use crate::OptionalPayload;
 use crate::Situation;
 use crate::signed;
 use pool::POOL_WORDS;
@@ -17,20 +17,20 @@ use statements::Binding;
 use views::View;
 
 // What there is to ack.
-pub fn to_ack(words: &[u64; POOL_WORDS], ids: &[u16; RECORD], s: Situation) -> Send
+pub fn to_ack(words: &[u64; POOL_WORDS], ids: &[u16; RECORD], s: Situation) -> OptionalPayload
     ensures { λ r. ⌜ Acks (recordIn (now (words .entry)) (now (ids .entry))) s r ⌝ }
 {
     let t = s.top;
     let b = s.binding;
     let ring = s.ring;
     match b {
-        Binding::Bound(m) => Send::Payload(m),
-        Binding::Barred => Send::Nothing,
+        Binding::Bound(m) => OptionalPayload::Payload(m),
+        Binding::Barred => OptionalPayload::Nothing,
         Binding::Unbound => {
             if t.has_member(ring.sender) {
                 signed::first_prepare(words, ids, ring.sender)
             } else {
-                Send::Nothing
+                OptionalPayload::Nothing
             }
         }
     }
@@ -52,7 +52,7 @@ pub fn rule5(
     if signed::signed_at(words, own, s.number, 7, t.word()) {
         return Action::Rest;
     }
-    let Send::Payload(m) = to_ack(words, ids, s) else {
+    let OptionalPayload::Payload(m) = to_ack(words, ids, s) else {
         return Action::Rest;
     };
     Action::Ack(m)

@@ -3,9 +3,9 @@ ghost use mathlib.Core.Path.{_≡_};
 ghost use Rattle.protocol.specs.Lists.{any};
 ghost use Rattle.views.specs.View.{viewOf};
 ghost use Rattle.pool.specs.Pool.{stmtAt, recordIn};
-ghost use Rattle.rules.specs.Actions.{sendIs};
+ghost use Rattle.rules.specs.Actions.{payloadIs};
 ghost use Rattle.rules.specs.Rules.{ownKind, ownAt, firstPrepare, Owns};
-use crate::Send;
+use crate::OptionalPayload;
 use pool::POOL_WORDS;
 use pool::RECORD;
 
@@ -60,19 +60,19 @@ pub fn signed_at(words: &[u64; POOL_WORDS], ids: &[u16; RECORD], k: u8, kind: u6
 }
 
 // The payload of the sender's first prepare in the record.
-pub fn first_prepare(words: &[u64; POOL_WORDS], ids: &[u16; RECORD], sender: u8) -> Send
-    ensures { λ r. ⌜ sendIs r ≡ firstPrepare sender (recordIn (now (words .entry)) (now (ids .entry))) ⌝ }
+pub fn first_prepare(words: &[u64; POOL_WORDS], ids: &[u16; RECORD], sender: u8) -> OptionalPayload
+    ensures { λ r. ⌜ payloadIs r ≡ firstPrepare sender (recordIn (now (words .entry)) (now (ids .entry))) ⌝ }
 {
     let end = pool::record_length(ids);
     let mut i = 0usize;
     while i < end {
         let n = ids[i];
         if is_own(words, n, sender, 6) {
-            return Send::Payload(pool::payload(words, n));
+            return OptionalPayload::Payload(pool::payload(words, n));
         }
         i += 1;
     }
-    Send::Nothing
+    OptionalPayload::Nothing
 }
 
 // Fills `own` with the statements of controller k in the record, for the rules that ask for no others: they are few.

@@ -21,16 +21,15 @@ use Rattle.protocol.specs.Evidence.{wished, candidates, greatest, certificates,
 use Rattle.protocol.proofs.Histories.{sealed-short}
 use Rattle.protocol.proofs.Asked.{greatest-holds}
 use Rattle.views.specs.Table.{table}
-use Rattle.views.specs.View.{viewOf, viewIn}
+use Rattle.views.specs.View.{viewOf, viewIn, viewsOf}
 use Rattle.views.proofs.Tables.{table-length}
 use Rattle.statements.specs.Text.{parted, viewText}
 use Rattle.statements.specs.Parts.{tailText}
 use Rattle.statements.proofs.Fields.{view-long}
 use Rattle.statements.proofs.Views.{tail-append, tail-one, tail-long}
 use Rattle.evidence.specs.declared.Evidence.{Evidence}
-use Rattle.ranking.specs.Slots.{viewsOf}
 use Rattle.evidence.specs.Evidence.{EvidenceOf}
-use Rattle.screen.specs.Screen.{wishedWord, candidatesWord, greatestWord, certificateWord, storedWord, keptWord, line, viewsLine, wishedLine, conflictLine, candidatesLine, certificateLine, agreedText, shownText, Shows}
+use Rattle.screen.specs.Screen.{wishedWord, candidatesWord, greatestWord, certificateWord, storedWord, keptWord, lineText, viewsLine, wishedLine, conflictLine, candidatesLine, certificateLine, agreedText, screenText, ScreenShows}
 use Rattle.screen.specs.ScreenParts.{Wrote, certifiedLine, agreedLines, linesOf, Few}
 
 -- ---- one byte more of a text
@@ -102,11 +101,11 @@ parted-tail a [] = sym (append-nil a)
 parted-tail a (v ∷ l) = ap (λ (t : List ℕ). a ++ 44 ∷ t) (parted-tail (viewText v) l)
 
 wished-runs : (v : View) → wishedLine v ≡ wishedWord ++ ((44 ∷ viewText v) ++ (10 ∷ []))
-unfolding wishedLine line parted
+unfolding wishedLine lineText parted
 wished-runs v = refl
 
 views-runs : (name : List ℕ) (l : List View) → viewsLine name l ≡ name ++ ((44 ∷ decText (length l)) ++ (tailText l ++ (10 ∷ [])))
-unfolding viewsLine line parted
+unfolding viewsLine lineText parted
 views-runs name l =
     ap (λ (t : List ℕ). (name ++ 44 ∷ t) ++ (10 ∷ [])) (parted-tail (decText (length l)) l)
     ∙ append-assoc name (44 ∷ (decText (length l) ++ tailText l)) (10 ∷ []) ∙ ap (λ (t : List ℕ). name ++ 44 ∷ t) (append-assoc (decText (length l)) (tailText l) (10 ∷ []))
@@ -115,11 +114,11 @@ held-runs : (name ws : List ℕ) (n : ℕ) → viewsLine name (viewsOf ws n) ≡
 held-runs name ws n = views-runs name (viewsOf ws n) ∙ ap (λ (k : ℕ). name ++ ((44 ∷ decText k) ++ (tailText (viewsOf ws n) ++ (10 ∷ [])))) (words-count ws n)
 
 stored-runs : (m : ℕ) → certifiedLine true m true ≡ certificateWord ++ ((44 ∷ decText m) ++ ((44 ∷ storedWord) ++ (10 ∷ [])))
-unfolding certifiedLine certificateLine line parted
+unfolding certifiedLine certificateLine lineText parted
 stored-runs m = ap (λ (t : List ℕ). certificateWord ++ 44 ∷ t) (append-assoc (decText m) (44 ∷ storedWord) (10 ∷ []))
 
 kept-runs : (m : ℕ) → certifiedLine true m false ≡ certificateWord ++ ((44 ∷ decText m) ++ ((44 ∷ keptWord) ++ (10 ∷ [])))
-unfolding certifiedLine certificateLine line parted
+unfolding certifiedLine certificateLine lineText parted
 kept-runs m = ap (λ (t : List ℕ). certificateWord ++ 44 ∷ t) (append-assoc (decText m) (44 ∷ keptWord) (10 ∷ []))
 
 -- ---- each line, as its parts wrote it
@@ -158,12 +157,12 @@ views-most name ws n h =
     )
 
 pub candidates-most : (many : Bool) (ws : List ℕ) (n : ℕ) → (many ≡ false → n ≤ 16) → length (candidatesLine many (viewsOf ws n)) ≤ 158
-unfolding candidatesLine line parted
+unfolding candidatesLine lineText parted
 candidates-most true ws n h = omega arith
 candidates-most false ws n h = views-most candidatesWord ws n (h refl)
 
 none-size : (m : ℕ) (stored : Bool) → length (certifiedLine false m stored) ≡ 17
-unfolding certifiedLine certificateLine line parted
+unfolding certifiedLine certificateLine lineText parted
 none-size m stored = refl
 
 pub certified-most : (certified : Bool) (m : ℕ) (stored : Bool) → m < 18446744073709551616 → length (certifiedLine certified m stored) ≤ 40
@@ -172,7 +171,7 @@ certified-most true m false h = omega (arith, ap length (kept-runs m), length-ap
 certified-most false m stored h = omega (arith, none-size m stored)
 
 conflict-size : length conflictLine ≡ 9
-unfolding conflictLine line parted
+unfolding conflictLine lineText parted
 conflict-size = refl
 
 -- ---- the lines one after the other
@@ -203,7 +202,7 @@ module _ {out₀ out₁ out₂ : List ℕ} {a b : ℕ} (e : Evidence) (C G : Lis
 -- ---- what the evidence is of
 certified-same : (certified : Bool) (m : ℕ) (stored : Bool) (f : ℕ → Bool) → (certified ≡ true → stored ≡ f m) → certificateLine (when certified m) (λ _. stored) ≡ certificateLine (when certified m) f
 unfolding certificateLine
-certified-same true m stored f e = ap (λ b. line (certificateWord ∷ decText m ∷ (if b then storedWord else keptWord) ∷ [])) (e refl)
+certified-same true m stored f e = ap (λ b. lineText (certificateWord ∷ decText m ∷ (if b then storedWord else keptWord) ∷ [])) (e refl)
 certified-same false m stored f e = refl
 
 module _ (R : Ring) (sender : ℕ) (X : List Stmt) (C G : List ℕ) (e : Evidence) (of : EvidenceOf R sender X C G e) where
@@ -226,8 +225,8 @@ module _ (R : Ring) (sender : ℕ) (X : List Stmt) (C G : List ℕ) (e : Evidenc
   rest-shown false p = ap (λ b. if b then conflictLine else agreedLines e C G) p ∙ agreed-shown p ∙ sym (ap (λ b. if b then conflictLine else agreedText R sender X) (sym (of .conflict) ∙ p))
 
   -- THE LINES OF THE EVIDENCE ARE THE TEXT
-  pub lines-shown : linesOf e C G ≡ shownText R sender X
-  unfolding linesOf shownText
+  pub lines-shown : linesOf e C G ≡ screenText R sender X
+  unfolding linesOf screenText
   lines-shown = ap₂ _++_ (ap wishedLine (of .wished)) (rest-shown (e .conflict) refl)
 
   pub few-views : Few e
@@ -236,11 +235,11 @@ module _ (R : Ring) (sender : ℕ) (X : List Stmt) (C G : List ℕ) (e : Evidenc
     greatest = λ p. omega (arith, words-count G (e .length), ap length (of .greatest p), sealed-short (greatest-holds R sender X (subst (λ b. T (not b)) (sym p ∙ of .conflict) tt) .0));
   }
 
-  pub shows : (out after : List ℕ) (n : ℕ) → 512 ≤ length out → Wrote out 0 (linesOf e C G) n after × (n ≤ 512) → Shows R sender X out n after
+  pub shows : (out after : List ℕ) (n : ℕ) → 512 ≤ length out → Wrote out 0 (linesOf e C G) n after × (n ≤ 512) → ScreenShows R sender X out n after
   shows out after n room w =
-      let v : Wrote out 0 (shownText R sender X) n after = subst (λ t. Wrote out 0 t n after) lines-shown (w .0) in
-      let size : n ≡ length (shownText R sender X) = v .next ∙ omega arith in
+      let v : Wrote out 0 (screenText R sender X) n after = subst (λ t. Wrote out 0 t n after) lines-shown (w .0) in
+      let size : n ≡ length (screenText R sender X) = v .next ∙ omega arith in
       record { count = λ h. size; fits = λ h. omega (arith, w .1); is = λ h. v .is; short = λ h. absurd (omega arith) }
 
-pub shows-nothing : (R : Ring) (sender : ℕ) (X : List Stmt) (out : List ℕ) → length out < 512 → Shows R sender X out 0 out
+pub shows-nothing : (R : Ring) (sender : ℕ) (X : List Stmt) (out : List ℕ) → length out < 512 → ScreenShows R sender X out 0 out
 shows-nothing R sender X out h = record { count = λ l. absurd (omega arith); fits = λ l. absurd (omega arith); is = λ l. absurd (omega arith); short = λ l. (refl, refl) }

@@ -7,9 +7,8 @@ use mathlib.Core.List.{List, _++_}
 use lib.ListN.{length}
 use lib.Seq.{sets}
 use Rattle.protocol.specs.Lists.{if_then_else_, when}
-use Rattle.views.specs.View.{viewOf}
+use Rattle.views.specs.View.{viewOf, viewsOf}
 use Rattle.evidence.specs.declared.Evidence.{Evidence}
-use Rattle.ranking.specs.Slots.{viewsOf}
 use Rattle.screen.specs.Screen.{wishedLine, conflictLine, candidatesLine, viewsLine, certificateLine, greatestWord}
 
 -- t was written over `out` from `at`, and n is the position after it.

@@ -6,11 +6,10 @@ ghost use Prim.Native.Nat.{_+_, _*_, _≤_, _<_};
 ghost use lib.ListN.{length, getD};
 ghost use Rattle.text.specs.Text.{decText};
 ghost use Rattle.statements.specs.Parts.{tailText};
-ghost use Rattle.views.specs.View.{viewOf};
+ghost use Rattle.views.specs.View.{viewOf, viewsOf};
 ghost use Rattle.pool.specs.Pool.{recordIn};
-ghost use Rattle.ranking.specs.Slots.{viewsOf};
-ghost use Rattle.evidence.specs.Evidence.{ringOf};
-ghost use Rattle.screen.specs.Screen.{wishedLine, candidatesLine, viewsLine, greatestWord, Shows};
+ghost use Rattle.evidence.specs.Evidence.{ringIs};
+ghost use Rattle.screen.specs.Screen.{wishedLine, candidatesLine, viewsLine, greatestWord, ScreenShows};
 ghost use Rattle.screen.specs.ScreenParts.{Wrote, certifiedLine, linesOf, Few};
 use evidence::Evidence;
 use evidence::Ring;
@@ -136,7 +135,7 @@ fn put_evidence(
 
 // Writes what a record shows from the start of `out`, in lines, and answers the text's length; 0, and `out` as it was, where `out` has fewer than 512 bytes.
 pub fn shown(words: &[u64; POOL_WORDS], ids: &[u16; RECORD], ring: Ring, out: &mut [u8]) -> usize
-    ensures { λ r. ⌜ Shows (ringOf ring) (ring .sender) (recordIn (now (words .entry)) (now (ids .entry))) (now (out .entry)) r (now (out .exit)) ⌝ }
+    ensures { λ r. ⌜ ScreenShows (ringIs ring) (ring .sender) (recordIn (now (words .entry)) (now (ids .entry))) (now (out .entry)) r (now (out .exit)) ⌝ }
 {
     if out.len() < SHOWN_BYTES {
         return 0;

@@ -17,7 +17,7 @@ use Rattle.protocol.specs.Evidence.{isCandidate}
 use Rattle.protocol.specs.Grounds.{isTop}
 use Rattle.protocol.proofs.Decided.{says-in}
 use Rattle.views.specs.Table.{table}
-use Rattle.views.specs.View.{viewOf, ring}
+use Rattle.views.specs.View.{viewOf, ringOfWord}
 use Rattle.views.proofs.Tables.{any-zero, any-suc, any-at, all-zero, all-more, all-miss}
 use Rattle.views.proofs.Views.{same-yes}
 use Rattle.pool.specs.Pool.{viewAt, countOf, stmtAt}
@@ -46,10 +46,10 @@ none-has {p} (suc n) h = any-suc p (λ i. i) n ∙ ap₂ _||_ (none-has n (λ i 
 
 module _ (X : List Stmt) (init : ℕ) where
   abbrev pub cand : View → Bool
-  cand v = isCandidate (ring init) X v
+  cand v = isCandidate (ringOfWord init) X v
 
   abbrev pub tops : View → Bool
-  tops t = isTop (ring init) X t
+  tops t = isTop (ringOfWord init) X t
 
 module _ (W : List ℕ) (X : List Stmt) (init : ℕ) (K R : List ℕ) where
   -- the search for a choice that gives v has come down to x, and the search for an agreement to a history with the top t that seals it to y

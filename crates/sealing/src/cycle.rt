@@ -5,7 +5,7 @@
 // Each verdict, yes or no, is remembered, so that none is found out twice: on the view of a choice at its newest choice, on agreement a at 512 + a.
 ghost use mathlib.Core.Path.{_≡_};
 ghost use Rattle.protocol.specs.Evidence.{isCandidate};
-ghost use Rattle.views.specs.View.{viewOf, ring};
+ghost use Rattle.views.specs.View.{viewOf, ringOfWord};
 ghost use Rattle.pool.specs.Pool.{recordIn};
 ghost use Rattle.votes.specs.Tables.{sealsAt};
 ghost use Rattle.sealing.specs.Memos.{Tabled, Among, Memos, Later};
@@ -31,7 +31,7 @@ pub fn candidate(
     v: u64,
 ) -> bool
     requires { ⌜ Tabled (now words) (recordIn (now words) (now ids)) init (now keys) (now rows) × Memos (now words) (recordIn (now words) (now ids)) init (now keys) (now rows) (now memo) ⌝ }
-    ensures { λ r. ⌜ (r ≡ isCandidate (ring init) (recordIn (now (words .entry)) (now (ids .entry))) (viewOf v)) × Later (now (words .entry)) (recordIn (now (words .entry)) (now (ids .entry))) init (now (keys .entry)) (now (rows .entry)) (now (memo .entry)) (now (memo .exit)) ⌝ }
+    ensures { λ r. ⌜ (r ≡ isCandidate (ringOfWord init) (recordIn (now (words .entry)) (now (ids .entry))) (viewOf v)) × Later (now (words .entry)) (recordIn (now (words .entry)) (now (ids .entry))) init (now (keys .entry)) (now (rows .entry)) (now (memo .entry)) (now (memo .exit)) ⌝ }
 {
     if v == init {
         return true;

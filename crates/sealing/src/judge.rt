@@ -4,7 +4,7 @@ ghost use Prim.Native.Nat.{ℕ, _+_};
 ghost use lib.Dec.{eqb};
 ghost use lib.ListN.{length};
 ghost use Rattle.protocol.specs.Grounds.{isTop};
-ghost use Rattle.views.specs.View.{viewOf, ring};
+ghost use Rattle.views.specs.View.{viewOf, ringOfWord};
 ghost use Rattle.pool.specs.Pool.{recordIn};
 ghost use Rattle.votes.specs.Tables.{Tables, Verdicts};
 ghost use Rattle.sealing.specs.Memos.{Judged, Memos, Later, Known, Blank};
@@ -109,7 +109,7 @@ pub fn is_sealed_top(
     t: u64,
 ) -> bool
     requires { ⌜ Judged (now words) (recordIn (now words) (now ids)) init (now keys) (now rows) (now memo) ⌝ }
-    ensures { λ r. ⌜ r ≡ isTop (ring init) (recordIn (now (words .entry)) (now (ids .entry))) (viewOf t) ⌝ }
+    ensures { λ r. ⌜ r ≡ isTop (ringOfWord init) (recordIn (now (words .entry)) (now (ids .entry))) (viewOf t) ⌝ }
 {
     if t == init {
         return true;

@@ -17,7 +17,7 @@ use Rattle.views.proofs.Held.{views-of}
 use Rattle.statements.specs.declared.Binding.{Binding}
 use Rattle.statements.specs.declared.Binding.the-variants.{Unbound, Bound, Barred}
 use Rattle.statements.specs.declared.Statement.{Statement}
-use Rattle.statements.specs.Meaning.{firstViews, bindingNumber, payloadOf, bindingIs, stmtOf}
+use Rattle.statements.specs.Meaning.{firstViews, payloadOf, bindingIs, stmtOf}
 use Rattle.statements.specs.Made.{Made, plain}
 use Rattle.statements.proofs.Views.{first-then}
 
@@ -45,11 +45,6 @@ bound-payload Unbound = refl
 bound-payload (Bound m) = refl
 bound-payload Barred = refl
 
-bound-number : (b : Binding) → bindingNumber b ≡ says.bindingNumber (bindingIs b)
-bound-number Unbound = refl
-bound-number (Bound m) = refl
-bound-number Barred = refl
-
 stored-number : (b : Bool) (m : ℕ) → cond b 1 0 ≡ storedNumber (when b m)
 stored-number true m = refl
 stored-number false m = refl
@@ -58,6 +53,6 @@ pub report-made : (r : Statement) (m : ℕ) → r .kind ≡ 5 → r .payload ≡
     → Made (says.report (r .origin) (viewIs (r .at)) (viewIs (r .view)) (bindingIs (r .binding)) (when (r .stored) m) (viewsIs (r .history))) r
 unfolding stmtOf
 report-made r m k p e l = record {
-  means = rw (k, p, e, bound-number (r .binding), bound-payload (r .binding), stored-number (r .stored) m, first-held (r .history) l);
+  means = rw (k, p, e, bound-payload (r .binding), stored-number (r .stored) m, first-held (r .history) l);
   short = l;
 }

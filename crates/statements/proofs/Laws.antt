@@ -16,18 +16,18 @@ use lib.Seq.{sets, sets-eq, take-append-seam}
 use borrow.Author.Tests.{leb-true}
 use Rattle.text.specs.Text.{decText}
 use Rattle.text.proofs.Decimal.{some-long}
-use Rattle.protocol.specs.Statement.{Stmt}
+use Rattle.protocol.specs.Statement.{Stmt, bindingNumber}
 use Rattle.views.specs.declared.View as held
 use Rattle.statements.specs.declared.Binding.{Binding}
 use Rattle.statements.specs.declared.Binding.the-variants.{Unbound, Bound, Barred}
 use Rattle.statements.specs.declared.Statement.{Statement}
 use Rattle.statements.specs.declared.ReadStatement.{ReadStatement}
 use Rattle.statements.specs.Text.{text}
-use Rattle.statements.specs.Meaning.{firstViews, bindingNumber, payloadOf, stmtOf, EachFits, Fits}
-use Rattle.statements.specs.Promise.{ReadOf, hasRoom, writtenCount, written}
+use Rattle.statements.specs.Meaning.{firstViews, bindingIs, payloadOf, stmtOf, EachFits, Fits}
+use Rattle.statements.specs.Promise.{ReadOf, textFits, writtenCount, written}
 use Rattle.statements.proofs.Fields.{held-fits}
 use Rattle.statements.proofs.Views.{first-long}
-use Rattle.statements.proofs.Whole.{fromOrigin, text-is}
+use Rattle.statements.proofs.Statements.{fromOrigin, text-is}
 
 -- ---- reading
 pub refused : {S : List ℕ} {r : ReadStatement} → ReadOf S r → r .ok ≡ false → (t : Stmt) → Fits t → S ≡ text t → ⊥
@@ -40,7 +40,7 @@ each-fits zero l = tt
 each-fits (suc n) [] = (record { joined = omega arith; left = omega arith }, each-fits n [])
 each-fits (suc n) (v ∷ l) = (held-fits v, each-fits n l)
 
-binding-most : (b : Binding) → bindingNumber b ≤ 2
+binding-most : (b : Binding) → bindingNumber (bindingIs b) ≤ 2
 binding-most Unbound = omega arith
 binding-most (Bound m) = omega arith
 binding-most Barred = omega arith
@@ -78,7 +78,7 @@ fits-of s k o b p e n = record {
 pub text-some : (t : Stmt) → 0 < length (text t)
 text-some t = omega (arith, ap length (text-is t) ∙ length-append (decText (t .kind)) (fromOrigin t), some-long (t .kind))
 
-module _ (s : Statement) (out : List ℕ) (room : hasRoom s out ≡ true) where
+module _ (s : Statement) (out : List ℕ) (room : textFits s out ≡ true) where
   pub count-is : writtenCount s out ≡ length (text (stmtOf s))
   unfolding writtenCount
   count-is = rw room
@@ -87,7 +87,7 @@ module _ (s : Statement) (out : List ℕ) (room : hasRoom s out ≡ true) where
   count-some = omega (arith, count-is, text-some (stmtOf s))
 
   enough : length (text (stmtOf s)) ≤ length out
-  unfolding hasRoom
+  unfolding textFits
   enough = leb-true (length (text (stmtOf s))) (length out) (right (leb (s .history .len) 16) (leb (length (text (stmtOf s))) (length out)) room)
     where
       right : (a b : Bool) → (a && b) ≡ true → b ≡ true

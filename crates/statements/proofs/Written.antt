@@ -14,18 +14,18 @@ use Rattle.text.specs.Text.{decText}
 use Rattle.text.proofs.Decimal.{one-long}
 use Rattle.text.proofs.Stores.{sets-append}
 use Rattle.protocol.specs.View.{View}
-use Rattle.protocol.specs.Statement.{Stmt}
+use Rattle.protocol.specs.Statement.{Stmt, bindingNumber}
 use Rattle.statements.specs.declared.Binding.{Binding}
 use Rattle.statements.specs.declared.Binding.the-variants.{Unbound, Bound, Barred}
 use Rattle.statements.specs.declared.Statement.{Statement}
 use Rattle.statements.specs.Text.{viewText, text}
 use Rattle.views.specs.Held.{viewIs}
-use Rattle.statements.specs.Meaning.{firstViews, bindingNumber, payloadOf, stmtOf}
-use Rattle.statements.specs.Promise.{hasRoom, writtenCount, written}
+use Rattle.statements.specs.Meaning.{firstViews, bindingIs, payloadOf, stmtOf}
+use Rattle.statements.specs.Promise.{textFits, writtenCount, written}
 use Rattle.statements.specs.Parts.{tailText, firstText, secondText}
 use Rattle.statements.proofs.Fields.{view-long}
 use Rattle.statements.proofs.Views.{first-long, tail-long}
-use Rattle.statements.proofs.Whole.{text-is}
+use Rattle.statements.proofs.Statements.{text-is}
 
 -- four runs are one
 pub four-runs : (out : List ℕ) (i j k l : ℕ) (a b c d : List ℕ) → j ≡ i + length a → k ≡ j + length b → l ≡ k + length c → sets (sets (sets (sets out i a) j b) k c) l d ≡ sets out i (a ++ (b ++ (c ++ d)))
@@ -56,7 +56,7 @@ pub text-runs : (t : Stmt) → text t ≡ firstText (t .kind) (t .origin) (t .at
 unfolding firstText secondText
 text-runs t = text-is t ∙ simp append-assoc
 
-one-digit : (b : Binding) → length (decText (bindingNumber b)) ≡ 1
+one-digit : (b : Binding) → length (decText (bindingNumber (bindingIs b))) ≡ 1
 one-digit Unbound = one-long 0 (omega arith)
 one-digit (Bound m) = one-long 1 (omega arith)
 one-digit Barred = one-long 2 (omega arith)
@@ -72,7 +72,7 @@ module _ (s : Statement) where
   text-size =
       let l = firstViews (s .history .len) (s .history .views) in
       let a = firstText (s .kind) (s .origin) (viewIs (s .at)) (viewIs (s .view)) in
-      let b = secondText (bindingNumber (s .binding)) (payloadOf (s .binding) (s .payload)) (cond (s .stored) 1 0) (s .kept) in
+      let b = secondText (bindingNumber (bindingIs (s .binding))) (payloadOf (s .binding) (s .payload)) (cond (s .stored) 1 0) (s .kept) in
       let n : length l ≡ s .history .len = first-long (s .history .len) (s .history .views) in
       ap length (text-runs (stmtOf s))
       ∙ omega (
@@ -84,25 +84,25 @@ module _ (s : Statement) where
         n,
         ap (λ (k : ℕ). length (decText k)) n,
         first-size (s .kind) (s .origin) (viewIs (s .at)) (viewIs (s .view)),
-        second-size (bindingNumber (s .binding)) (payloadOf (s .binding) (s .payload)) (cond (s .stored) 1 0) (s .kept),
+        second-size (bindingNumber (bindingIs (s .binding))) (payloadOf (s .binding) (s .payload)) (cond (s .stored) 1 0) (s .kept),
         one-digit (s .binding),
         one-bit (s .stored),
       )
 
   module _ (out : List ℕ) where
     pub too-many : 16 < s .history .len → (0 ≡ writtenCount s out) × (out ≡ written s out)
-    unfolding writtenCount written hasRoom
+    unfolding writtenCount written textFits
     too-many h = rw (lt-leb _ _ h) (refl, refl)
 
     pub too-short : s .history .len ≤ 16 → length out < length (text (stmtOf s)) → (0 ≡ writtenCount s out) × (out ≡ written s out)
-    unfolding writtenCount written hasRoom
+    unfolding writtenCount written textFits
     too-short few h = rw (le-leb _ _ few) (rw (lt-leb _ _ h) (refl, refl))
 
     pub wrote : (n : ℕ) (out′ : List ℕ) → s .history .len ≤ 16 → length (text (stmtOf s)) ≤ length out → n ≡ length (text (stmtOf s)) → out′ ≡ sets out 0 (text (stmtOf s)) → (n ≡ writtenCount s out) × (out′ ≡ written s out)
-    unfolding writtenCount written hasRoom
+    unfolding writtenCount written textFits
     wrote n out′ few h en eo = rw (le-leb _ _ few) (rw (le-leb _ _ h) (en, eo))
 
-    module _ (b p z : ℕ) (eb : b ≡ bindingNumber (s .binding)) (ep : p ≡ payloadOf (s .binding) (s .payload)) (ez : z ≡ cond (s .stored) 1 0) where
+    module _ (b p z : ℕ) (eb : b ≡ bindingNumber (bindingIs (s .binding))) (ep : p ≡ payloadOf (s .binding) (s .payload)) (ez : z ≡ cond (s .stored) 1 0) where
       -- the text in its four runs
       runs : text (stmtOf s) ≡ firstText (s .kind) (s .origin) (viewIs (s .at)) (viewIs (s .view)) ++ (secondText b p z (s .kept) ++ ((44 ∷ decText (s .history .len)) ++ tailText (firstViews (s .history .len) (s .history .views))))
       unfolding stmtOf

@@ -5,10 +5,11 @@ ghost use mathlib.Core.List.{_∷_};
 ghost use Prim.Native.Nat.{_+_, _*_, _<_, _≤_};
 ghost use lib.ListN.{length};
 ghost use lib.Seq.{sets};
+ghost use Rattle.protocol.specs.Statement.{bindingNumber};
 ghost use Rattle.text.specs.Text.{decText};
 ghost use Rattle.statements.specs.Text.{viewText, text};
 ghost use Rattle.views.specs.Held.{viewIs};
-ghost use Rattle.statements.specs.Meaning.{firstViews, bindingNumber, payloadOf, stmtOf};
+ghost use Rattle.statements.specs.Meaning.{firstViews, bindingIs, payloadOf, stmtOf};
 ghost use Rattle.statements.specs.Promise.{ReadOf, writtenCount, written};
 ghost use Rattle.statements.specs.Parts.{Bounded, NumberAt, ViewAt, ViewsAt, bindingFrom, firstText, secondText, tailText};
 
@@ -284,7 +285,7 @@ fn put_second(
 }
 
 fn number_of(b: Binding) -> u64
-    ensures { λ r. ⌜ r ≡ bindingNumber b ⌝ }
+    ensures { λ r. ⌜ r ≡ bindingNumber (bindingIs b) ⌝ }
 {
     match b {
         Binding::Unbound => 0,

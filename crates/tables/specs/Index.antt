@@ -39,12 +39,12 @@ pub record Empty (R : List ℕ) (t : ℕ) : Type 0 where
   pub none : (s : ℕ) → s < 256 → newestAt R t s ≡ 0
 
 -- The slots were emptied.
-pub record Cleared (R : List ℕ) (t : ℕ) (R′ : List ℕ) : Type 0 where
+pub record SlotsCleared (R : List ℕ) (t : ℕ) (R′ : List ℕ) : Type 0 where
   pub empty : Empty R′ t
   pub others : (u : ℕ) → u < 2 → (u ≡ t → ⊥) → SameRows R R′ u
 
 -- Row i went into slot s.
-pub record Linked (R : List ℕ) (t s i : ℕ) (R′ : List ℕ) : Type 0 where
+pub record RowLinked (R : List ℕ) (t s i : ℕ) (R′ : List ℕ) : Type 0 where
   pub newest : newestAt R′ t s ≡ i + 1
   pub older : olderAt R′ t i ≡ newestAt R t s
   pub slots : (z : ℕ) → z < 256 → (z ≡ s → ⊥) → newestAt R′ t z ≡ newestAt R t z
@@ -53,7 +53,7 @@ pub record Linked (R : List ℕ) (t s i : ℕ) (R′ : List ℕ) : Type 0 where
   pub others : (u : ℕ) → u < 2 → (u ≡ t → ⊥) → SameRows R R′ u
 
 -- Row i has the number x now.
-pub record Numbered (R : List ℕ) (t i x : ℕ) (R′ : List ℕ) : Type 0 where
+pub record RowNumbered (R : List ℕ) (t i x : ℕ) (R′ : List ℕ) : Type 0 where
   pub here : numberAt R′ t i ≡ x
   pub numbers : (j : ℕ) → j < 512 → (j ≡ i → ⊥) → numberAt R′ t j ≡ numberAt R t j
   pub slots : (z : ℕ) → z < 256 → newestAt R′ t z ≡ newestAt R t z
@@ -61,7 +61,7 @@ pub record Numbered (R : List ℕ) (t i x : ℕ) (R′ : List ℕ) : Type 0 wher
   pub others : (u : ℕ) → u < 2 → (u ≡ t → ⊥) → SameRows R R′ u
 
 -- Row i has the key w now.
-pub record Keyed (K : List ℕ) (t i w : ℕ) (K′ : List ℕ) : Type 0 where
+pub record RowKeyed (K : List ℕ) (t i w : ℕ) (K′ : List ℕ) : Type 0 where
   pub here : keyAt K′ t i ≡ w
   pub keys : (j : ℕ) → j < 512 → (j ≡ i → ⊥) → keyAt K′ t j ≡ keyAt K t j
   pub others : (u : ℕ) → u < 2 → (u ≡ t → ⊥) → SameKeys K K′ u
@@ -95,7 +95,7 @@ pub record Indexed (K R : List ℕ) (t n : ℕ) : Type 0 where
   pub chained : Chained (slotAt K t) R t n
 
 -- Row i, with the key w and the number x, was put behind those below it.
-pub record Added (K R : List ℕ) (t i w x : ℕ) (K′ R′ : List ℕ) : Type 0 where
+pub record RowAdded (K R : List ℕ) (t i w x : ℕ) (K′ R′ : List ℕ) : Type 0 where
   pub key : keyAt K′ t i ≡ w
   pub number : numberAt R′ t i ≡ x
   pub keys : (j : ℕ) → j < 512 → (j ≡ i → ⊥) → keyAt K′ t j ≡ keyAt K t j

@@ -2,7 +2,7 @@
 ghost use mathlib.Core.Path.{_≡_};
 ghost use Prim.Native.Nat.{_<_};
 ghost use lib.ListN.{length};
-ghost use Rattle.tables.specs.Index.{newestAt, olderAt, numberAt, keyAt, Cleared, Linked, Numbered, Keyed};
+ghost use Rattle.tables.specs.Index.{newestAt, olderAt, numberAt, keyAt, SlotsCleared, RowLinked, RowNumbered, RowKeyed};
 
 // 256 slots, 512 links and 512 numbers of two tables. More slots would take longer to clear than they save.
 pub const ROWS: usize = 2560;
@@ -67,7 +67,7 @@ pub fn key(keys: &[u64; KEYS], t: usize, row: usize) -> u64
 // Empties the slots of a table. Its links and numbers are left as they are, since no slot leads to them.
 pub fn clear(rows: &mut [u16; ROWS], t: usize)
     requires { ⌜ t < 2 ⌝ }
-    ensures { λ _. ⌜ Cleared (now (rows .entry)) t (now (rows .exit)) ⌝ }
+    ensures { λ _. ⌜ SlotsCleared (now (rows .entry)) t (now (rows .exit)) ⌝ }
 {
     rows_room(rows);
     let from = t * 1280;
@@ -81,7 +81,7 @@ pub fn clear(rows: &mut [u16; ROWS], t: usize)
 // Puts a row into a slot, before the rows that the slot has.
 pub fn link(rows: &mut [u16; ROWS], t: usize, slot: usize, row: usize)
     requires { ⌜ (t < 2) × (slot < 256) × (row < 512) ⌝ }
-    ensures { λ _. ⌜ Linked (now (rows .entry)) t slot row (now (rows .exit)) ⌝ }
+    ensures { λ _. ⌜ RowLinked (now (rows .entry)) t slot row (now (rows .exit)) ⌝ }
 {
     rows_room(rows);
     let before = rows[t * 1280 + slot];
@@ -92,7 +92,7 @@ pub fn link(rows: &mut [u16; ROWS], t: usize, slot: usize, row: usize)
 // Gives a row its number.
 pub fn set_number(rows: &mut [u16; ROWS], t: usize, row: usize, x: u16)
     requires { ⌜ (t < 2) × (row < 512) ⌝ }
-    ensures { λ _. ⌜ Numbered (now (rows .entry)) t row x (now (rows .exit)) ⌝ }
+    ensures { λ _. ⌜ RowNumbered (now (rows .entry)) t row x (now (rows .exit)) ⌝ }
 {
     rows_room(rows);
     rows[t * 1280 + 768 + row] = x;
@@ -101,7 +101,7 @@ pub fn set_number(rows: &mut [u16; ROWS], t: usize, row: usize, x: u16)
 // Gives a row its key.
 pub fn set_key(keys: &mut [u64; KEYS], t: usize, row: usize, w: u64)
     requires { ⌜ (t < 2) × (row < 512) ⌝ }
-    ensures { λ _. ⌜ Keyed (now (keys .entry)) t row w (now (keys .exit)) ⌝ }
+    ensures { λ _. ⌜ RowKeyed (now (keys .entry)) t row w (now (keys .exit)) ⌝ }
 {
     keys_room(keys);
     keys[t * 512 + row] = w;

@@ -1,7 +1,7 @@
 // The rows of a key.
 ghost use mathlib.Core.Path.{_≡_};
 ghost use Prim.Native.Nat.{ℕ, _-_, _≤_, _<_};
-ghost use Rattle.tables.specs.Index.{keyAt, slotOf, slotAt, Indexed, Added, Latest};
+ghost use Rattle.tables.specs.Index.{keyAt, slotOf, slotAt, Indexed, RowAdded, Latest};
 use crate::rows;
 use crate::rows::KEYS;
 use crate::rows::ROWS;
@@ -18,7 +18,7 @@ fn slot(w: u64) -> usize
 // Puts a row behind those that the table has.
 pub fn add(keys: &mut [u64; KEYS], rows: &mut [u16; ROWS], t: usize, row: usize, w: u64, x: u16)
     requires { ⌜ (t < 2) × (row < 512) ⌝ }
-    ensures { λ _. ⌜ Added (now (keys .entry)) (now (rows .entry)) t row w x (now (keys .exit)) (now (rows .exit)) ⌝ }
+    ensures { λ _. ⌜ RowAdded (now (keys .entry)) (now (rows .entry)) t row w x (now (keys .exit)) (now (rows .exit)) ⌝ }
 {
     rows::set_key(keys, t, row, w);
     rows::set_number(rows, t, row, x);

@@ -16,10 +16,10 @@ use Rattle.protocol.specs.History.{top, isHistory}
 use Rattle.protocol.specs.Statement.{Stmt, isKind, agreesView, agreesHistory}
 use Rattle.protocol.specs.Evidence.{signs, wished, signedByQuorum}
 use Rattle.views.specs.Sets.{IsSet}
-use Rattle.views.specs.View.{viewOf, quorumHas, ring}
+use Rattle.views.specs.View.{viewOf, quorumHas, ringOfWord}
 use Rattle.views.proofs.Views.{signed-by-set, same-yes, same-no, view-inj}
 use Rattle.pool.specs.Pool.{recordIn}
-use Rattle.tables.specs.Index.{keyAt, numberAt, SameRows, SameKeys, Empty, Added}
+use Rattle.tables.specs.Index.{keyAt, numberAt, SameRows, SameKeys, Empty, RowAdded}
 use Rattle.tables.proofs.Chains.{indexed-first, indexed-kept}
 use Rattle.votes.specs.Votes.{alike, entry, placeOf, tagOf, signersOf, voteAt, GroupsIn}
 use Rattle.votes.specs.Tables.{IsWord}
@@ -86,21 +86,21 @@ signed-as X a t seen p s e = signed-by-set X t (alike a) seen _ s refl ∙ ap (s
 -- ---- the test of a group
 
 module _ (init : ℕ) (X : List Stmt) (s : Stmt) (seen : ℕ) (by : IsSet seen (signs (alike s) X)) where
-  pub choice-is : (wish : ℕ) (r : Bool) → viewOf wish ≡ wished (ring init) X → r ≡ choiceBy (viewOf wish) seen s → r ≡ isChoice (ring init) X s
+  pub choice-is : (wish : ℕ) (r : Bool) → viewOf wish ≡ wished (ringOfWord init) X → r ≡ choiceBy (viewOf wish) seen s → r ≡ isChoice (ringOfWord init) X s
   unfolding choiceBy isChoice
   choice-is wish r e f = f ∙ go (ℕ-discrete (s .kind) 3)
     where
-      go : Dec (s .kind ≡ 3) → choiceBy (viewOf wish) seen s ≡ isChoice (ring init) X s
+      go : Dec (s .kind ≡ 3) → choiceBy (viewOf wish) seen s ≡ isChoice (ringOfWord init) X s
       go (yes k) = ap₂ (λ w b. isKind 3 s && below 16 (s .at) (s .view) && hasMembers 16 (s .view) && within 16 (s .view) w && b) e
           (signed-as X s (s .at) seen (agreesView (s .at) (s .view)) by (λ x. alike-view s x k))
       go (no k) = rw (kind-not s (s .kind) 3 refl k)
 
-  pub agreement-is : (r : Bool) → r ≡ agreementBy (ring init) seen s → r ≡ isAgreement (ring init) X s
+  pub agreement-is : (r : Bool) → r ≡ agreementBy (ringOfWord init) seen s → r ≡ isAgreement (ringOfWord init) X s
   unfolding agreementBy isAgreement
   agreement-is r f = f ∙ go (ℕ-discrete (s .kind) 4)
     where
-      go : Dec (s .kind ≡ 4) → agreementBy (ring init) seen s ≡ isAgreement (ring init) X s
-      go (yes k) = ap (λ b. isKind 4 s && b && any (sameView (s .at)) (s .views) && not (sameView (s .at) (top (ring init) (s .views))) && isHistory (ring init) (s .views))
+      go : Dec (s .kind ≡ 4) → agreementBy (ringOfWord init) seen s ≡ isAgreement (ringOfWord init) X s
+      go (yes k) = ap (λ b. isKind 4 s && b && any (sameView (s .at)) (s .views) && not (sameView (s .at) (top (ringOfWord init) (s .views))) && isHistory (ringOfWord init) (s .views))
           (signed-as X s (s .at) seen (agreesHistory (s .at) (s .views)) by (λ x. alike-history s x k))
       go (no k) = rw (kind-not s (s .kind) 4 refl k)
 
@@ -110,14 +110,14 @@ module _ (W ids : List ℕ) (init : ℕ) (G : List ℕ) {n : ℕ} (groups : Grou
   pub tag-is : tagOf (getD G g 0) ≡ entry W ids f .kind
   tag-is = groups .tag g l ∙ ap (λ z. entry W ids z .kind) (sym at)
 
-  pub choice-of : (wish : ℕ) (r : Bool) → viewOf wish ≡ wished (ring init) (recordIn W ids) → r ≡ choiceBy (viewOf wish) (signersOf (getD G g 0)) (entry W ids f)
-      → r ≡ isChoice (ring init) (recordIn W ids) (voteAt W ids G g)
+  pub choice-of : (wish : ℕ) (r : Bool) → viewOf wish ≡ wished (ringOfWord init) (recordIn W ids) → r ≡ choiceBy (viewOf wish) (signersOf (getD G g 0)) (entry W ids f)
+      → r ≡ isChoice (ringOfWord init) (recordIn W ids) (voteAt W ids G g)
   choice-of wish r e q =
       choice-is init (recordIn W ids) (voteAt W ids G g) (signersOf (getD G g 0)) (groups .signers g l) wish r e (q ∙ ap (λ z. choiceBy (viewOf wish) (signersOf (getD G g 0)) (entry W ids z)) at)
 
-  pub agreement-of : (r : Bool) → r ≡ agreementBy (ring init) (signersOf (getD G g 0)) (entry W ids f) → r ≡ isAgreement (ring init) (recordIn W ids) (voteAt W ids G g)
+  pub agreement-of : (r : Bool) → r ≡ agreementBy (ringOfWord init) (signersOf (getD G g 0)) (entry W ids f) → r ≡ isAgreement (ringOfWord init) (recordIn W ids) (voteAt W ids G g)
   agreement-of r q =
-      agreement-is init (recordIn W ids) (voteAt W ids G g) (signersOf (getD G g 0)) (groups .signers g l) r (q ∙ ap (λ z. agreementBy (ring init) (signersOf (getD G g 0)) (entry W ids z)) at)
+      agreement-is init (recordIn W ids) (voteAt W ids G g) (signersOf (getD G g 0)) (groups .signers g l) r (q ∙ ap (λ z. agreementBy (ringOfWord init) (signersOf (getD G g 0)) (entry W ids z)) at)
 
 -- ---- one group more
 
@@ -154,31 +154,31 @@ module _ (P : ℕ → Bool) where
 -- ---- the rows
 
 -- row m of table t was added, and row c is not it
-other-key : {K R K′ R′ : List ℕ} {t m w x c : ℕ} → Added K R t m w x K′ R′ → m < 512 → c < m → keyAt K′ t c ≡ keyAt K t c
+other-key : {K R K′ R′ : List ℕ} {t m w x c : ℕ} → RowAdded K R t m w x K′ R′ → m < 512 → c < m → keyAt K′ t c ≡ keyAt K t c
 other-key put l h = put .keys _ (omega arith) (λ d. omega arith)
 
-other-number : {K R K′ R′ : List ℕ} {t m w x c : ℕ} → Added K R t m w x K′ R′ → m < 512 → c < m → numberAt R′ t c ≡ numberAt R t c
+other-number : {K R K′ R′ : List ℕ} {t m w x c : ℕ} → RowAdded K R t m w x K′ R′ → m < 512 → c < m → numberAt R′ t c ≡ numberAt R t c
 other-number put l h = put .numbers _ (omega arith) (λ d. omega arith)
 
 module _ (W ids : List ℕ) (init : ℕ) (G : List ℕ) where
   -- ---- choices
 
-  choice-keeps : {K R K′ R′ : List ℕ} {m w x : ℕ} → Added K R 0 m w x K′ R′ → m < 512 → (c g : ℕ) → c < m → ChoiceRow W ids init G K R c g → ChoiceRow W ids init G K′ R′ c g
+  choice-keeps : {K R K′ R′ : List ℕ} {m w x : ℕ} → RowAdded K R 0 m w x K′ R′ → m < 512 → (c g : ℕ) → c < m → ChoiceRow W ids init G K R c g → ChoiceRow W ids init G K′ R′ c g
   choice-keeps put l c g h r =
       let e = other-key put l h in
       record { view = rw e (r .view); word = rw e (r .word); statement = other-number put l h ∙ r .statement }
 
-  choice-new : {K R K′ R′ : List ℕ} {m w x g : ℕ} → Added K R 0 m w x K′ R′ → viewOf w ≡ voteAt W ids G g .view → IsWord w → x ≡ getD ids (placeOf (getD G g 0)) 0 → ChoiceRow W ids init G K′ R′ m g
+  choice-new : {K R K′ R′ : List ℕ} {m w x g : ℕ} → RowAdded K R 0 m w x K′ R′ → viewOf w ≡ voteAt W ids G g .view → IsWord w → x ≡ getD ids (placeOf (getD G g 0)) 0 → ChoiceRow W ids init G K′ R′ m g
   choice-new put e h q = record { view = ap viewOf (put .key) ∙ e; word = rw (put .key) h; statement = put .number ∙ q }
 
   pub choices-first : {K R : List ℕ} → Empty R 0 → Choices W ids init G 0 K R 0
   choices-first e = record { index = indexed-first e; picked = picked-first _ _ }
 
-  module _ {K R : List ℕ} {g c : ℕ} (r : Bool) (is : r ≡ isChoice (ring init) (recordIn W ids) (voteAt W ids G g)) where
+  module _ {K R : List ℕ} {g c : ℕ} (r : Bool) (is : r ≡ isChoice (ringOfWord init) (recordIn W ids) (voteAt W ids G g)) where
     pub choices-skip : r ≡ false → Choices W ids init G g K R c → Choices W ids init G (g + 1) K R c
     choices-skip f w = record { index = w .index; picked = picked-skip _ r is f (w .picked) }
 
-    pub choices-take : {K′ R′ : List ℕ} {p w x : ℕ} → r ≡ true → c < 512 → Added K R 0 c w x K′ R′ → p ≡ placeOf (getD G g 0) → viewOf w ≡ entry W ids p .view → IsWord w → x ≡ getD ids p 0
+    pub choices-take : {K′ R′ : List ℕ} {p w x : ℕ} → r ≡ true → c < 512 → RowAdded K R 0 c w x K′ R′ → p ≡ placeOf (getD G g 0) → viewOf w ≡ entry W ids p .view → IsWord w → x ≡ getD ids p 0
         → Choices W ids init G g K R c → Choices W ids init G (g + 1) K′ R′ (c + 1)
     choices-take f l put at e h q w = record {
       index = put .indexed (w .index);
@@ -203,26 +203,26 @@ module _ (W ids : List ℕ) (init : ℕ) (G : List ℕ) where
 
   -- ---- agreements
 
-  agreement-keeps : {K R K′ R′ : List ℕ} {m w x : ℕ} → Added K R 1 m w x K′ R′ → m < 512 → (a g : ℕ) → a < m → AgreementRow W ids init G K R a g → AgreementRow W ids init G K′ R′ a g
+  agreement-keeps : {K R K′ R′ : List ℕ} {m w x : ℕ} → RowAdded K R 1 m w x K′ R′ → m < 512 → (a g : ℕ) → a < m → AgreementRow W ids init G K R a g → AgreementRow W ids init G K′ R′ a g
   agreement-keeps put l a g h r =
       let e = other-key put l h in
       record { top = rw e (r .top); word = rw e (r .word); statement = other-number put l h ∙ r .statement }
 
-  agreement-new : {K R K′ R′ : List ℕ} {m w x g : ℕ} → Added K R 1 m w x K′ R′ → viewOf w ≡ top (ring init) (voteAt W ids G g .views) → IsWord w → x ≡ getD ids (placeOf (getD G g 0)) 0 → AgreementRow W ids init G K′ R′ m g
+  agreement-new : {K R K′ R′ : List ℕ} {m w x g : ℕ} → RowAdded K R 1 m w x K′ R′ → viewOf w ≡ top (ringOfWord init) (voteAt W ids G g .views) → IsWord w → x ≡ getD ids (placeOf (getD G g 0)) 0 → AgreementRow W ids init G K′ R′ m g
   agreement-new put e h q = record { top = ap viewOf (put .key) ∙ e; word = rw (put .key) h; statement = put .number ∙ q }
 
   pub agreements-first : {K R : List ℕ} → Empty R 1 → Agreements W ids init G 0 K R 0
   agreements-first e = record { index = indexed-first e; picked = picked-first _ _ }
 
-  module _ {K R : List ℕ} {g a : ℕ} (r : Bool) (is : r ≡ isAgreement (ring init) (recordIn W ids) (voteAt W ids G g)) where
+  module _ {K R : List ℕ} {g a : ℕ} (r : Bool) (is : r ≡ isAgreement (ringOfWord init) (recordIn W ids) (voteAt W ids G g)) where
     pub agreements-skip : r ≡ false → Agreements W ids init G g K R a → Agreements W ids init G (g + 1) K R a
     agreements-skip f w = record { index = w .index; picked = picked-skip _ r is f (w .picked) }
 
-    pub agreements-take : {K′ R′ : List ℕ} {p w x : ℕ} → r ≡ true → a < 512 → Added K R 1 a w x K′ R′ → p ≡ placeOf (getD G g 0) → viewOf w ≡ top (ring init) (entry W ids p .views) → IsWord w → x ≡ getD ids p 0
+    pub agreements-take : {K′ R′ : List ℕ} {p w x : ℕ} → r ≡ true → a < 512 → RowAdded K R 1 a w x K′ R′ → p ≡ placeOf (getD G g 0) → viewOf w ≡ top (ringOfWord init) (entry W ids p .views) → IsWord w → x ≡ getD ids p 0
         → Agreements W ids init G g K R a → Agreements W ids init G (g + 1) K′ R′ (a + 1)
     agreements-take f l put at e h q w = record {
       index = put .indexed (w .index);
-      picked = picked-take _ r is f (agreement-keeps put l) (agreement-new put (e ∙ ap (λ z. top (ring init) (entry W ids z .views)) at) h (q ∙ ap (λ z. getD ids z 0) at)) (w .picked);
+      picked = picked-take _ r is f (agreement-keeps put l) (agreement-new put (e ∙ ap (λ z. top (ringOfWord init) (entry W ids z .views)) at) h (q ∙ ap (λ z. getD ids z 0) at)) (w .picked);
     }
 
   -- all groups

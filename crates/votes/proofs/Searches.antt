@@ -14,13 +14,13 @@ use Rattle.tables.specs.Index.{newestAt, olderAt, keyAt, Newest, Chained}
 use Rattle.tables.proofs.Searches.{Walked}
 use Rattle.votes.specs.declared.keys.Vote.{Vote}
 use Rattle.votes.specs.Votes.{alike, entry, placeOf, tagOf, voteAt}
-use Rattle.votes.specs.Keys.{sameNames, slotBy, slotAt, Key, Worded, hasWords, Leads, LatestWith, Place}
+use Rattle.votes.specs.Keys.{sameNames, slotBy, groupSlot, Key, Worded, hasWords, Leads, LatestGroup, Place}
 use Rattle.votes.proofs.Alike.{narrow, Words, other-what, other-at, other-tag, other-names, other-slot, same-words}
 
 -- the groups from x on are not like the vote v, and x is of its slot
 pub record Searched (W ids K G : List ℕ) (n : ℕ) (v : Vote) (x : ℕ) : Type 0 where
   pub most : x ≤ n
-  pub here : 0 < x → slotAt K G (x - 1) ≡ slotBy (v .at) (v .what) (v .tag)
+  pub here : 0 < x → groupSlot K G (x - 1) ≡ slotBy (v .at) (v .what) (v .tag)
   pub none : (h : ℕ) → x ≤ h → h < n → alike (voteAt W ids G h) (stmtAt W (v .number)) ≡ false
 
 -- ---- the words of a group and of a vote
@@ -64,16 +64,16 @@ module _ (K G : List ℕ) (v : Vote) (g : ℕ) where
 abbrev pub With : List ℕ → List ℕ → Vote → ℕ → Type 0
 With K G v g = hasWords K G v g ≡ true
 
-pub with-slot : (K G : List ℕ) (v : Vote) (g : ℕ) → With K G v g → slotAt K G g ≡ slotBy (v .at) (v .what) (v .tag)
-unfolding slotAt
+pub with-slot : (K G : List ℕ) (v : Vote) (g : ℕ) → With K G v g → groupSlot K G g ≡ slotBy (v .at) (v .what) (v .tag)
+unfolding groupSlot
 with-slot K G v g h = let s = words-are K G v g h in rw (s .at, s .what, s .tag)
 
 -- the walk's end
 
-pub with-found : {K G : List ℕ} {v : Vote} {s from x : ℕ} → Walked (slotAt K G) s (With K G v) from x → hasWords K G v (x - 1) ≡ true → LatestWith K G v from x
+pub with-found : {K G : List ℕ} {v : Vote} {s from x : ℕ} → Walked (groupSlot K G) s (With K G v) from x → hasWords K G v (x - 1) ≡ true → LatestGroup K G v from x
 with-found f e = record { most = f .most; here = λ p. e; none = f .none }
 
-pub with-none : {K G : List ℕ} {v : Vote} {s from x : ℕ} → Walked (slotAt K G) s (With K G v) from x → x ≤ 0 → LatestWith K G v from 0
+pub with-none : {K G : List ℕ} {v : Vote} {s from x : ℕ} → Walked (groupSlot K G) s (With K G v) from x → x ≤ 0 → LatestGroup K G v from 0
 with-none f l = record { most = omega arith; here = λ p. absurd (omega arith); none = λ i a b. f .none i (omega arith) b }
 
 module _ {W ids K G : List ℕ} {n : ℕ} {v : Vote} (worded : Worded W ids K G n) (key : Key W v) where
@@ -106,12 +106,12 @@ module _ {W ids K G : List ℕ} {n : ℕ} {v : Vote} (worded : Worded W ids K G 
       s : SameWords K G v g
       s = words-are K G v g h
 
-  apart : (g : ℕ) → g < n → (slotAt K G g ≡ slotBy (v .at) (v .what) (v .tag) → ⊥) → alike (voteAt W ids G g) (stmtAt W (v .number)) ≡ false
-  unfolding slotAt
+  apart : (g : ℕ) → g < n → (groupSlot K G g ≡ slotBy (v .at) (v .what) (v .tag) → ⊥) → alike (voteAt W ids G g) (stmtAt W (v .number)) ≡ false
+  unfolding groupSlot
   apart g l d = other-slot (voteAt W ids G g) (stmtAt W (v .number)) (words g l) d
 
   -- no group that a walk passed is like v
-  pub searched-walk : {from r : ℕ} → Searched W ids K G n v from → LatestWith K G v from r → Searched W ids K G n v r
+  pub searched-walk : {from r : ℕ} → Searched W ids K G n v from → LatestGroup K G v from r → Searched W ids K G n v r
   searched-walk {from} {r} f w = record {
     most = omega (arith, f .most, w .most);
     here = λ p. with-slot K G v (r - 1) (w .here p);
@@ -122,15 +122,15 @@ module _ {W ids K G : List ℕ} {n : ℕ} {v : Vote} (worded : Worded W ids K G 
       go h a b (yes m) = other-words h b (w .none h a m)
       go h a b (no m) = f .none h (omega arith) b
 
-  module _ {R : List ℕ} (ch : Chained (slotAt K G) R 0 n) where
+  module _ {R : List ℕ} (ch : Chained (groupSlot K G) R 0 n) where
     pub searched-first : {z x : ℕ} → z ≡ slotBy (v .at) (v .what) (v .tag) → z < 256 → x ≡ newestAt R 0 z → Searched W ids K G n v x
     searched-first {z} {x} e l q = record {
       most = omega (arith, w .most);
-      here = λ p. ap (λ y. slotAt K G (y - 1)) q ∙ w .here (omega arith) ∙ e;
+      here = λ p. ap (λ y. groupSlot K G (y - 1)) q ∙ w .here (omega arith) ∙ e;
       none = λ h p r. apart h r (λ f. omega (arith, w .all h r (f ∙ sym e)));
     }
       where
-        w : Newest (slotAt K G) n z (newestAt R 0 z)
+        w : Newest (groupSlot K G) n z (newestAt R 0 z)
         w = ch .slots z l
 
     pub leads : {x : ℕ} → n ≤ 512 → Searched W ids K G n v x → Leads K R G v x
@@ -142,11 +142,11 @@ module _ {W ids K G : List ℕ} {n : ℕ} {v : Vote} (worded : Worded W ids K G 
     pub searched-next : {x y : ℕ} → Searched W ids K G n v x → 0 < x → y ≡ olderAt R 0 (x - 1) → alike (voteAt W ids G (x - 1)) (stmtAt W (v .number)) ≡ false → Searched W ids K G n v y
     searched-next {x} {y} f p q e = record {
       most = omega (arith, w .most, f .most);
-      here = λ r. ap (λ z. slotAt K G (z - 1)) q ∙ w .here (omega arith) ∙ f .here p;
+      here = λ r. ap (λ z. groupSlot K G (z - 1)) q ∙ w .here (omega arith) ∙ f .here p;
       none = λ h a b. go h a b (ℕ-discrete h (x - 1)) (decLt h (x - 1));
     }
       where
-        w : Newest (slotAt K G) (x - 1) (slotAt K G (x - 1)) (olderAt R 0 (x - 1))
+        w : Newest (groupSlot K G) (x - 1) (groupSlot K G (x - 1)) (olderAt R 0 (x - 1))
         w = ch .links (x - 1) (omega (arith, f .most))
 
         go : (h : ℕ) → y ≤ h → h < n → Dec (h ≡ x - 1) → Dec (h < x - 1) → alike (voteAt W ids G h) (stmtAt W (v .number)) ≡ false

@@ -12,7 +12,7 @@ use Rattle.protocol.specs.View.{View, Ring, sameView, hasMembers, within, below
 use Rattle.protocol.specs.History.{top, isHistory}
 use Rattle.protocol.specs.Statement.{Stmt, isKind, agreesView, agreesHistory}
 use Rattle.protocol.specs.Evidence.{wished, signedByQuorum}
-use Rattle.views.specs.View.{viewOf, quorumHas, ring}
+use Rattle.views.specs.View.{viewOf, quorumHas, ringOfWord}
 use Rattle.pool.specs.Pool.{recordIn}
 use Rattle.tables.specs.Index.{numberAt, keyAt, Indexed}
 use Rattle.votes.specs.Votes.{placeOf, voteAt}
@@ -51,7 +51,7 @@ module _ (W ids : List ℕ) (init : ℕ) (G : List ℕ) where
 
   -- Row a is the agreement of group g.
   pub record AgreementRow (K R : List ℕ) (a g : ℕ) : Type 0 where
-    pub top : viewOf (keyAt K 1 a) ≡ top (ring init) (voteAt W ids G g .views)
+    pub top : viewOf (keyAt K 1 a) ≡ top (ringOfWord init) (voteAt W ids G g .views)
     pub word : IsWord (keyAt K 1 a)
     pub statement : numberAt R 1 a ≡ getD ids (placeOf (getD G g 0)) 0
 
@@ -59,8 +59,8 @@ module _ (W ids : List ℕ) (init : ℕ) (G : List ℕ) where
 
   pub record Choices (n : ℕ) (K R : List ℕ) (nc : ℕ) : Type 0 where
     pub index : Indexed K R 0 nc
-    pub picked : Picked (λ g. isChoice (ring init) (recordIn W ids) (voteAt W ids G g)) (ChoiceRow K R) n nc
+    pub picked : Picked (λ g. isChoice (ringOfWord init) (recordIn W ids) (voteAt W ids G g)) (ChoiceRow K R) n nc
 
   pub record Agreements (n : ℕ) (K R : List ℕ) (na : ℕ) : Type 0 where
     pub index : Indexed K R 1 na
-    pub picked : Picked (λ g. isAgreement (ring init) (recordIn W ids) (voteAt W ids G g)) (AgreementRow K R) n na
+    pub picked : Picked (λ g. isAgreement (ringOfWord init) (recordIn W ids) (voteAt W ids G g)) (AgreementRow K R) n na

@@ -1,9 +1,9 @@
 // What quorums chose and agreed to.
 ghost use mathlib.Core.Path.{_≡_};
-ghost use Rattle.views.specs.View.{viewOf, ring};
+ghost use Rattle.views.specs.View.{viewOf, ringOfWord};
 ghost use Rattle.pool.specs.Pool.{stmtAt, recordIn};
 ghost use Rattle.tables.specs.Index.{SameRows, SameKeys};
-ghost use Rattle.votes.specs.Votes.{tagOf, signersOf, Sifted};
+ghost use Rattle.votes.specs.Votes.{tagOf, signersOf, GatheredOf};
 ghost use Rattle.votes.specs.Tables.{Tables};
 ghost use Rattle.votes.specs.Chosen.{choiceBy, agreementBy, Choices, Agreements};
 use crate::Counts;
@@ -39,7 +39,7 @@ fn is_choice(words: &[u64; POOL_WORDS], s: u16, x: u64, wish: u64) -> bool
 // Whether the group x, whose first vote is statement s, is an agreement.
 fn is_agreement(words: &[u64; POOL_WORDS], s: u16, x: u64, init: u64) -> bool
     requires { ⌜ tagOf x ≡ stmtAt (now words) s .kind ⌝ }
-    ensures { λ r. ⌜ r ≡ agreementBy (ring init) (signersOf x) (stmtAt (now (words .entry)) s) ⌝ }
+    ensures { λ r. ⌜ r ≡ agreementBy (ringOfWord init) (signersOf x) (stmtAt (now (words .entry)) s) ⌝ }
 {
     if group::tag_of(x) != 4 {
         return false;
@@ -67,7 +67,7 @@ fn choices(
     keys: &mut [u64; KEYS],
     rows: &mut [u16; ROWS],
 ) -> usize
-    requires { ⌜ Sifted (now words) (now ids) init (now groups) (now rows) found ⌝ }
+    requires { ⌜ GatheredOf (now words) (now ids) init (now groups) (now rows) found ⌝ }
     ensures { λ r. ⌜ Choices (now (words .entry)) (now (ids .entry)) init (now (groups .entry)) (found .groups) (now (keys .exit)) (now (rows .exit)) r × SameRows (now (rows .entry)) (now (rows .exit)) 1 ⌝ }
 {
     tables::clear(rows, 0);
@@ -99,7 +99,7 @@ fn agreements(
     keys: &mut [u64; KEYS],
     rows: &mut [u16; ROWS],
 ) -> usize
-    requires { ⌜ Sifted (now words) (now ids) init (now groups) (now rows) found ⌝ }
+    requires { ⌜ GatheredOf (now words) (now ids) init (now groups) (now rows) found ⌝ }
     ensures { λ r. ⌜ Agreements (now (words .entry)) (now (ids .entry)) init (now (groups .entry)) (found .groups) (now (keys .exit)) (now (rows .exit)) r × SameKeys (now (keys .entry)) (now (keys .exit)) 0 × SameRows (now (rows .entry)) (now (rows .exit)) 0 ⌝ }
 {
     let n = found.groups;
@@ -130,7 +130,7 @@ pub fn tabulate(
     keys: &mut [u64; KEYS],
     rows: &mut [u16; ROWS],
 ) -> Counts
-    requires { ⌜ Sifted (now words) (now ids) init (now groups) (now rows) found ⌝ }
+    requires { ⌜ GatheredOf (now words) (now ids) init (now groups) (now rows) found ⌝ }
     ensures { λ r. ⌜ Tables (now (words .entry)) (recordIn (now (words .entry)) (now (ids .entry))) init (now (keys .exit)) (now (rows .exit)) (r .choices) (r .agreements) ⌝ }
 {
     let nc = choices(words, ids, init, found, groups, keys, rows);

@@ -5,8 +5,8 @@ ghost use lib.ListN.{length};
 ghost use Rattle.protocol.specs.Lists.{any};
 ghost use Rattle.pool.specs.Pool.{recordIn};
 ghost use Rattle.tables.specs.Index.{Empty, Chained};
-ghost use Rattle.votes.specs.Votes.{isVote, Sifted};
-ghost use Rattle.votes.specs.Keys.{Key, Worded, hasWords, slotAt, Leads, LatestWith, Place, Sofar};
+ghost use Rattle.votes.specs.Votes.{isVote, GatheredOf};
+ghost use Rattle.votes.specs.Keys.{Key, Worded, hasWords, groupSlot, Leads, LatestGroup, Place, Sofar};
 use crate::Gathered;
 use crate::group;
 use crate::keys;
@@ -43,7 +43,7 @@ fn has_words(keys: &[u64; KEYS], groups: &[u64; 512], g: usize, v: Vote) -> bool
 // by their words alone, and the search is fastest where it has little at hand.
 fn walk(keys: &[u64; KEYS], rows: &[u16; ROWS], groups: &[u64; 512], v: Vote, from: usize) -> usize
     requires { ⌜ Leads (now keys) (now rows) (now groups) v from ⌝ }
-    ensures { λ r. ⌜ LatestWith (now (keys .entry)) (now (groups .entry)) v from r ⌝ }
+    ensures { λ r. ⌜ LatestGroup (now (keys .entry)) (now (groups .entry)) v from r ⌝ }
 {
     let mut x = from;
     while x > 0 {
@@ -66,7 +66,7 @@ fn find(
     n: usize,
     v: Vote,
 ) -> usize
-    requires { ⌜ (n ≤ 512) × Worded (now words) (now ids) (now keys) (now groups) n × Key (now words) v × Chained (slotAt (now keys) (now groups)) (now rows) 0 n ⌝ }
+    requires { ⌜ (n ≤ 512) × Worded (now words) (now ids) (now keys) (now groups) n × Key (now words) v × Chained (groupSlot (now keys) (now groups)) (now rows) 0 n ⌝ }
     ensures { λ r. ⌜ Place (now (words .entry)) (now (ids .entry)) (now (groups .entry)) n (v .number) r ⌝ }
 {
     let newest = tables::newest(rows, 0, keys::slot_of(v));
@@ -127,7 +127,7 @@ pub fn gather(
     groups: &mut [u64; 512],
 ) -> Gathered
     requires { ⌜ Empty (now rows) 0 × Empty (now rows) 1 ⌝ }
-    ensures { λ r. ⌜ Sifted (now (words .entry)) (now (ids .entry)) init (now (groups .exit)) (now (rows .exit)) r ⌝ }
+    ensures { λ r. ⌜ GatheredOf (now (words .entry)) (now (ids .entry)) init (now (groups .exit)) (now (rows .exit)) r ⌝ }
 {
     room(groups);
     let end = pool::record_length(ids);

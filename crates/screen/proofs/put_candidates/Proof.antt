@@ -1,13 +1,13 @@
 use borrow.Author.Needs.{needs}
 use native.Mathlib.Omega.{arith}
-use Rattle.screen.specs.Screen.{candidatesLine, candidatesWord, line}
+use Rattle.screen.specs.Screen.{candidatesLine, candidatesWord, lineText}
 use Rattle.statements.specs.Text.{parted}
 use Rattle.screen.proofs.ScreenLaws.{views-wrote}
 use Rattle.screen.proofs.put_candidates.Statement.{statement}
 use Rattle.screen.proofs.put_candidates.Tie as tie
 
 returns : tie.Need-returns
-unfolding candidatesLine line parted
+unfolding candidatesLine lineText parted
 returns c = rw (c .before .before .before .before .before .if1 .taken) (c .before .before .put-text .ensures)
 
 returns-2 : tie.Need-returns-2

@@ -2,7 +2,7 @@ use borrow.Author.Needs.{needs}
 use native.Mathlib.Omega.{arith}
 use borrow.Author.Tests.{not-true, not-false}
 use Rattle.text.proofs.Decimal.{most-long}
-use Rattle.screen.specs.Screen.{certificateLine, line}
+use Rattle.screen.specs.Screen.{certificateLine, lineText}
 use Rattle.statements.specs.Text.{parted}
 use Rattle.screen.specs.ScreenParts.{certifiedLine}
 use Rattle.screen.proofs.ScreenLaws.{number-wrote, stored-wrote, kept-wrote}
@@ -10,7 +10,7 @@ use Rattle.screen.proofs.put_certificate.Statement.{statement}
 use Rattle.screen.proofs.put_certificate.Tie as tie
 
 returns : tie.Need-returns
-unfolding certifiedLine certificateLine line parted
+unfolding certifiedLine certificateLine lineText parted
 returns c = rw (not-true (c .before .before .before .before .before .before .before .args .certified) (c .before .before .before .before .before .if1 .taken)) (c .before .before .put-text .ensures)
 
 put-text-requires-3 : tie.Need-put-text-requires-3

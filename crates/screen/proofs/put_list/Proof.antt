@@ -5,7 +5,7 @@ use mathlib.Core.Path.{_≡_, sym, ap, _∙_}
 use lib.ListN.{length}
 use lib.Seq.{sets, length-sets}
 use Rattle.statements.specs.Parts.{tailText}
-use Rattle.ranking.specs.Slots.{viewsOf}
+use Rattle.views.specs.View.{viewsOf}
 use Rattle.screen.proofs.ScreenLaws.{word-text, words-first, words-next, words-long}
 use Rattle.screen.proofs.put_list.Statement.{statement}
 use Rattle.screen.proofs.put_list.Tie as tie

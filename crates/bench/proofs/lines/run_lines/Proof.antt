@@ -3,14 +3,14 @@ use mathlib.Core.Path.{refl, sym, _∙_}
 use mathlib.Core.Logic.{⊎-elim, inl, inr}
 use Prim.Native.Nat.{_-_}
 use lib.ListN.{length}
-use Rattle.bench.specs.Running.{benchIs, Kept, Fulls, Going}
+use Rattle.bench.specs.Running.{benchIs, BenchKept, Fulls, Going}
 use Rattle.bench.proofs.Runs.{kept-first, going-first, fulls-none, next-within, next-moves, less, room, room-body, line-fits, line-seat, call-on, idle-on, run-less, run-on, run-allowed, run-fresh, unread-on, going-long, going-end}
 use borrow.Author.Needs.{needs}
 use Rattle.bench.proofs.lines.run_lines.Statement.{statement}
 use Rattle.bench.proofs.lines.run_lines.Tie as tie
 
 abbrev Inv-loop : tie.InvT-loop
-Inv-loop schedule rows₀ seats₀ records₀ full₀ words₀ place₀ rows seats records full words place = Kept words seats records × Going schedule place (benchIs (place .setting) words seats records) rows₀ rows × Fulls records full
+Inv-loop schedule rows₀ seats₀ records₀ full₀ words₀ place₀ rows seats records full words place = BenchKept words seats records × Going schedule place (benchIs (place .setting) words seats records) rows₀ rows × Fulls records full
 
 abbrev μ-loop : tie.MeasureT-loop
 μ-loop schedule rows₀ seats₀ records₀ full₀ words₀ place₀ rows seats records full words place = length schedule - place .at

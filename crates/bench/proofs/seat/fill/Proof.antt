@@ -4,14 +4,14 @@ use mathlib.Core.Path.{_≡_}
 use mathlib.Core.Bool.{false}
 use Prim.Native.Nat.{_-_, _≤_, _<_}
 use lib.ListN.{getD}
-use Rattle.bench.specs.Seats.{Filled}
+use Rattle.bench.specs.Seats.{RecordFilled}
 use Rattle.bench.proofs.Records.{fill-first, fill-next, fill-end}
 use borrow.Author.Needs.{needs}
 use Rattle.bench.proofs.seat.fill.Statement.{statement}
 use Rattle.bench.proofs.seat.fill.Tie as tie
 
 abbrev Inv-loop : tie.InvT-loop
-Inv-loop ids₀ marks n i₀ ids i = (i ≤ n) × Filled ids₀ marks i ids × (i < n → getD marks i false ≡ false)
+Inv-loop ids₀ marks n i₀ ids i = (i ≤ n) × RecordFilled ids₀ marks i ids × (i < n → getD marks i false ≡ false)
 
 abbrev μ-loop : tie.MeasureT-loop
 μ-loop ids₀ marks n i₀ ids i = n - i

@@ -11,7 +11,7 @@ use Rattle.views.specs.Table.{table}
 use Rattle.views.proofs.Tables.{all-zero, all-more, all-miss}
 use Rattle.pool.specs.Pool.{viewAt}
 use Rattle.pool.proofs.Laws.{of-views}
-use Rattle.ranking.specs.Slots.{viewsOf}
+use Rattle.views.specs.View.{viewsOf}
 use Rattle.evidence.proofs.reports.all_in.Statement.{statement}
 use Rattle.evidence.proofs.reports.all_in.Tie as tie
 

@@ -5,10 +5,9 @@ use mathlib.Core.Path.{_≡_, sym, ap, _∙_}
 use mathlib.Core.Bool.{false}
 use Rattle.protocol.specs.Lists.{any}
 use Rattle.protocol.specs.View.{sameView}
-use Rattle.views.specs.View.{viewOf}
+use Rattle.views.specs.View.{viewOf, viewsOf}
 use Rattle.views.proofs.Tables.{any-zero, any-more, any-at}
 use Rattle.views.proofs.Views.{view-inj, same-yes, same-no}
-use Rattle.ranking.specs.Slots.{viewsOf}
 use Rattle.evidence.proofs.reports.is_in.Statement.{statement}
 use Rattle.evidence.proofs.reports.is_in.Tie as tie
 

@@ -5,9 +5,8 @@ use mathlib.Core.Path.{_≡_, sym, ap, _∙_}
 use borrow.Author.Tests.{not-true, not-false}
 use Rattle.protocol.specs.Lists.{filter}
 use Rattle.protocol.specs.Turn.{mergeAll}
-use Rattle.views.specs.View.{viewOf}
-use Rattle.pool.specs.Pool.{recordOf, recordIn}
-use Rattle.ranking.specs.Slots.{viewsOf}
+use Rattle.views.specs.View.{viewOf, viewsOf}
+use Rattle.pool.specs.Pool.{recordUpTo, recordIn}
 use Rattle.statements.specs.Meaning.{bindingIs}
 use Rattle.evidence.specs.Reports.{countsUnder}
 use Rattle.evidence.proofs.Merging as laws
@@ -16,7 +15,7 @@ use Rattle.evidence.proofs.reports.merged.Statement.{statement}
 use Rattle.evidence.proofs.reports.merged.Tie as tie
 
 abbrev Inv-loop : tie.InvT-loop
-Inv-loop words ids e candidates greatest prepared t b₀ i₀ b i = (i ≤ 512) × (mergeAll (bindingIs b₀) (filter (countsUnder e candidates prepared (viewsOf greatest (e .length)) (viewOf t)) (recordIn words ids)) ≡ mergeAll (bindingIs b) (filter (countsUnder e candidates prepared (viewsOf greatest (e .length)) (viewOf t)) (recordOf words ids i)))
+Inv-loop words ids e candidates greatest prepared t b₀ i₀ b i = (i ≤ 512) × (mergeAll (bindingIs b₀) (filter (countsUnder e candidates prepared (viewsOf greatest (e .length)) (viewOf t)) (recordIn words ids)) ≡ mergeAll (bindingIs b) (filter (countsUnder e candidates prepared (viewsOf greatest (e .length)) (viewOf t)) (recordUpTo words ids i)))
 
 abbrev μ-loop : tie.MeasureT-loop
 μ-loop words ids e candidates greatest prepared t b₀ i₀ b i = i

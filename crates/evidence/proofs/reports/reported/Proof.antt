@@ -5,10 +5,9 @@ use mathlib.Core.Path.{_≡_, _∙_}
 use mathlib.Core.Bool.{true}
 use borrow.Author.Tests.{not-true, not-false}
 use Rattle.protocol.specs.Lists.{all}
-use Rattle.views.specs.View.{viewOf}
+use Rattle.views.specs.View.{viewOf, viewsOf}
 use Rattle.views.proofs.Tables.{all-zero, all-more, all-miss}
 use Rattle.pool.specs.Pool.{recordIn}
-use Rattle.ranking.specs.Slots.{viewsOf}
 use Rattle.evidence.specs.Reports.{hasReports}
 use Rattle.evidence.proofs.Reporting as laws
 use Rattle.evidence.proofs.reports.reported.Statement.{statement}

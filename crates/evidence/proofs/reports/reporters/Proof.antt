@@ -5,7 +5,7 @@ use Rattle.protocol.specs.Evidence.{signs}
 use Rattle.views.specs.Sets.{IsSet}
 use Rattle.views.specs.View.{viewOf}
 use Rattle.views.proofs.Views.{view-is, view-not}
-use Rattle.pool.specs.Pool.{recordOf}
+use Rattle.pool.specs.Pool.{recordUpTo}
 use Rattle.pool.proofs.Records.{set-first, set-next, set-whole}
 use Rattle.votes.proofs.Gathering.{set-keeps}
 use Rattle.evidence.specs.Reports.{countsAt}
@@ -14,7 +14,7 @@ use Rattle.evidence.proofs.reports.reporters.Statement.{statement}
 use Rattle.evidence.proofs.reports.reporters.Tie as tie
 
 abbrev Inv-loop : tie.InvT-loop
-Inv-loop words e candidates prepared listed u end seen₀ i₀ seen i = (i ≤ end) × IsSet seen (signs (countsAt e candidates prepared (viewOf u)) (recordOf words listed i))
+Inv-loop words e candidates prepared listed u end seen₀ i₀ seen i = (i ≤ end) × IsSet seen (signs (countsAt e candidates prepared (viewOf u)) (recordUpTo words listed i))
 
 abbrev μ-loop : tie.MeasureT-loop
 μ-loop words e candidates prepared listed u end seen₀ i₀ seen i = end - i

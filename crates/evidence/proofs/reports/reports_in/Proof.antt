@@ -3,7 +3,7 @@ use native.Mathlib.Omega.{arith}
 use lib.Dec.{eqb}
 use Prim.Native.Nat.{_-_, _≤_}
 use Rattle.protocol.specs.Statement.{isKind}
-use Rattle.evidence.proofs.Sifted.{Sifted, more-fits, sifted-none, sifted-next, sifted-whole}
+use Rattle.evidence.proofs.Listing.{Sifted, more-fits, sifted-none, sifted-next, sifted-whole}
 use Rattle.evidence.proofs.Reporting.{kind-is}
 use Rattle.evidence.proofs.reports.reports_in.Statement.{statement}
 use Rattle.evidence.proofs.reports.reports_in.Tie as tie

@@ -7,7 +7,7 @@ use Rattle.protocol.specs.Evidence.{signs}
 use Rattle.views.specs.Sets.{IsSet}
 use Rattle.views.specs.View.{viewOf}
 use Rattle.views.proofs.Sets.{note-none}
-use Rattle.pool.specs.Pool.{recordOf}
+use Rattle.pool.specs.Pool.{recordUpTo}
 use Rattle.pool.proofs.Records.{set-first, set-next, set-whole}
 use Rattle.pekdrav.specs.Scan.{isAt}
 use Rattle.pekdrav.proofs.scan.pekdrav_signers.Statement.{statement}
@@ -20,7 +20,7 @@ use Rattle.pool.proofs.origin.Reads as origin-reads
 use Rattle.views.proofs.note.Reads as note-reads
 
 abbrev Inv-loop : tie.InvT-loop
-Inv-loop words ids kind at end seen₀ i₀ seen i = (i ≤ end) × IsSet seen (signs (isAt kind (viewOf at)) (recordOf words ids i))
+Inv-loop words ids kind at end seen₀ i₀ seen i = (i ≤ end) × IsSet seen (signs (isAt kind (viewOf at)) (recordUpTo words ids i))
 
 abbrev μ-loop : tie.MeasureT-loop
 μ-loop words ids kind at end seen₀ i₀ seen i = end - i

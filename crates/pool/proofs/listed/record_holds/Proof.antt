@@ -6,7 +6,7 @@ use Prim.Native.Nat.{_-_, _≤_}
 use Rattle.protocol.specs.Lists.{any}
 use Rattle.protocol.specs.Statement.{sameStmt}
 use Rattle.statements.specs.Meaning.{stmtOf}
-use Rattle.pool.specs.Pool.{recordOf}
+use Rattle.pool.specs.Pool.{recordUpTo}
 use Rattle.pool.proofs.Records.{none-first, none-next, found, none}
 use Rattle.pool.proofs.Searches.{others-differ}
 use Rattle.pool.proofs.listed.record_holds.Statement.{statement}
@@ -20,7 +20,7 @@ use Rattle.views.proofs.View.word.Reads as word-reads
 use Rattle.pool.proofs.seek.same_at.Reads as same-at-reads
 
 abbrev Inv-loop : tie.InvT-loop
-Inv-loop words ids st end key t i₀ i = (i ≤ end) × (any (sameStmt (stmtOf st)) (recordOf words ids i) ≡ false)
+Inv-loop words ids st end key t i₀ i = (i ≤ end) × (any (sameStmt (stmtOf st)) (recordUpTo words ids i) ≡ false)
 
 abbrev μ-loop : tie.MeasureT-loop
 μ-loop words ids st end key t i₀ i = end - i

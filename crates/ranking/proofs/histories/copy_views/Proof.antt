@@ -6,7 +6,7 @@ use lib.ListN.{length, length-set}
 use Rattle.views.specs.Table.{table}
 use Rattle.pool.specs.Pool.{viewAt}
 use Rattle.pool.proofs.Laws.{views-of}
-use Rattle.ranking.specs.Slots.{viewsOf}
+use Rattle.views.specs.View.{viewsOf}
 use Rattle.ranking.proofs.Summits.{copy-first, copy-more}
 use Rattle.ranking.proofs.histories.copy_views.Statement.{statement}
 use Rattle.ranking.proofs.histories.copy_views.Tie as tie

@@ -6,7 +6,7 @@ use Prim.Native.Nat.{_-_, _≤_}
 use Rattle.protocol.specs.Lists.{any}
 use Rattle.views.specs.Held.{viewIs}
 use Rattle.pool.specs.Pool.{recordIn}
-use Rattle.rules.specs.Actions.{viewsIn}
+use Rattle.views.specs.View.{viewsIn}
 use Rattle.rules.specs.Rules.{reportDue}
 use Rattle.rules.proofs.Scans.{slots-any-none, slots-any-more, slots-found, slots-nothing}
 use Rattle.rules.proofs.Applied.{does, first-none, first-on}

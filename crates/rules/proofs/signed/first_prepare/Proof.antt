@@ -5,14 +5,14 @@ use mathlib.Core.Bool.{false}
 use Prim.Native.Nat.{_-_, _≤_}
 use Rattle.protocol.specs.Lists.{any}
 use Rattle.protocol.specs.Evidence.{prepares}
-use Rattle.pool.specs.Pool.{recordOf}
+use Rattle.pool.specs.Pool.{recordUpTo}
 use Rattle.pool.proofs.Records as records
 use Rattle.rules.proofs.Scans.{prepare-own, prepare-first, prepare-none}
 use Rattle.rules.proofs.signed.first_prepare.Statement.{statement}
 use Rattle.rules.proofs.signed.first_prepare.Tie as tie
 
 abbrev Inv-loop : tie.InvT-loop
-Inv-loop words ids sender end i₀ i = (i ≤ end) × (any (prepares sender) (recordOf words ids i) ≡ false)
+Inv-loop words ids sender end i₀ i = (i ≤ end) × (any (prepares sender) (recordUpTo words ids i) ≡ false)
 
 abbrev μ-loop : tie.MeasureT-loop
 μ-loop words ids sender end i₀ i = end - i

@@ -5,14 +5,14 @@ use mathlib.Core.Bool.{false}
 use Prim.Native.Nat.{_-_, _≤_}
 use Rattle.protocol.specs.Lists.{any}
 use Rattle.views.specs.View.{viewOf}
-use Rattle.pool.specs.Pool.{recordOf}
+use Rattle.pool.specs.Pool.{recordUpTo}
 use Rattle.pool.proofs.Records as records
 use Rattle.rules.specs.Rules.{ownAt}
 use Rattle.rules.proofs.signed.signed_at.Statement.{statement}
 use Rattle.rules.proofs.signed.signed_at.Tie as tie
 
 abbrev Inv-loop : tie.InvT-loop
-Inv-loop words ids k kind t end i₀ i = (i ≤ end) × (any (ownAt k kind (viewOf t)) (recordOf words ids i) ≡ false)
+Inv-loop words ids k kind t end i₀ i = (i ≤ end) × (any (ownAt k kind (viewOf t)) (recordUpTo words ids i) ≡ false)
 
 abbrev μ-loop : tie.MeasureT-loop
 μ-loop words ids k kind t end i₀ i = end - i

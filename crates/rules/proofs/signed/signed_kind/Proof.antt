@@ -4,14 +4,14 @@ use mathlib.Core.Path.{_≡_, sym, _∙_}
 use mathlib.Core.Bool.{false}
 use Prim.Native.Nat.{_-_, _≤_}
 use Rattle.protocol.specs.Lists.{any}
-use Rattle.pool.specs.Pool.{recordOf}
+use Rattle.pool.specs.Pool.{recordUpTo}
 use Rattle.pool.proofs.Records as records
 use Rattle.rules.specs.Rules.{ownKind}
 use Rattle.rules.proofs.signed.signed_kind.Statement.{statement}
 use Rattle.rules.proofs.signed.signed_kind.Tie as tie
 
 abbrev Inv-loop : tie.InvT-loop
-Inv-loop words ids k kind end i₀ i = (i ≤ end) × (any (ownKind k kind) (recordOf words ids i) ≡ false)
+Inv-loop words ids k kind end i₀ i = (i ≤ end) × (any (ownKind k kind) (recordUpTo words ids i) ≡ false)
 
 abbrev μ-loop : tie.MeasureT-loop
 μ-loop words ids k kind end i₀ i = end - i

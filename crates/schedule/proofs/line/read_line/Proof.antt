@@ -1,7 +1,7 @@
 use native.Mathlib.Omega.{arith}
 use mathlib.Core.Path.{refl, sym}
 use lib.Seq.{length-take-le}
-use Rattle.schedule.proofs.Whole.{line-last, line-read}
+use Rattle.schedule.proofs.Lines.{line-last, line-read}
 use borrow.Author.Needs.{needs}
 use Rattle.schedule.proofs.line.read_line.Statement.{statement}
 use Rattle.schedule.proofs.line.read_line.Tie as tie

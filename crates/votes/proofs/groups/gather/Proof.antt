@@ -5,7 +5,7 @@ use Prim.Native.Nat.{_-_, _≤_}
 use Rattle.protocol.specs.Statement.{isKind}
 use Rattle.protocol.specs.Evidence.{signs}
 use Rattle.views.specs.Sets.{IsSet}
-use Rattle.pool.specs.Pool.{recordOf}
+use Rattle.pool.specs.Pool.{recordUpTo}
 use Rattle.pool.proofs.Records.{set-first, set-next, set-whole}
 use Rattle.votes.specs.Keys.{Sofar}
 use Rattle.votes.proofs.Gathering.{sofar-first, sofar-whole}
@@ -13,7 +13,7 @@ use Rattle.votes.proofs.groups.gather.Statement.{statement}
 use Rattle.votes.proofs.groups.gather.Tie as tie
 
 abbrev Inv-loop : tie.InvT-loop
-Inv-loop words ids init keys₀ rows₀ groups₀ end joins₀ leaves₀ n₀ i₀ keys rows groups joins leaves n i = (i ≤ end) × Sofar words ids i keys rows groups n × IsSet joins (signs (isKind 1) (recordOf words ids i)) × IsSet leaves (signs (isKind 2) (recordOf words ids i))
+Inv-loop words ids init keys₀ rows₀ groups₀ end joins₀ leaves₀ n₀ i₀ keys rows groups joins leaves n i = (i ≤ end) × Sofar words ids i keys rows groups n × IsSet joins (signs (isKind 1) (recordUpTo words ids i)) × IsSet leaves (signs (isKind 2) (recordUpTo words ids i))
 
 abbrev μ-loop : tie.MeasureT-loop
 μ-loop words ids init keys₀ rows₀ groups₀ end joins₀ leaves₀ n₀ i₀ keys rows groups joins leaves n i = end - i

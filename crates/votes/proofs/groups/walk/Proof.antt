@@ -3,13 +3,13 @@ use native.Mathlib.Omega.{arith}
 use mathlib.Core.Path.{sym, _∙_}
 use mathlib.Core.Bool.{false≢true}
 use Rattle.tables.proofs.Searches.{Walked, walked-first, walked-next, older-most}
-use Rattle.votes.specs.Keys.{slotBy, slotAt}
+use Rattle.votes.specs.Keys.{slotBy, groupSlot}
 use Rattle.votes.proofs.Searches.{With, with-slot, with-found, with-none}
 use Rattle.votes.proofs.groups.walk.Statement.{statement}
 use Rattle.votes.proofs.groups.walk.Tie as tie
 
 abbrev Inv-loop : tie.InvT-loop
-Inv-loop keys rows groups v from x₀ x = Walked (slotAt keys groups) (slotBy (v .at) (v .what) (v .tag)) (With keys groups v) from x
+Inv-loop keys rows groups v from x₀ x = Walked (groupSlot keys groups) (slotBy (v .at) (v .what) (v .tag)) (With keys groups v) from x
 
 abbrev μ-loop : tie.MeasureT-loop
 μ-loop keys rows groups v from x₀ x = x

@@ -5,13 +5,13 @@ use Prim.Native.Nat.{_-_, _≤_}
 use Rattle.protocol.specs.Statement.{isKind}
 use Rattle.protocol.specs.Evidence.{signs}
 use Rattle.views.specs.Sets.{IsSet}
-use Rattle.pool.specs.Pool.{recordOf}
+use Rattle.pool.specs.Pool.{recordUpTo}
 use Rattle.pool.proofs.Records.{set-first, set-next, set-whole}
 use Rattle.votes.proofs.wish.wished_by.Statement.{statement}
 use Rattle.votes.proofs.wish.wished_by.Tie as tie
 
 abbrev Inv-loop : tie.InvT-loop
-Inv-loop words ids init end joins₀ leaves₀ i₀ joins leaves i = (i ≤ end) × IsSet joins (signs (isKind 1) (recordOf words ids i)) × IsSet leaves (signs (isKind 2) (recordOf words ids i))
+Inv-loop words ids init end joins₀ leaves₀ i₀ joins leaves i = (i ≤ end) × IsSet joins (signs (isKind 1) (recordUpTo words ids i)) × IsSet leaves (signs (isKind 2) (recordUpTo words ids i))
 
 abbrev μ-loop : tie.MeasureT-loop
 μ-loop words ids init end joins₀ leaves₀ i₀ joins leaves i = end - i

@@ -3,7 +3,7 @@ ghost use mathlib.Core.Path.{_≡_};
 ghost use Prim.Native.Nat.{_≤_, _<_};
 ghost use Rattle.protocol.specs.Lists.{all};
 ghost use Rattle.views.specs.Held.{viewIs, viewsIs};
-ghost use Rattle.engine.specs.Looks.{notAbove, RingOf, Looks};
+ghost use Rattle.engine.specs.SituationFrom.{notAbove, RingOf, SituationFrom};
 use crate::Controller;
 use evidence::Evidence;
 use evidence::Ring;
@@ -29,9 +29,14 @@ fn none_above(h: History, t: View) -> bool
 }
 
 // The situation of the controller c, in its ring, with the evidence e of its record.
-pub fn look(c: Controller, ring: Ring, e: Evidence, greatest: &[u64; View::LIMIT]) -> Situation
+pub fn of_controller(
+    c: Controller,
+    ring: Ring,
+    e: Evidence,
+    greatest: &[u64; View::LIMIT],
+) -> Situation
     requires { ⌜ RingOf c ring × (0 < e .length) × (e .length ≤ 16) ⌝ }
-    ensures { λ r. ⌜ Looks c ring (now (greatest .entry)) e r ⌝ }
+    ensures { λ r. ⌜ SituationFrom c ring (now (greatest .entry)) e r ⌝ }
 {
     let t = View::of_word(greatest[e.length - 1]);
     let h = c.entered;

@@ -13,7 +13,7 @@ use Rattle.text.specs.Text.{decText}
 use Rattle.text.specs.Scan.{Stops, decAt}
 use Rattle.text.proofs.Laws.{after, dec-at, dec-only}
 use Rattle.protocol.specs.View.{View}
-use Rattle.protocol.specs.Statement.{Stmt}
+use Rattle.protocol.specs.Statement.{Stmt, bindingNumber}
 use Rattle.statements.specs.declared.Part.{Part}
 use Rattle.statements.specs.declared.ViewPart.{ViewPart}
 use Rattle.statements.specs.declared.ViewsPart.{ViewsPart}
@@ -22,7 +22,7 @@ use Rattle.statements.specs.declared.Statement.{Statement}
 use Rattle.statements.specs.declared.ReadStatement.{ReadStatement}
 use Rattle.statements.specs.Text.{parted, viewText, text}
 use Rattle.views.specs.Held.{viewIs}
-use Rattle.statements.specs.Meaning.{firstViews, bindingNumber, payloadOf, stmtOf, Fits}
+use Rattle.statements.specs.Meaning.{firstViews, bindingIs, payloadOf, stmtOf, Fits}
 use Rattle.statements.specs.Promise.{ReadOf}
 use Rattle.statements.specs.Parts.{Bounded, NumberAt, ViewAt, ViewsAt, tailText, bindingFrom}
 use Rattle.statements.proofs.Views.{ok-before, first-long}
@@ -148,7 +148,7 @@ module _ (S : List ℕ) (first : Read) (kind origin : Part) (at view : ViewPart)
       )
 
 -- ---- as a Statement
-number-back : (n m : ℕ) → n ≤ 2 → bindingNumber (bindingFrom n m) ≡ n
+number-back : (n m : ℕ) → n ≤ 2 → bindingNumber (bindingIs (bindingFrom n m)) ≡ n
 number-back zero m h = refl
 number-back (suc zero) m h = refl
 number-back (suc (suc zero)) m h = refl

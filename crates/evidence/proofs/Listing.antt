@@ -13,7 +13,7 @@ use Rattle.protocol.specs.Lists.{if_then_else_, any, filter}
 use Rattle.protocol.specs.Statement.{Stmt}
 use Rattle.views.specs.Table.{table}
 use Rattle.views.proofs.Tables.{table-cong}
-use Rattle.pool.specs.Pool.{stmtAt, recordOf, recordIn}
+use Rattle.pool.specs.Pool.{stmtAt, recordUpTo, recordIn}
 use Rattle.pool.proofs.Records.{entry, so-far, whole}
 use Rattle.pool.proofs.Lists.{same-numbers}
 
@@ -62,7 +62,7 @@ any-among q p l h = any-filter q p l ∙ any-same (λ a. q a && p a) p l (λ a. 
 pub record Sifted (q : Stmt → Bool) (W ids J : List ℕ) (i m : ℕ) : Type 0 where
   pub size : length J ≡ 513
   pub most : m ≤ i
-  pub are : recordOf W J m ≡ filter q (recordOf W ids i)
+  pub are : recordUpTo W J m ≡ filter q (recordUpTo W ids i)
 
 pub byte-one : (b : Bool) → boolByte b ≤ 1
 byte-one true = omega arith
@@ -75,7 +75,7 @@ pub sifted-none : {q : Stmt → Bool} {W ids J : List ℕ} → length J ≡ 513 
 unfolding filter table
 sifted-none {q} {W} {ids} {J} e = record { size = e; most = omega arith; are = so-far W J 0 (omega arith) ∙ ap (filter q) (sym (so-far W ids 0 (omega arith))) }
 
-longer : (W ids : List ℕ) (i : ℕ) → i < 512 → recordOf W ids (i + 1) ≡ recordOf W ids i ++ (entry W ids i ∷ [])
+longer : (W ids : List ℕ) (i : ℕ) → i < 512 → recordUpTo W ids (i + 1) ≡ recordUpTo W ids i ++ (entry W ids i ∷ [])
 unfolding table
 longer W ids i l = rw (so-far W ids i (omega arith), so-far W ids (i + 1) (omega arith), add-one)
 
@@ -83,27 +83,27 @@ module _ {q : Stmt → Bool} {W ids J : List ℕ} {i m : ℕ} (l : i < 512) (g :
   abbrev more : List ℕ
   more = set J m (getD ids i 0)
 
-  before : recordOf W more m ≡ filter q (recordOf W ids i)
+  before : recordUpTo W more m ≡ filter q (recordUpTo W ids i)
   before =
       so-far W more m (omega (arith, g .most)) ∙ table-cong m (entry W more) (entry W J) (λ j b. ap (stmtAt W) (getD-set-other J m j (getD ids i 0) 0 (λ e. omega arith)))
       ∙ sym (so-far W J m (omega (arith, g .most))) ∙ g .are
 
   -- statement i is kept or not
-  kept : (b : Bool) → recordOf W more (m + boolByte b) ≡ filter q (recordOf W ids i) ++ (if b then entry W ids i ∷ [] else [])
+  kept : (b : Bool) → recordUpTo W more (m + boolByte b) ≡ filter q (recordUpTo W ids i) ++ (if b then entry W ids i ∷ [] else [])
   kept true = longer W more m (omega (arith, g .most)) ∙ ap₂ (λ k n. k ++ (stmtAt W n ∷ [])) before (getD-set-same J m (getD ids i 0) 0 (omega (arith, g .size, g .most)))
-  kept false = let e : m + 0 ≡ m = omega arith in ap (recordOf W more) e ∙ before ∙ sym (append-nil (filter q (recordOf W ids i)))
+  kept false = let e : m + 0 ≡ m = omega arith in ap (recordUpTo W more) e ∙ before ∙ sym (append-nil (filter q (recordUpTo W ids i)))
 
   pub sifted-next : (b : Bool) → b ≡ q (entry W ids i) → Sifted q W ids (set J m (getD ids i 0)) (i + 1) (m + boolByte b)
   sifted-next b e = record {
     size = length-set J m (getD ids i 0) ∙ g .size;
     most = omega (arith, g .most, byte-one b);
     are =
-        kept b ∙ ap (λ k. filter q (recordOf W ids i) ++ k) (sym (filter-one q (entry W ids i) b e)) ∙ sym (filter-append q (recordOf W ids i) (entry W ids i ∷ []))
+        kept b ∙ ap (λ k. filter q (recordUpTo W ids i) ++ k) (sym (filter-one q (entry W ids i) b e)) ∙ sym (filter-append q (recordUpTo W ids i) (entry W ids i ∷ []))
         ∙ ap (filter q) (sym (longer W ids i l));
   }
 
 -- the count goes into the last place
-pub sifted-whole : {q : Stmt → Bool} {W ids J : List ℕ} {i m end : ℕ} (len : ℕ) → i ≡ end → end ≡ min len 512 → Sifted q W ids J i m → recordIn W (set J 512 m) ≡ filter q (recordOf W ids len)
+pub sifted-whole : {q : Stmt → Bool} {W ids J : List ℕ} {i m end : ℕ} (len : ℕ) → i ≡ end → end ≡ min len 512 → Sifted q W ids J i m → recordIn W (set J 512 m) ≡ filter q (recordUpTo W ids len)
 sifted-whole {q} {W} {ids} {J} {i} {m} len d e g =
     same-numbers W J (set J 512 m) (getD (set J 512 m) 512 0) m (ap (λ k. min k 512) (getD-set-same J 512 m 0 (omega (arith, g .size)))) (λ k l. getD-set-other J 512 k m 0 (λ q. omega arith))
     ∙ g .are ∙ ap (filter q) (whole W ids len i (d ∙ e))

@@ -4,8 +4,8 @@ use Rattle.tables.proofs.Chains.{empty-made}
 use Rattle.sealing.proofs.Judged.{blank-made}
 use Rattle.pool.specs.Pool.{recordIn}
 use Rattle.evidence.proofs.Tied as laws
-use Rattle.evidence.proofs.whole.of_votes.Statement.{statement}
-use Rattle.evidence.proofs.whole.of_votes.Tie as tie
+use Rattle.evidence.proofs.summary.of_votes.Statement.{statement}
+use Rattle.evidence.proofs.summary.of_votes.Tie as tie
 
 pub of-votes-spec : {M : Type 1} → statement M
 of-votes-spec =

@@ -1,7 +1,7 @@
 use borrow.Author.Needs.{needs}
 use Rattle.evidence.proofs.Tied as laws
-use Rattle.evidence.proofs.whole.tie.Statement.{statement}
-use Rattle.evidence.proofs.whole.tie.Tie as tie
+use Rattle.evidence.proofs.summary.tie.Statement.{statement}
+use Rattle.evidence.proofs.summary.tie.Tie as tie
 
 pub tie-spec : {M : Type 1} → statement M
 tie-spec =

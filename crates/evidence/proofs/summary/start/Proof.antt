@@ -1,7 +1,7 @@
 use borrow.Author.Needs.{needs}
 use mathlib.Core.Path.{refl}
-use Rattle.evidence.proofs.whole.start.Statement.{statement}
-use Rattle.evidence.proofs.whole.start.Tie as tie
+use Rattle.evidence.proofs.summary.start.Statement.{statement}
+use Rattle.evidence.proofs.summary.start.Tie as tie
 
 pub start-spec : {M : Type 1} → statement M
 start-spec =

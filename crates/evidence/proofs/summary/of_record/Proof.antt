@@ -1,7 +1,7 @@
 use borrow.Author.Needs.{needs}
 use mathlib.Core.Path.{sym, _∙_}
-use Rattle.evidence.proofs.whole.of_record.Statement.{statement}
-use Rattle.evidence.proofs.whole.of_record.Tie as tie
+use Rattle.evidence.proofs.summary.of_record.Statement.{statement}
+use Rattle.evidence.proofs.summary.of_record.Tie as tie
 
 pub of-record-spec : {M : Type 1} → statement M
 of-record-spec =

@@ -8,12 +8,12 @@ use Rattle.views.specs.Table.{table}
 use Rattle.views.specs.Held.{viewIs, heldAt}
 use Rattle.views.proofs.Tables.{all-zero, all-more, all-miss}
 use Rattle.views.proofs.Held.{of-history}
-use Rattle.engine.specs.Looks.{notAbove}
-use Rattle.engine.proofs.Looked.{above, level}
-use Rattle.engine.proofs.look.none_above.Statement.{statement}
-use Rattle.engine.proofs.look.none_above.Tie as tie
-use Rattle.engine.proofs.look.none_above.Reads as reads
-use Rattle.engine.proofs.look.none_above.Lts as lts
+use Rattle.engine.specs.Situation.{notAbove}
+use Rattle.engine.proofs.Situations.{above, level}
+use Rattle.engine.proofs.situation.none_above.Statement.{statement}
+use Rattle.engine.proofs.situation.none_above.Tie as tie
+use Rattle.engine.proofs.situation.none_above.Reads as reads
+use Rattle.engine.proofs.situation.none_above.Lts as lts
 use Rattle.views.proofs.History.count.Reads as count-reads
 use Rattle.views.proofs.View.below.Reads as below-reads
 

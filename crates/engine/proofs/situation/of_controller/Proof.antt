@@ -2,13 +2,13 @@ use native.Mathlib.Omega.{arith}
 use mathlib.Core.Path.{ap}
 use mathlib.Core.Bool.{_&&_}
 use lib.Dec.{ltb}
-use Rattle.engine.proofs.Looked.{looked}
+use Rattle.engine.proofs.Situations.{looked}
 use borrow.Author.Needs.{needs}
-use Rattle.engine.proofs.look.look.Statement.{statement}
-use Rattle.engine.proofs.look.look.Tie as tie
+use Rattle.engine.proofs.situation.of_controller.Statement.{statement}
+use Rattle.engine.proofs.situation.of_controller.Tie as tie
 
-pub look-spec : {M : Type 1} → statement M
-look-spec =
+pub of-controller-spec : {M : Type 1} → statement M
+of-controller-spec =
     tie.close
     (tie.spec
     (λ c. search needs)

@@ -7,12 +7,12 @@ ghost use lib.ListN.{length, set};
 ghost use Rattle.protocol.specs.Lists.{any};
 ghost use Rattle.protocol.specs.Statement.{Stmt};
 ghost use Rattle.protocol.specs.Evidence.{wished, isStored};
-ghost use Rattle.views.specs.View.{viewOf, ring};
+ghost use Rattle.views.specs.View.{viewOf, ringOfWord};
 ghost use Rattle.pool.specs.Pool.{recordIn};
 ghost use Rattle.votes.specs.Votes.{isVote};
 ghost use Rattle.ranking.specs.Ranking.{CandidatesOf, HistoriesOf};
 ghost use Rattle.evidence.specs.Shown.{CertificatesOf};
-ghost use Rattle.evidence.specs.Evidence.{ringOf, EvidenceOf};
+ghost use Rattle.evidence.specs.Evidence.{ringIs, EvidenceOf};
 use crate::Evidence;
 use crate::Ring;
 use crate::certificates;
@@ -41,7 +41,7 @@ fn one_of(a: bool, b: bool, c: bool) -> bool
 
 // The evidence, put together from its parts.
 fn tie(wish: u64, r: Ranked, h: Summit, c: Certified, stored: bool) -> Evidence
-    ensures { λ e. ⌜ ((init sender : ℕ) (X : List Stmt) (C G : List ℕ) → viewOf wish ≡ wished (ring init) X → CandidatesOf init X C r → HistoriesOf init X G h → CertificatesOf init sender X c → stored ≡ isStored (ring init) X (c .payload) → EvidenceOf (ring init) sender X C G e) ⌝ }
+    ensures { λ e. ⌜ ((init sender : ℕ) (X : List Stmt) (C G : List ℕ) → viewOf wish ≡ wished (ringOfWord init) X → CandidatesOf init X C r → HistoriesOf init X G h → CertificatesOf init sender X c → stored ≡ isStored (ringOfWord init) X (c .payload) → EvidenceOf (ringOfWord init) sender X C G e) ⌝ }
 {
     let conflict = one_of(r.conflict, h.conflict, c.conflict);
     Evidence {
@@ -60,13 +60,13 @@ fn tie(wish: u64, r: Ranked, h: Summit, c: Certified, stored: bool) -> Evidence
 fn of_votes(
     words: &[u64; POOL_WORDS],
     ids: &[u16; RECORD],
-    ring: Ring,
+    ringOfWord: Ring,
     candidates: &mut [u64; View::LIMIT],
     greatest: &mut [u64; View::LIMIT],
 ) -> Evidence
-    ensures { λ e. ⌜ EvidenceOf (ringOf ring) (ring .sender) (recordIn (now (words .entry)) (now (ids .entry))) (now (candidates .exit)) (now (greatest .exit)) e ⌝ }
+    ensures { λ e. ⌜ EvidenceOf (ringIs ringOfWord) (ringOfWord .sender) (recordIn (now (words .entry)) (now (ids .entry))) (now (candidates .exit)) (now (greatest .exit)) e ⌝ }
 {
-    let init = ring.init;
+    let init = ringOfWord.init;
     let mut keys = [0u64; KEYS];
     let mut rows = [0u16; ROWS];
     let mut groups = [0u64; 512];
@@ -78,7 +78,7 @@ fn of_votes(
     let h = ranking::climb(words, &rows, &memo, counts.agreements, init, greatest);
     certificates::end(&mut groups, found.groups);
     let n = certificates::keep_backed(words, ids, init, &keys, &rows, &memo, &mut groups);
-    let c = certificates::certificate(words, ids, init, ring.sender, &groups, n);
+    let c = certificates::certificate(words, ids, init, ringOfWord.sender, &groups, n);
     let stored = certificates::is_stored(words, ids, init, &groups, n, c.payload);
     tie(found.wished, r, h, c, stored)
 }
@@ -106,7 +106,7 @@ fn unvoted(
     candidates: &mut [u64; View::LIMIT],
     greatest: &mut [u64; View::LIMIT],
 ) -> Evidence
-    ensures { λ e. ⌜ ((sender : ℕ) (X : List Stmt) → any isVote X ≡ false → viewOf wish ≡ wished (ring init) X → EvidenceOf (ring init) sender X (now (candidates .exit)) (now (greatest .exit)) e) ⌝ }
+    ensures { λ e. ⌜ ((sender : ℕ) (X : List Stmt) → any isVote X ≡ false → viewOf wish ≡ wished (ringOfWord init) X → EvidenceOf (ringOfWord init) sender X (now (candidates .exit)) (now (greatest .exit)) e) ⌝ }
 {
     start(candidates, init);
     start(greatest, init);
@@ -127,18 +127,18 @@ fn unvoted(
 pub fn of_record(
     words: &[u64; POOL_WORDS],
     ids: &[u16; RECORD],
-    ring: Ring,
+    ringOfWord: Ring,
     candidates: &mut [u64; View::LIMIT],
     greatest: &mut [u64; View::LIMIT],
 ) -> Evidence
-    ensures { λ e. ⌜ EvidenceOf (ringOf ring) (ring .sender) (recordIn (now (words .entry)) (now (ids .entry))) (now (candidates .exit)) (now (greatest .exit)) e ⌝ }
+    ensures { λ e. ⌜ EvidenceOf (ringIs ringOfWord) (ringOfWord .sender) (recordIn (now (words .entry)) (now (ids .entry))) (now (candidates .exit)) (now (greatest .exit)) e ⌝ }
 {
     if votes::has_votes(words, ids) {
-        return of_votes(words, ids, ring, candidates, greatest);
+        return of_votes(words, ids, ringOfWord, candidates, greatest);
     }
     unvoted(
-        votes::wished_by(words, ids, ring.init),
-        ring.init,
+        votes::wished_by(words, ids, ringOfWord.init),
+        ringOfWord.init,
         candidates,
         greatest,
     )

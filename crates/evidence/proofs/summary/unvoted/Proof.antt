@@ -1,7 +1,7 @@
 use borrow.Author.Needs.{needs}
 use Rattle.evidence.proofs.Unvoted as laws
-use Rattle.evidence.proofs.whole.unvoted.Statement.{statement}
-use Rattle.evidence.proofs.whole.unvoted.Tie as tie
+use Rattle.evidence.proofs.summary.unvoted.Statement.{statement}
+use Rattle.evidence.proofs.summary.unvoted.Tie as tie
 
 pub unvoted-spec : {M : Type 1} → statement M
 unvoted-spec =

@@ -16,7 +16,7 @@ use Rattle.protocol.specs.Turn as turn
 use Rattle.protocol.proofs.Bits.{Fits}
 use Rattle.views.specs.declared.View as held
 use Rattle.views.specs.declared.History.{History}
-use Rattle.views.specs.View.{viewOf, viewIn}
+use Rattle.views.specs.View.{viewOf, viewIn, viewsOf, viewsIn}
 use Rattle.views.specs.Held.{viewIs, viewsIs, heldAt}
 use Rattle.views.proofs.Tables.{table-length, table-cong}
 use Rattle.views.proofs.Held.{held-fits}
@@ -24,16 +24,14 @@ use Rattle.views.proofs.Histories.{top-some}
 use Rattle.pool.specs.Pool.{recordIn}
 use Rattle.evidence.specs.declared.Evidence.{Evidence}
 use Rattle.evidence.specs.declared.Ring as declared
-use Rattle.evidence.specs.Evidence.{ringOf, certificateOf, EvidenceOf, Settled, Narrow}
+use Rattle.evidence.specs.Evidence.{ringIs, certificateOf, EvidenceOf, Settled, Narrow}
 use Rattle.evidence.proofs.Fitting.{wished-narrow, greatest-narrow}
-use Rattle.ranking.specs.Slots.{viewsOf}
 use Rattle.order.proofs.Counts.{some-view}
 use Rattle.engine.specs.declared.Controller.{Controller}
 use Rattle.rules.specs.declared.Situation.{Situation}
 use Rattle.engine.specs.Meaning.{controllerIs}
-use Rattle.rules.specs.Actions.{viewsIn}
 use Rattle.rules.specs.Rules.{SituationOf}
-use Rattle.engine.specs.Looks.{notAbove, RingOf, Looks}
+use Rattle.engine.specs.SituationFrom.{notAbove, RingOf, SituationFrom}
 
 views-count : (h : History) → length (viewsIs h) ≡ min (h .len) 16
 unfolding viewsIs
@@ -50,7 +48,7 @@ pub record Looking (c : Controller) (G : List ℕ) (e : Evidence) (s : Situation
   pub active : s .active ≡ ltb 0 (min (c .entered .len) 16)
 
 -- the evidence in a ring is that of its controller
-pub of-controller : {c : Controller} {r : declared.Ring} {X : List Stmt} {C G : List ℕ} {e : Evidence} → RingOf c r → EvidenceOf (ringOf r) (r .sender) X C G e → EvidenceOf (controllerIs c .ring) (c .sender) X C G e
+pub of-controller : {c : Controller} {r : declared.Ring} {X : List Stmt} {C G : List ℕ} {e : Evidence} → RingOf c r → EvidenceOf (ringIs r) (r .sender) X C G e → EvidenceOf (controllerIs c .ring) (c .sender) X C G e
 of-controller {c} {r} {X} {C} {G} {e} q o = subst (λ k. EvidenceOf (controllerIs c .ring) k X C G e) (q .sender) (subst (λ R. EvidenceOf R (r .sender) X C G e) (q .is) o)
 
 -- the initial view of a controller's ring is of the sixteen controllers, as every struct's is
@@ -145,7 +143,7 @@ module _ (c : Controller) (r : declared.Ring) (G : List ℕ) (e : Evidence) (t :
     stored = λ h. sym (k .of .stored (k .agree) h);
   }
 
-  pub looked : Looks c r G e (lookedAt c r e t active entered stands)
+  pub looked : SituationFrom c r G e (lookedAt c r e t active entered stands)
   looked = record {
     situation = λ W R C k.
         seen (recordIn W R) C (record { of = of-controller q (k .of); agree = k .agree; few = k .few })
