@@ -2,11 +2,11 @@
 --     row-most   no row has more than 40 bytes
 --     shown      the row that is written is that of the reply
 -- Assumes nothing.
-use Prim.Native.Nat.{ℕ, zero, suc, _+_, _-_, _^_, _<_, _≤_}
+use Prim.Native.Nat.{ℕ, zero, suc, _+_, _<_, _≤_}
 use native.Mathlib.Omega.{arith}
 use native.Mathlib.Numerals.{add-one}
 use mathlib.Core.Path.{_≡_, refl, sym, ap, ap₂, subst, _∙_}
-use mathlib.Core.List.{List, [], _∷_, _++_, append-assoc}
+use mathlib.Core.List.{List, [], _∷_, _++_}
 use lib.ListN.{length, take, drop, getD, set, length-append, take-append-drop}
 use lib.Seq.{sets, take-suc, length-take-le, sets-eq, take-append-seam}
 use Rattle.protocol.specs.Controller.{Answer, taken, signed, entered, delivered, left, quiet, refused}
@@ -14,7 +14,7 @@ use Rattle.text.specs.Text.{decText}
 use Rattle.text.proofs.Decimal.{long-below, most-long}
 use Rattle.text.proofs.Stores.{sets-append}
 use Rattle.views.specs.Held.{viewIs}
-use Rattle.statements.specs.Text.{parted, viewText}
+use Rattle.statements.specs.Text.{parted}
 use Rattle.statements.proofs.Fields.{view-long}
 use Rattle.statements.proofs.Written.{four-runs}
 use Rattle.engine.specs.declared.Answer.{Answer as Answered}
@@ -25,8 +25,8 @@ use Rattle.bench.specs.declared.row.Value.the-variants.{Number, View}
 use Rattle.bench.specs.Seats.{wordOfAnswer, valueOfAnswer}
 use Rattle.bench.specs.Running.{rowIs}
 use Rattle.bench.specs.Bench.{Reply}
-use Rattle.bench.specs.Rows.{wordText, valueText, rowText}
-use Rattle.bench.specs.Writing.{wordFor, wordIs, valueIs, valueShown, rowOf, RowShows}
+use Rattle.bench.specs.Rows.{wordText, rowText}
+use Rattle.bench.specs.Writing.{wordFor, wordIs, valueShown, rowOf, RowShows}
 
 -- ---- one byte more of a text
 pub put-next : (out₀ out t : List ℕ) (at i : ℕ) → i < length t → out ≡ sets out₀ at (take i t) → set out (at + i) (getD t i 0) ≡ sets out₀ at (take (i + 1) t)

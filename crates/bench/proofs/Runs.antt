@@ -5,7 +5,7 @@ use mathlib.Core.Logic.{_⊎_, inl, inr}
 use mathlib.Core.Bool.{Bool, true, false, _||_}
 use mathlib.Core.List.{List, [], _∷_, _++_, append-assoc, append-nil}
 use mathlib.Core.Option.{Option, some, none}
-use Prim.Native.Nat.{ℕ, zero, suc, _+_, _-_, _*_, _≤_, _<_}
+use Prim.Native.Nat.{ℕ, zero, suc, _+_, _-_, _≤_, _<_}
 use native.Mathlib.Decide.{decLt, ℕ-discrete}
 use native.Mathlib.Numerals.{add-one}
 use native.Mathlib.Omega.{arith}
@@ -20,7 +20,7 @@ use Rattle.protocol.specs.Call.{setupAllowed, started}
 use Rattle.text.proofs.Stores.{sets-append}
 use Rattle.views.specs.Table.{table}
 use Rattle.views.proofs.Tables.{table-length, table-at, table-cong}
-use Rattle.pool.specs.Pool.{stmtAt, poolLen, recordUpTo, recordLen, recordIn, poolOf, AllIn, Grows}
+use Rattle.pool.specs.Pool.{stmtAt, poolLen, recordUpTo, recordLen, recordIn, AllIn, Grows}
 use Rattle.engine.specs.declared.Controller.{Controller}
 use Rattle.engine.specs.declared.Outcome.{Outcome}
 use Rattle.engine.specs.declared.Answer.{Answer}
@@ -32,7 +32,7 @@ use Rattle.schedule.specs.declared.line.ReadLine.{ReadLine}
 use Rattle.bench.specs.declared.row.Word.the-variants as word
 use Rattle.bench.specs.declared.row.Value.the-variants as value
 use Rattle.bench.specs.declared.state.Setting.{Setting}
-use Rattle.bench.specs.declared.state.Stepped.{Stepped}
+use Rattle.bench.specs.declared.state.Effect.{Effect}
 use Rattle.bench.specs.declared.row.Word.{Word}
 use Rattle.bench.specs.declared.row.Value.{Value}
 use Rattle.bench.specs.declared.lines.Place.{Place}
@@ -43,8 +43,8 @@ use Rattle.schedule.proofs.Lines.{line-ended, line-tells}
 use Rattle.bench.specs.Bench as bench
 use Rattle.bench.specs.Bench.{Seat, emptySeat, Bench, Reply, newBench, step}
 use Rattle.bench.specs.Rows.{rowText, headerText, rowsFrom, refusedRow, Printed}
-use Rattle.bench.specs.Writing.{wordFor, valueIs, rowOf, RowShows}
-use Rattle.bench.specs.Seats.{blank, seatIs, benchOf, Distinct, Sound, Full, Keeps, Fit, seatOf, seatsAfter, replyIs, numberIs, changesIs, CalledAtSeat, CalledByLine, Needless, Advanced, SteppedBy, wordOfAnswer, valueOfAnswer}
+use Rattle.bench.specs.Writing.{wordFor, valueIs, rowOf}
+use Rattle.bench.specs.Seats.{blank, seatIs, benchOf, Sound, Full, Keeps, Fit, seatOf, seatsAfter, replyIs, numberIs, changesIs, CalledAtSeat, CalledByLine, Needless, Advanced, SteppedBy, wordOfAnswer, valueOfAnswer}
 use Rattle.bench.specs.Running.{rowIs, seatsIs, benchIs, BenchKept, Fulls, Started, Reading, Going, Begins, Room, RowWritten, RowPut, fullAfter, LineRun, Ran, PrintedInto}
 use Rattle.bench.proofs.Rows.{shown}
 use Rattle.bench.proofs.Records.{full-none, full-kept}
@@ -411,7 +411,7 @@ module _ (W R : List ℕ) (place : Place) (l : Held) (T : List ℕ) (full : ℕ)
   full-after R′ n true k h = h refl
   full-after R′ n false k h = full-kept R R′ k full f
 
-  pub run-stepped : {W′ R′ : List ℕ} {st : Stepped} {on : Place} {rows′ : List ℕ} {known : ℕ} → SteppedBy W R (place .setting) (seatOf (Readable l)) T st W′ R′ → RowPut rows place (length T + 1) (rowIs (place .n) (st .who) (st .answer) (st .number)) on rows′
+  pub run-stepped : {W′ R′ : List ℕ} {st : Effect} {on : Place} {rows′ : List ℕ} {known : ℕ} → SteppedBy W R (place .setting) (seatOf (Readable l)) T st W′ R′ → RowPut rows place (length T + 1) (rowIs (place .n) (st .who) (st .answer) (st .number)) on rows′
       → known ≡ fullAfter (st .whole) (poolLen W′) full
       → LineRun W R place (seatOf (Readable l)) T rows (record { place = record { setting = st .setting; at = on .at; n = on .n; out = on .out }; fresh = st .fresh; full = known }) W′ R′ rows′
   run-stepped {W′} {R′} {st} {on} {rows′} {known} a p z = record {

@@ -1,9 +1,9 @@
 -- What a line comes to on one controller or on its record.
 -- Assumes nothing.
 use mathlib.Core.Path.{_≡_, refl, sym, ap, ap₂, subst, _∙_}
-use mathlib.Core.Bool.{Bool, true, false, not, _||_, true≢false}
+use mathlib.Core.Bool.{Bool, true, false, not, true≢false}
 use mathlib.Core.List.{List, [], _∷_, _++_, append-nil, map, map-append}
-use mathlib.Core.Option.{some, none}
+use mathlib.Core.Option.{some}
 use Prim.Native.Nat.{ℕ, zero, suc, _+_, _≤_, _<_}
 use native.Mathlib.Decide.{decLt}
 use native.Mathlib.Omega.{arith}
@@ -37,9 +37,9 @@ use Rattle.schedule.specs.declared.line.Line.the-variants as is
 use Rattle.bench.specs.declared.seat.Given.{Given}
 use Rattle.bench.specs.Bench as bench
 use Rattle.bench.specs.Bench.{Seat, emptySeat, Bench, Stepped, step}
-use Rattle.bench.specs.Seats.{seatIs, benchOf, Distinct, Sound, numbersIn, hasNumber, Full, Keeps, Marks, unmarked, RecordFilled, refusedFor, takenAs, Seated, Gives, GivesAll, numberIs, changesIs, CalledAtSeat, isCall, CalledByLine}
+use Rattle.bench.specs.Seats.{seatIs, benchOf, Distinct, Sound, numbersIn, hasNumber, Full, Keeps, Marks, unmarked, RecordFilled, refusedFor, takenAs, Seated, Gives, GivesAll, numberIs, changesIs, CalledAtSeat, CalledByLine}
 use Rattle.bench.proofs.Unchanged.{Idle, idle-answer, Stays, Unsigned, join-stays, leave-stays, send-stays, turn-stays, join-unsigned, leave-unsigned, send-unsigned}
-use Rattle.bench.proofs.Records.{ids, keeps-same, keeps-pushed, below-pushed, within-pool, pool-within, pool-most, keeps-filled, full-filled, unmarked-none, filter-append, filter-one, numbers-pushed}
+use Rattle.bench.proofs.Records.{ids, keeps-same, keeps-pushed, below-pushed, within-pool, pool-within, pool-most, keeps-filled, full-filled, filter-append, filter-one, numbers-pushed}
 
 -- ---- a statement is in a record just where its number is
 

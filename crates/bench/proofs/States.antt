@@ -1,9 +1,9 @@
 -- What a line comes to that calls no controller: on one record, on the pool, or on all.
 -- Assumes nothing.
-use mathlib.Core.Path.{_≡_, refl, sym, ap, ap₂, subst, _∙_}
+use mathlib.Core.Path.{_≡_, refl, sym, ap, subst, _∙_}
 use mathlib.Core.Bool.{Bool, true, false, not, _&&_, _||_, true≢false}
 use mathlib.Core.List.{List, [], _∷_, _++_}
-use mathlib.Core.Option.{Option, some, none}
+use mathlib.Core.Option.{some, none}
 use Prim.Native.Nat.{ℕ, _%_, _+_, _^_, _≤_, _<_}
 use native.Mathlib.Decide.{decLt}
 use native.Mathlib.Omega.{arith}
@@ -30,10 +30,11 @@ use Rattle.pool.specs.declared.Placed.{Placed as Answered}
 use Rattle.pool.specs.declared.Placed.the-variants as placed
 use Rattle.pool.specs.Pool.{stmtAt, poolLen, recordUpTo, recordLen, recordIn, poolOf, AllIn, Grows}
 use Rattle.pool.specs.Changes as memory
-use Rattle.pool.proofs.Searches.{found-at, found-none}
+use Rattle.pool.specs.Steps.{foundOf}
+use Rattle.pool.proofs.Searches.{found-at}
 use Rattle.engine.specs.declared.Refusal.{Refusal}
 use Rattle.engine.specs.declared.Refusal.the-variants as refusal
-use Rattle.engine.specs.declared.Answer.the-variants.{Taken, Refused}
+use Rattle.engine.specs.declared.Answer.the-variants.{Taken}
 use Rattle.engine.specs.Meaning.{answerIs, refusalIs}
 use Rattle.engine.proofs.Pools.{Located, there, absent, in-pool, grown-pool}
 use Rattle.schedule.specs.declared.line.Line.{Line as Held}
@@ -42,13 +43,13 @@ use Rattle.schedule.specs.declared.line.Parsed.the-variants.{Readable}
 use Rattle.schedule.proofs.line.Line as line
 use Rattle.bench.specs.declared.seat.Given.{Given}
 use Rattle.bench.specs.declared.state.Setting.{Setting}
-use Rattle.bench.specs.declared.state.Stepped.{Stepped}
-use Rattle.schedule.specs.Line.{Line, setup, give, all, lie, noStatement, ended}
+use Rattle.bench.specs.declared.state.Effect.{Effect}
+use Rattle.schedule.specs.Line.{Line, setup, all, lie, noStatement, ended}
 use Rattle.schedule.specs.Reading.{meant, Tells, Lying, LiedOf}
 use Rattle.schedule.proofs.Lies.{lie-untold}
 use Rattle.bench.specs.Bench as bench
 use Rattle.bench.specs.Bench.{Seat, emptySeat, Bench, step}
-use Rattle.bench.specs.Seats.{benchOf, Distinct, Sound, Full, refusedFor, takenAs, Seated, Gives, GivesAll, Fit, seatOf, isCall, ToldAs, SteppedAs, SteppedBy, Pools, PoolsBy, NoStatement, Needless}
+use Rattle.bench.specs.Seats.{benchOf, Distinct, Full, refusedFor, takenAs, Seated, Gives, GivesAll, Fit, seatOf, isCall, ToldAs, SteppedAs, SteppedBy, Pools, PoolsBy, NoStatement, Needless}
 use Rattle.bench.proofs.Records.{keeps-same}
 use Rattle.bench.proofs.Seats.{grows-same, seat-same, one-grows, one-distinct, pool-size, all-needless}
 
@@ -64,11 +65,11 @@ if-false b x y e = rw e
 if-true : {A : Type 0} (b : Bool) (x y : A) → b ≡ true → x ≡ (if b then x else y)
 if-true b x y e = rw e
 
-pub told-as : {g : Setting} {who : ℕ} {r r′ : Given} {s : Stepped} → r ≡ r′ → ToldAs g who r s → ToldAs g who r′ s
+pub told-as : {g : Setting} {who : ℕ} {r r′ : Given} {s : Effect} → r ≡ r′ → ToldAs g who r s → ToldAs g who r′ s
 told-as {g} {who} {r} {r′} {s} e t = subst (λ x. ToldAs g who x s) e t
 
 -- a line that was answered on its record
-pub stepped-seated : {W R R′ : List ℕ} {g : Setting} {k : ℕ} {l : Line} {r : Given} {s : Stepped} → k < 16 → Distinct W → Seated W R (g .ready) k l r R′ → ToldAs g k r s → SteppedAs W R g k l s W R′
+pub stepped-seated : {W R R′ : List ℕ} {g : Setting} {k : ℕ} {l : Line} {r : Given} {s : Effect} → k < 16 → Distinct W → Seated W R (g .ready) k l r R′ → ToldAs g k r s → SteppedAs W R g k l s W R′
 stepped-seated {W} {R} {R′} {g} {k} {l} {r} {s} b d m e = record {
   who = omega (arith, e .who-is);
   advanced = record {
@@ -84,7 +85,7 @@ stepped-seated {W} {R} {R′} {g} {k} {l} {r} {s} b d m e = record {
 }
 
 -- a line on the pool that was refused
-module _ {W : List ℕ} {g : Setting} {l : Line} {s : Stepped} where
+module _ {W : List ℕ} {g : Setting} {l : Line} {s : Effect} where
   pools-refused : (who : ℕ) (q : Refusal) → who ≤ 16 → Distinct W → ToldAs g who (refusedFor q) s
       → ((X : List Seat) → step (benchOf (g .ready) (g .faulty) X W) (some l) ≡ bench.refuseLine (benchOf (g .ready) (g .faulty) X W) who (refusalIs q)) → Pools W g l s W
   unfolding answerIs
@@ -105,7 +106,7 @@ module _ {W : List ℕ} {g : Setting} {l : Line} {s : Stepped} where
 
 -- ---- lies that are no statement
 
-module _ (g : Setting) (s : Stepped) where
+module _ (g : Setting) (s : Effect) where
   pub no-statement-early : ToldAs g 16 (refusedFor refusal.OutOfPlace) s → g .ready ≡ false → NoStatement g s
   unfolding step
   no-statement-early e q = record { pools = λ W d. pools-refused 16 refusal.OutOfPlace (omega arith) d e (λ X. go (g .ready) q (benchOf (g .ready) (g .faulty) X W)) }
@@ -156,7 +157,7 @@ module _ (members sender faulty : ℕ) where
   unfolding setupAllowed
   allowed-is n m l = rw (lt-ltb 0 members (omega arith), lt-ltb members (2 ^ 16) m, lt-ltb sender 16 l)
 
-  module _ (W : List ℕ) (g : Setting) (s : Stepped) (d : Distinct W) where
+  module _ (W : List ℕ) (g : Setting) (s : Effect) (d : Distinct W) where
     or-both : (b : Bool) → (b || true) ≡ true
     or-both true = refl
     or-both false = refl
@@ -256,7 +257,7 @@ full≢at e = let z : _≡_ {A = ℕ} 0 1 = cc in omega arith
 at-injective : {m n : ℕ} → placed.At m ≡ placed.At n → m ≡ n
 at-injective e = cc
 
-module _ (W : List ℕ) (g : Setting) (st : Statement) (s : Stepped) (d : Distinct W) (near : st .origin < 16) where
+module _ (W : List ℕ) (g : Setting) (st : Statement) (s : Effect) (d : Distinct W) (near : st .origin < 16) where
   pub lie-early : ToldAs g (st .origin) (refusedFor refusal.OutOfPlace) s → g .ready ≡ false → Pools W g (lie (stmtOf st)) s W
   unfolding stmtOf
   lie-early e q = pools-refused (st .origin) refusal.OutOfPlace (omega arith) d e (λ X. lie-is (benchOf (g .ready) (g .faulty) X W) (stmtOf st) q refl refl refl)
@@ -267,7 +268,7 @@ module _ (W : List ℕ) (g : Setting) (st : Statement) (s : Stepped) (d : Distin
     lie-unmarked e b = pools-refused (st .origin) refusal.OutOfPlace (omega arith) d e (λ X. lie-is (benchOf (g .ready) (g .faulty) X W) (stmtOf st) q b refl refl)
 
     module _ (b : bit (g .faulty) (st .origin) ≡ true) where
-      pub lie-again : ToldAs g (st .origin) (refusedFor refusal.Repeated) s → (i : ℕ) → found.At i ≡ memory.foundOf (memory.poolNumber W (stmtOf st)) → Pools W g (lie (stmtOf st)) s W
+      pub lie-again : ToldAs g (st .origin) (refusedFor refusal.Repeated) s → (i : ℕ) → found.At i ≡ foundOf (memory.poolNumber W (stmtOf st)) → Pools W g (lie (stmtOf st)) s W
       unfolding stmtOf
       lie-again e i f = pools-refused (st .origin) refusal.Repeated (omega arith) d e (λ X. lie-is (benchOf (g .ready) (g .faulty) X W) (stmtOf st) q b (present-in W (stmtOf st) i (found-at (memory.poolNumber W (stmtOf st)) i f)) refl)
 
@@ -294,7 +295,7 @@ module _ (W W′ : List ℕ) (g : Setting) (st : Statement) (d : Distinct W) (ne
   longer : poolOf W′ ≡ poolOf W ++ (stmtOf st ∷ [])
   longer = grown-pool W W′ st short (a .new z room) room
 
-  pub lie-taken : (s : Stepped) → ToldAs g (st .origin) (takenAs n false) s → Pools W g (lie (stmtOf st)) s W′
+  pub lie-taken : (s : Effect) → ToldAs g (st .origin) (takenAs n false) s → Pools W g (lie (stmtOf st)) s W′
   unfolding stmtOf answerIs
   lie-taken s e = record {
     over = λ R w. record {
@@ -367,7 +368,7 @@ module _ {T′ : List ℕ} where
   pub fit-lie : {l : Held} → Fit l T′ → l ≡ is.Lie → Lying T′
   fit-lie f e = record { tells = subst (λ x. Tells (meant x) (ended T′)) e (f .tells) }
 
-module _ {W W′ : List ℕ} {g : Setting} {s : Stepped} (T′ : List ℕ) where
+module _ {W W′ : List ℕ} {g : Setting} {s : Effect} (T′ : List ℕ) where
   pub at-line : {R R′ : List ℕ} {l m : Held} {line : Line} → Fit l T′ → l ≡ m → meant m ≡ some line → SteppedAs W R g (seatOf (Readable m)) line s W′ R′ → SteppedBy W R g (seatOf (Readable l)) T′ s W′ R′
   at-line {R} {R′} {l} {m} {line} f e q a = record {
     line = line;
@@ -389,7 +390,7 @@ module _ {W W′ : List ℕ} {g : Setting} {s : Stepped} (T′ : List ℕ) where
   at-untold t l of e a = record { over = λ R w. record { line = noStatement; reads = lie-untold T′ t (of .untold e); stepped = a .over R w } }
 
 -- a gift, to one record
-module _ {W R R′ : List ℕ} {g : Setting} {s : Stepped} {r : Given} (T′ : List ℕ) (d : Distinct W) {l : Held} {k : ℕ} (f : Fit l T′) where
+module _ {W R R′ : List ℕ} {g : Setting} {s : Effect} {r : Given} (T′ : List ℕ) (d : Distinct W) {l : Held} {k : ℕ} (f : Fit l T′) where
   pub at-give : {n : ℕ} → l ≡ is.Give k n → Gives W R (g .ready) n r R′ → ToldAs g k r s → SteppedBy W R g (seatOf (Readable l)) T′ s W R′
   at-give e m t = at-line T′ f e refl (stepped-seated (fit-at f e) d (m .to k) t)
 

@@ -2,7 +2,7 @@
 -- Assumes nothing.
 use mathlib.Core.Path.{_≡_}
 use mathlib.Core.Bool.{Bool, true, false, not}
-use mathlib.Core.List.{List, [], _∷_, _++_}
+use mathlib.Core.List.{List, [], _++_}
 use mathlib.Core.Option.{some}
 use Prim.Native.Nat.{ℕ, _+_, _<_, _≤_}
 use lib.Dec.{eqb}
@@ -32,7 +32,7 @@ use Rattle.bench.specs.declared.row.Value.{Value}
 use Rattle.bench.specs.declared.row.Value.the-variants as value
 use Rattle.bench.specs.declared.seat.Given.{Given}
 use Rattle.bench.specs.declared.state.Setting.{Setting}
-use Rattle.bench.specs.declared.state.Stepped.{Stepped}
+use Rattle.bench.specs.declared.state.Effect.{Effect}
 use Rattle.schedule.specs.Line.{Line, ended, Reads}
 use Rattle.schedule.specs.Line as lines
 use Rattle.schedule.specs.Reading.{meant, Tells}
@@ -226,30 +226,30 @@ pub record Advanced (W R : List ℕ) (g : Setting) (k : ℕ) (l : Line) (y : Rep
   pub begun : fresh ≡ true → (poolLen W′ ≡ 0) × (setupAllowed 0 (h .members) (h .sender) ≡ true)
 
 -- What `step` answers of a line.
-pub record SteppedAs (W R : List ℕ) (g : Setting) (k : ℕ) (l : Line) (s : Stepped) (W′ R′ : List ℕ) : Type 0 where
+pub record SteppedAs (W R : List ℕ) (g : Setting) (k : ℕ) (l : Line) (s : Effect) (W′ R′ : List ℕ) : Type 0 where
   pub who : s .who ≤ 16
   pub advanced : Advanced W R g k l (replyIs W′ (s .who) (s .answer) (s .number)) (s .setting) (s .fresh) W′ R′
   pub full : s .whole ≡ true → Full R′ (poolLen W′)
 
 -- The text T reads as a line, which does this.
-pub record SteppedBy (W R : List ℕ) (g : Setting) (k : ℕ) (T : List ℕ) (s : Stepped) (W′ R′ : List ℕ) : Type 0 where
+pub record SteppedBy (W R : List ℕ) (g : Setting) (k : ℕ) (T : List ℕ) (s : Effect) (W′ R′ : List ℕ) : Type 0 where
   pub line : Line
   pub reads : Reads (ended T) (some line)
   pub stepped : SteppedAs W R g k line s W′ R′
 
 -- The same of a line that goes to the pool alone: whatever record stands at the first seat stays.
-pub record Pools (W : List ℕ) (g : Setting) (l : Line) (s : Stepped) (W′ : List ℕ) : Type 0 where
+pub record Pools (W : List ℕ) (g : Setting) (l : Line) (s : Effect) (W′ : List ℕ) : Type 0 where
   pub over : (R : List ℕ) → AllIn W R → SteppedAs W R g 0 l s W′ R
 
-pub record PoolsBy (W : List ℕ) (g : Setting) (T : List ℕ) (s : Stepped) (W′ : List ℕ) : Type 0 where
+pub record PoolsBy (W : List ℕ) (g : Setting) (T : List ℕ) (s : Effect) (W′ : List ℕ) : Type 0 where
   pub over : (R : List ℕ) → AllIn W R → SteppedBy W R g 0 T s W′ R
 
 -- What is told of a lie whose text is no statement.
-pub record NoStatement (g : Setting) (s : Stepped) : Type 0 where
+pub record NoStatement (g : Setting) (s : Effect) : Type 0 where
   pub pools : (W : List ℕ) → Distinct W → Pools W g lines.noStatement s W
 
 -- What is told of a line that was answered so and leaves all settings as they were.
-pub record ToldAs (g : Setting) (who : ℕ) (r : Given) (s : Stepped) : Type 0 where
+pub record ToldAs (g : Setting) (who : ℕ) (r : Given) (s : Effect) : Type 0 where
   pub who-is : s .who ≡ who
   pub answer : s .answer ≡ r .answer
   pub number : s .number ≡ r .number

@@ -36,7 +36,7 @@ pub struct Setting {
 
 // What a line that calls no controller answers, and what it leaves: `fresh` where every controller is to start, and `whole` where the record
 // has all of the pool now.
-pub struct Stepped {
+pub struct Effect {
     pub who: u64,
     pub answer: Answer,
     pub number: u64,
@@ -110,11 +110,11 @@ pub fn number_of(a: Answer) -> u64
 }
 
 // A line that leaves the settings as they are.
-fn told(g: Setting, who: u64, r: Given) -> Stepped
+fn told(g: Setting, who: u64, r: Given) -> Effect
     ensures { λ s. ⌜ ToldAs g who r s ⌝ }
 {
     let a = r.answer;
-    Stepped {
+    Effect {
         who: who,
         answer: a,
         number: r.number,
@@ -124,7 +124,7 @@ fn told(g: Setting, who: u64, r: Given) -> Stepped
     }
 }
 
-fn refused(g: Setting, who: u64, r: Refusal) -> Stepped
+fn refused(g: Setting, who: u64, r: Refusal) -> Effect
     ensures { λ s. ⌜ ToldAs g who (refusedFor r) s ⌝ }
 {
     told(g, who, seat::refused(r))
@@ -137,7 +137,7 @@ fn set_up(
     members: u16,
     sender: u8,
     faulty: u16,
-) -> Stepped
+) -> Effect
     requires { ⌜ Distinct (now words) ⌝ }
     ensures { λ s. ⌜ Pools (now (words .entry)) g (lines.setup members sender faulty) s (now (words .exit)) ⌝ }
 {
@@ -152,7 +152,7 @@ fn set_up(
         return refused(g, who, Refusal::BadSetup);
     }
     pool::clear(words);
-    Stepped {
+    Effect {
         who: who,
         answer: Answer::Taken,
         number: 0,
@@ -179,7 +179,7 @@ fn is_marked(faulty: u16, k: u8) -> bool
 }
 
 // A lie changes the pool alone.
-fn lie(words: &mut [u64; POOL_WORDS], g: Setting, st: Statement) -> Stepped
+fn lie(words: &mut [u64; POOL_WORDS], g: Setting, st: Statement) -> Effect
     requires { ⌜ Distinct (now words) × (st .history .len ≤ 16) × (st .origin < 16) ⌝ }
     ensures { λ s. ⌜ Pools (now (words .entry)) g (lines.lie (stmtOf st)) s (now (words .exit)) ⌝ }
 {
@@ -202,7 +202,7 @@ fn lie(words: &mut [u64; POOL_WORDS], g: Setting, st: Statement) -> Stepped
 }
 
 // A lie whose text is no statement.
-fn no_statement(g: Setting) -> Stepped
+fn no_statement(g: Setting) -> Effect
     ensures { λ s. ⌜ NoStatement g s ⌝ }
 {
     if !g.ready {
@@ -212,7 +212,7 @@ fn no_statement(g: Setting) -> Stepped
 }
 
 // A line that is a lie. Its statement is read here, so that no other line pays for it.
-fn lie_line(words: &mut [u64; POOL_WORDS], g: Setting, text: &[u8]) -> Stepped
+fn lie_line(words: &mut [u64; POOL_WORDS], g: Setting, text: &[u8]) -> Effect
     requires { ⌜ Distinct (now words) × Lying (now text) ⌝ }
     ensures { λ s. ⌜ PoolsBy (now (words .entry)) g (now (text .entry)) s (now (words .exit)) ⌝ }
 {
@@ -248,7 +248,7 @@ pub fn step(
     g: Setting,
     line: Line,
     text: &[u8],
-) -> Stepped
+) -> Effect
     requires { ⌜ Sound (now words) (now ids) × Fit line (now text) × (isCall line ≡ false) ⌝ }
     ensures { λ s. ⌜ SteppedBy (now (words .entry)) (now (ids .entry)) g (seatOf (Readable line)) (now (text .entry)) s (now (words .exit)) (now (ids .exit)) ⌝ }
 {

@@ -22,7 +22,7 @@ use Rattle.pool.specs.declared.Placed.{Placed as Answered}
 use Rattle.pool.specs.declared.Placed.the-variants as placed
 use Rattle.pool.specs.Pool.{stmtAt, poolLen, recordUpTo, recordLen, recordIn, poolOf, AllIn}
 use Rattle.pool.specs.Changes as memory
-use Rattle.engine.specs.Promise.{PlacedFor, PlacedAs}
+use Rattle.engine.specs.Steps.{PlacedAs, PlacedFor}
 use Rattle.engine.proofs.Pools.{Located, there, absent, number-none, in-pool, grown-same, grown-pool}
 
 record-length : (W R : List ℕ) → length (recordIn W R) ≡ recordLen R

@@ -40,7 +40,8 @@ use Rattle.engine.specs.declared.Refusal.the-variants as refused
 use Rattle.engine.specs.Meaning.{controllerIs, answerIs, refusalIs}
 use Rattle.rules.specs.Actions.{statementOf, actionIs}
 use Rattle.rules.specs.Rules.{SituationOf}
-use Rattle.engine.specs.Promise.{unchanged, grown, Meets, Turns, Adds, PlacedFor, PlacedAs, restIs}
+use Rattle.engine.specs.Steps.{PlacedAs, PlacedFor, restIs}
+use Rattle.engine.specs.Promise.{unchanged, grown, Meets, Turns, Adds}
 use Rattle.engine.proofs.Requests.{settled, refused-so}
 use Rattle.engine.proofs.Keeps.{is-full, not-full, all-in, record-more}
 

@@ -1,19 +1,16 @@
 -- What the engine's values mean: the protocol's controller and answer.
 -- Assumes nothing.
 use mathlib.Core.List.{List, [], _∷_}
-use Prim.Native.Nat.{ℕ, _<_}
-use lib.ListN.{getD}
+use Prim.Native.Nat.{ℕ}
 use Rattle.protocol.specs.Lists.{if_then_else_}
 use Rattle.protocol.specs.View.{View, controllers, member}
-use Rattle.protocol.specs.Statement.{Stmt}
 use Rattle.protocol.specs.Controller as controller
-use Rattle.views.specs.Table.{table}
 use Rattle.views.specs.Held.{viewIs, viewsIs}
 use Rattle.views.specs.declared.View as held
 use Rattle.statements.specs.Meaning.{bindingIs}
-use Rattle.pool.specs.Pool.{stmtAt, poolLen, recordLen}
+use Rattle.pool.specs.Pool.{stmtAt}
 use Rattle.engine.specs.declared.Controller.{Controller}
-use Rattle.rules.specs.Actions.{payloadIs}
+use Rattle.rules.specs.Payloads.{payloadIs}
 use Rattle.engine.specs.declared.Refusal.{Refusal}
 use Rattle.engine.specs.declared.Refusal.the-variants.{BadSetup, BadStatement, Repeated, Full, BadRequest, ManyCandidates, Conflict, OutOfPlace}
 use Rattle.engine.specs.declared.Answer.{Answer}

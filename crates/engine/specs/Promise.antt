@@ -1,22 +1,18 @@
 -- What every call promises: its answer, the whole controller and record after it, and the pool.
 -- Assumes nothing.
 use mathlib.Core.Path.{_≡_}
-use mathlib.Core.Logic.{_⊎_}
-use mathlib.Core.Bool.{Bool, true, false}
 use mathlib.Core.List.{List}
-use Prim.Native.Nat.{ℕ, _≤_, _<_}
+use Prim.Native.Nat.{ℕ}
 use Rattle.protocol.specs.Statement.{Stmt}
 use Rattle.protocol.specs.Controller as controller
 use Rattle.protocol.specs.Pool.{numberOf, pooled, hasRoom}
 use Rattle.protocol.specs.Run.{Call, setupCall, joinCall, leaveCall, sendCall, addCall, turnCall, outcome}
 use Rattle.engine.specs.declared.Controller.{Controller}
-use Rattle.pool.specs.declared.Placed as placing
-use Rattle.pool.specs.declared.Placed.the-variants.{At, Full}
-use Rattle.pool.specs.Pool.{stmtAt, poolLen, recordLen, recordIn, poolOf, AllIn}
+use Rattle.pool.specs.Pool.{recordIn, poolOf, AllIn}
 use Rattle.pool.specs.Changes.{pooledIn, PushedTo, Emptied}
 use Rattle.engine.specs.declared.Outcome.{Outcome}
 use Rattle.engine.specs.declared.Answer.{Answer}
-use Rattle.engine.specs.declared.Answer.the-variants.{Signed, Left, Quiet}
+use Rattle.engine.specs.declared.Answer.the-variants.{Signed}
 use Rattle.engine.specs.Meaning.{controllerIs, answerIs}
 
 -- What a call does to a record: nothing, it empties it, or it puts a statement at its end.
@@ -93,22 +89,6 @@ startedOf (controller.refused r) = unchanged
 unfoldable pub Starts : (List Stmt → controller.Outcome) → List ℕ → Controller → Outcome → List ℕ → Type 0
 Starts f R c r R′ = (W : List ℕ) → Meets W R c (f (recordIn W R)) (startedOf (f (recordIn W R) .answer)) r W R′
 
--- Statement n of the pool W′ is s, the pool is W with s, and it had room for s, as has the record R.
-pub record PlacedAs (W R : List ℕ) (s : Stmt) (n : ℕ) (W′ : List ℕ) : Type 0 where
-  pub short : recordLen R < 512
-  pub room : hasRoom (poolOf W) s ≡ true
-  pub number : n ≡ numberOf s (poolOf W)
-  pub is : stmtAt W′ n ≡ s
-  pub pool : Pooled s W W′
-  pub more : poolLen W ≤ poolLen W′
-  pub within : n < poolLen W′
-  pub same : (m : ℕ) → m < poolLen W → stmtAt W′ m ≡ stmtAt W m
-
--- s went into the pool W under the number that r tells; or the record R, or the pool, had no room, and nothing changed.
-pub record PlacedFor (W R : List ℕ) (s : Stmt) (r : placing.Placed) (W′ : List ℕ) : Type 0 where
-  pub full : r ≡ Full → ((512 ≤ recordLen R) ⊎ (hasRoom (poolOf W) s ≡ false)) × (W′ ≡ W)
-  pub at : (n : ℕ) → r ≡ At n → PlacedAs W R s n W′
-
 -- A turn: what it signs goes into the pool.
 abbrev pub Turns : List ℕ → List ℕ → Controller → controller.Outcome → Outcome → List ℕ → List ℕ → Type 0
 Turns W R c o r W′ R′ = Meets W R c o (signedOf (o .answer)) r W′ R′
@@ -126,11 +106,6 @@ addedOf (controller.refused r) s = unchanged
 -- An addition of s.
 abbrev pub Adds : List ℕ → List ℕ → Controller → Stmt → controller.Outcome → Outcome → List ℕ → List ℕ → Type 0
 Adds W R c s o r W′ R′ = Meets W R c o (addedOf (o .answer) s) r W′ R′
-
--- What a controller answers that has nothing to do.
-abbrev pub restIs : Bool → Answer
-restIs true = Left
-restIs false = Quiet
 
 -- ---- every call of a run
 

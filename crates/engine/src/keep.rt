@@ -1,7 +1,7 @@
 // A statement goes into the pool, for a record that has room for one more.
 ghost use Prim.Native.Nat.{_≤_};
 ghost use Rattle.statements.specs.Meaning.{stmtOf};
-ghost use Rattle.engine.specs.Promise.{PlacedFor};
+ghost use Rattle.engine.specs.Steps.{PlacedFor};
 use pool::POOL_WORDS;
 use pool::RECORD;
 use statements::Statement;

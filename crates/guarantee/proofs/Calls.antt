@@ -18,7 +18,6 @@ use Rattle.protocol.specs.Promises.{observed, Promises, NoConflict}
 use Rattle.protocol.proofs.Steps.{Next, waits, acts, Start, starts, begun, called, next}
 use Rattle.protocol.proofs.Promises.{promises, no-conflict}
 use Rattle.protocol.proofs.Carried.{carried, carried-no-conflict}
-use Rattle.views.specs.Table.{table}
 use Rattle.views.proofs.Tables.{table-length, table-cong}
 use Rattle.pool.specs.Pool.{stmtAt, poolLen, recordUpTo as recordAt, recordLen, recordIn, poolOf, AllIn, Grows}
 use Rattle.pool.specs.Changes.{Emptied}

@@ -17,7 +17,7 @@ use Rattle.protocol.proofs.Found.{none≢some, some-injective, filter-out}
 use Rattle.protocol.proofs.Counting.{count-mono}
 use Rattle.protocol.proofs.Different.{Different}
 use Rattle.protocol.proofs.Steps.{no-members}
-use Rattle.guarantee.specs.Calls.{refusalOf}
+use Rattle.guarantee.specs.Hosts.{refusalOf}
 
 -- ---- tests
 

@@ -6,7 +6,7 @@ use mathlib.Core.List.{List, [], _∷_, _++_, map, foldl, foldl-append, append-n
 use Prim.Native.Nat.{ℕ, zero, suc, _+_, _-_, _/_, _%_, _≤_, _<_, min}
 use native.Mathlib.Omega.{arith}
 use lib.Dec.{T, eqb, ltb}
-use lib.ListN.{length, getD, set, replicate, length-append, length-map, length-replicate, getD-replicate, List·getD-append, List·getD-map}
+use lib.ListN.{length, getD, set, replicate, length-append, length-map, length-replicate, List·getD-append, List·getD-map}
 use lib.Seq.{set-append-seam, ext-getD, getD-set-same}
 use Rattle.protocol.specs.Lists.{if_then_else_, any, all, isSome}
 use Rattle.protocol.specs.View.{View}
@@ -25,7 +25,8 @@ use Rattle.statements.specs.Meaning.{firstViews, bindingIs, payloadOf, stmtOf, 
 use Rattle.statements.proofs.FieldLaws.{views-length}
 use Rattle.statements.proofs.Fits.{keeps-fits}
 use Rattle.pool.specs.Pool.{stmtAt, poolWords, poolLen, poolOf, recordUpTo, recordLen, recordIn, AllIn, Grows}
-use Rattle.pool.specs.Changes.{headOf, headWord, Put, foundOf, pooledIn, PushedTo, Emptied}
+use Rattle.pool.specs.Steps.{Put, foundOf}
+use Rattle.pool.specs.Changes.{headOf, headWord, pooledIn, PushedTo, Emptied}
 use Rattle.pool.specs.Changes as memories
 use Rattle.pool.proofs.Parts.{head-back}
 use Rattle.pool.proofs.Writes.{stmts, flag-is, put-is}

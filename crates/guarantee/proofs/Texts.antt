@@ -25,7 +25,7 @@ use Rattle.statements.specs.Text.{parted, viewText}
 use Rattle.schedule.specs.Line.{Line, before, lines}
 use Rattle.bench.specs.Bench.{Bench, newBench, Reply, step}
 use Rattle.bench.specs.Rows.{wordText, valueText, rowText, headerText, rowsFrom}
-use Rattle.guarantee.specs.Calls.{refusalOf}
+use Rattle.guarantee.specs.Hosts.{refusalOf}
 use Rattle.guarantee.specs.Events.{afterLine, after}
 use Rattle.guarantee.proofs.Laws.{refusal-at}
 

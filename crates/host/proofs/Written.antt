@@ -13,7 +13,7 @@ use Rattle.statements.specs.declared.Statement.{Statement}
 use Rattle.statements.specs.declared.ReadStatement.{ReadStatement}
 use Rattle.statements.specs.Text.{text}
 use Rattle.statements.specs.Meaning.{stmtOf}
-use Rattle.statements.specs.Promise.{ReadOf, textFits, writtenCount, written}
+use Rattle.statements.specs.Promise.{ReadOf, isWritable, writtenCount, written}
 use Rattle.statements.proofs.Laws.{refused, text-some}
 use Rattle.statements.proofs.Fits.{keeps-fits}
 use Rattle.host.specs.Statement.{IsStatement, Again}
@@ -42,12 +42,12 @@ pub nothing : (S out : List ℕ) → (IsStatement S → ⊥) → Again S out 0 o
 nothing S out f = record { only = λ l. absurd (omega arith); none = λ e. refl; back = λ s l. absurd (f s) }
 
 module _ (S : List ℕ) (r : ReadStatement) (p : ReadOf S r) (out : List ℕ) where
-  roomy : (s : Statement) → s .history .len ≤ 16 → length (text (stmtOf s)) ≤ length out → textFits s out ≡ true
-  unfolding textFits
+  roomy : (s : Statement) → s .history .len ≤ 16 → length (text (stmtOf s)) ≤ length out → isWritable s out ≡ true
+  unfolding isWritable
   roomy s h l = rw (le-leb (s .history .len) 16 h, le-leb (length (text (stmtOf s))) (length out) l)
 
   module _ (ok : r .ok ≡ true) (rules : fieldRules 16 (stmtOf (r .statement)) ≡ true) where
-    room : (b : Bool) → textFits (r .statement) out ≡ b → Again S out (writtenCount (r .statement) out) (written (r .statement) out)
+    room : (b : Bool) → isWritable (r .statement) out ≡ b → Again S out (writtenCount (r .statement) out) (written (r .statement) out)
     unfolding writtenCount written
     room true e =
         let is : S ≡ text (stmtOf (r .statement)) = p .only ok in
@@ -59,4 +59,4 @@ module _ (S : List ℕ) (r : ReadStatement) (p : ReadOf S r) (out : List ℕ) wh
     room false e = rw e record { only = λ l. absurd (omega arith); none = λ z. refl; back = λ s l. absurd (false≢true (sym e ∙ roomy (r .statement) (p .short) (omega (arith, ap length (p .only ok))))) }
 
     pub again : (n : ℕ) (after : List ℕ) → n ≡ writtenCount (r .statement) out → after ≡ written (r .statement) out → Again S out n after
-    again n after e f = rw (e, f) (room (textFits (r .statement) out) refl)
+    again n after e f = rw (e, f) (room (isWritable (r .statement) out) refl)

@@ -113,7 +113,7 @@ pub record AddsText (S W W′ F R : List ℕ) (answer : ℕ) (F′ R′ value : 
 -- ---- calls of a run
 
 -- The call k of a run took place over the pool W, on the controller of F with the record R: the host got the answer and the value, and W′, F′ and R′ are what was left.
--- With this a host's calls make up a `HostRun` of crates/guarantee/specs/Calls.antt.
+-- With this a host's calls make up a `HostRun` of crates/guarantee/specs/Hosts.antt.
 pub record HostCalled (W F R : List ℕ) (k : Call) (answer : ℕ) (value W′ F′ R′ : List ℕ) : Type 0 where
   pub told : Answer
   pub answered : answer ≡ answerNumber told

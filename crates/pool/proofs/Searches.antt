@@ -28,7 +28,8 @@ use Rattle.statements.specs.Meaning.{stmtOf}
 use Rattle.pool.specs.declared.Found.the-variants as found
 use Rattle.pool.specs.declared.Placed.the-variants as placed
 use Rattle.pool.specs.Pool.{viewsFrom, lastWord, poolWords, headAt, word, viewWord, countOf, viewAt, stmtAt, poolLen, poolOf, recordUpTo}
-use Rattle.pool.specs.Changes.{headOf, isOther, owner, Beside, putAt, Put, poolNumber, foundOf, placedAt, pooledIn, Grown, Appended, Cleared}
+use Rattle.pool.specs.Steps.{isOther, Put, foundOf}
+use Rattle.pool.specs.Changes.{headOf, owner, Beside, putAt, poolNumber, placedAt, pooledIn, Grown, Appended, Cleared}
 use Rattle.pool.proofs.Parts.{low-parts}
 use Rattle.pool.proofs.Records.{entry}
 use Rattle.pool.proofs.Writes.{stmts, owner-low, owner-high, beside-put, beside-count, beside-same}

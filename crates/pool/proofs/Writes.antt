@@ -27,7 +27,8 @@ use Rattle.statements.specs.declared.Statement.{Statement}
 use Rattle.statements.specs.Meaning.{firstViews, stmtOf}
 use Rattle.statements.proofs.FieldLaws.{views-table}
 use Rattle.pool.specs.Pool.{viewsFrom, lastWord, poolWords, headAt, word, viewWord, countOf, viewAt, stmtAt}
-use Rattle.pool.specs.Changes.{owner, Beside, headWord, putAt, Put, IsHead}
+use Rattle.pool.specs.Steps.{IsHead, Put}
+use Rattle.pool.specs.Changes.{owner, Beside, headWord, putAt}
 
 -- statements are the same if their fields are
 pub stmts : {a b : Stmt} → a .kind ≡ b .kind → a .origin ≡ b .origin → a .at ≡ b .at → a .view ≡ b .view → a .binding ≡ b .binding → a .payload ≡ b .payload → a .stored ≡ b .stored → a .kept ≡ b .kept → a .views ≡ b .views → a ≡ b

@@ -3,7 +3,6 @@ ghost use mathlib.Core.Path.{_≡_};
 ghost use mathlib.Core.Bool.{cond};
 ghost use Prim.Native.Nat.{_<_, _≤_, min};
 ghost use lib.ListN.{length};
-ghost use Rattle.protocol.specs.Statement.{Stmt};
 ghost use Rattle.views.specs.View.{viewOf};
 ghost use Rattle.pool.specs.Pool.{viewsFrom, poolWords, headAt, word, viewAt, stmtAt, countOf, poolLen};
 ghost use Rattle.pool.specs.Changes.{headOf};

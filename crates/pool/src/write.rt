@@ -9,7 +9,8 @@ ghost use Rattle.statements.specs.Meaning.{firstViews, bindingIs, payloadOf, st
 ghost use Rattle.views.specs.Held.{viewsIs};
 ghost use Rattle.views.specs.View.{wordOf};
 ghost use Rattle.pool.specs.Pool.{lastWord, poolWords, stmtAt};
-ghost use Rattle.pool.specs.Changes.{headWord, IsHead, Put, Cleared};
+ghost use Rattle.pool.specs.Steps.{IsHead, Put};
+ghost use Rattle.pool.specs.Changes.{headWord, Cleared};
 use crate::AT;
 use crate::KEPT;
 use crate::LAST;

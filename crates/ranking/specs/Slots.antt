@@ -10,7 +10,6 @@ use lib.ListN.{getD, length}
 use Rattle.protocol.specs.Lists.{if_then_else_, _∈_}
 use Rattle.protocol.specs.View.{View, size, Within}
 use Rattle.protocol.specs.History.{Holds}
-use Rattle.views.specs.Table.{table}
 use Rattle.views.specs.View.{viewOf, viewsOf}
 use Rattle.pool.specs.Pool.{stmtAt}
 use Rattle.tables.specs.Index.{numberAt}

@@ -4,7 +4,7 @@ use Prim.Native.Nat.{ℕ, _≤_}
 use mathlib.Core.Path.{_≡_, sym, subst}
 use lib.ListN.{length, replicate, length-replicate}
 use Rattle.ring_bench.specs.declared.Input.{Input}
-use Rattle.ring_bench.specs.declared.Input.the-variants.{Bytes, Failed}
+use Rattle.ring_bench.specs.declared.Input.the-variants.{Bytes}
 use Rattle.ring_bench.specs.Program.{InputWithin}
 
 pub bytes-within : (r : Input) (n size : ℕ) → r ≡ Bytes n → InputWithin r size → n ≤ size

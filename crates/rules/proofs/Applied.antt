@@ -34,7 +34,8 @@ use Rattle.rules.specs.declared.OptionalPayload.the-variants.{Nothing, P
 use Rattle.rules.specs.declared.Situation.{Situation}
 use Rattle.rules.specs.declared.Action.{Action}
 use Rattle.rules.specs.declared.Action.the-variants.{Rest, Report, Enter, AgreeView, AgreeHistory, Ack, Store, Deliver, Join, Leave, Prepare}
-use Rattle.rules.specs.Actions.{payloadIs, statementOf, actionIs, acts}
+use Rattle.rules.specs.Payloads.{payloadIs}
+use Rattle.rules.specs.Actions.{statementOf, actionIs, acts}
 use Rattle.rules.specs.Rules.{ownKind, ownAt, firstPrepare, reportDue, Owns, SituationOf, Lent, statements, ownStatements, candidateViews, greatestViews, AllLent, Rule, Does, Acks}
 use Rattle.rules.proofs.Action as action
 use Rattle.rules.proofs.Scans.{owns-same, owns-at, owns-kind}

@@ -3,25 +3,16 @@
 use mathlib.Core.Bool.{Bool, true, false}
 use mathlib.Core.List.{List}
 use mathlib.Core.Option.{Option, some, none}
-use Prim.Native.Nat.{ℕ}
-use lib.ListN.{getD}
 use Rattle.protocol.specs.View.{View}
 use Rattle.protocol.specs.Statement.{Stmt, join, leave, agreeView, agreeHistory, report, prepare, ack, store}
 use Rattle.protocol.specs.Turn as turn
-use Rattle.views.specs.Table.{table}
 use Rattle.views.specs.View.{viewIn}
 use Rattle.views.specs.Held.{viewIs}
 use Rattle.statements.specs.Meaning.{bindingIs}
 use Rattle.evidence.specs.Evidence.{certificateOf}
-use Rattle.rules.specs.declared.OptionalPayload.{OptionalPayload}
-use Rattle.rules.specs.declared.OptionalPayload.the-variants.{Nothing, Payload}
 use Rattle.rules.specs.declared.Situation.{Situation}
 use Rattle.rules.specs.declared.Action.{Action}
 use Rattle.rules.specs.declared.Action.the-variants.{Rest, Report, Enter, AgreeView, AgreeHistory, Ack, Store, Deliver, Join, Leave, Prepare}
-
-abbrev pub payloadIs : OptionalPayload → Option ℕ
-payloadIs Nothing = none
-payloadIs (Payload m) = some m
 
 -- The statement that an action signs in the situation s, where H has all candidates. Of an action that signs none it means nothing.
 unfoldable pub statementOf : Situation → List View → Action → Stmt

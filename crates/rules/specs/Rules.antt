@@ -20,7 +20,8 @@ use Rattle.evidence.specs.Evidence.{ringIs, certificateOf}
 use Rattle.rules.specs.declared.OptionalPayload.{OptionalPayload}
 use Rattle.rules.specs.declared.Situation.{Situation}
 use Rattle.rules.specs.declared.Action.{Action}
-use Rattle.rules.specs.Actions.{payloadIs, actionIs}
+use Rattle.rules.specs.Payloads.{payloadIs}
+use Rattle.rules.specs.Actions.{actionIs}
 
 -- ---- what is asked of the record
 

@@ -3,7 +3,7 @@ ghost use mathlib.Core.Path.{_≡_};
 ghost use Rattle.protocol.specs.Lists.{any};
 ghost use Rattle.views.specs.View.{viewOf};
 ghost use Rattle.pool.specs.Pool.{stmtAt, recordIn};
-ghost use Rattle.rules.specs.Actions.{payloadIs};
+ghost use Rattle.rules.specs.Payloads.{payloadIs};
 ghost use Rattle.rules.specs.Rules.{ownKind, ownAt, firstPrepare, Owns};
 use crate::OptionalPayload;
 use pool::POOL_WORDS;

@@ -8,8 +8,8 @@ use Prim.Native.Nat.{ℕ, zero, suc, _+_, _≤_, _<_, _^_, min}
 use native.Mathlib.Decide.{decLt}
 use native.Mathlib.Omega.{arith}
 use lib.Dec.{eqb, leb, ltb}
-use lib.ListN.{length, getD}
-use borrow.Author.Tests.{eq-eqb, ne-eqb, le-leb, lt-leb, lt-ltb}
+use lib.ListN.{length}
+use borrow.Author.Tests.{ne-eqb, le-leb, lt-leb, lt-ltb}
 use Rattle.protocol.specs.Lists.{all}
 use Rattle.protocol.specs.View.{View, isView, hasMembers}
 use Rattle.protocol.specs.Statement.{Stmt, noView, noAt, noViewField, noBinding, noPayload, noKept, noViews, isRising, viewsRule, reportRule, kindRule, fieldRules, bindingNumber}

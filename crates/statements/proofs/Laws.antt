@@ -24,7 +24,7 @@ use Rattle.statements.specs.declared.Statement.{Statement}
 use Rattle.statements.specs.declared.ReadStatement.{ReadStatement}
 use Rattle.statements.specs.Text.{text}
 use Rattle.statements.specs.Meaning.{firstViews, bindingIs, payloadOf, stmtOf, EachFits, Fits}
-use Rattle.statements.specs.Promise.{ReadOf, textFits, writtenCount, written}
+use Rattle.statements.specs.Promise.{ReadOf, isWritable, writtenCount, written}
 use Rattle.statements.proofs.Fields.{held-fits}
 use Rattle.statements.proofs.Views.{first-long}
 use Rattle.statements.proofs.Statements.{fromOrigin, text-is}
@@ -78,7 +78,7 @@ fits-of s k o b p e n = record {
 pub text-some : (t : Stmt) → 0 < length (text t)
 text-some t = omega (arith, ap length (text-is t) ∙ length-append (decText (t .kind)) (fromOrigin t), some-long (t .kind))
 
-module _ (s : Statement) (out : List ℕ) (room : textFits s out ≡ true) where
+module _ (s : Statement) (out : List ℕ) (room : isWritable s out ≡ true) where
   pub count-is : writtenCount s out ≡ length (text (stmtOf s))
   unfolding writtenCount
   count-is = rw room
@@ -87,7 +87,7 @@ module _ (s : Statement) (out : List ℕ) (room : textFits s out ≡ true) where
   count-some = omega (arith, count-is, text-some (stmtOf s))
 
   enough : length (text (stmtOf s)) ≤ length out
-  unfolding textFits
+  unfolding isWritable
   enough = leb-true (length (text (stmtOf s))) (length out) (right (leb (s .history .len) 16) (leb (length (text (stmtOf s))) (length out)) room)
     where
       right : (a b : Bool) → (a && b) ≡ true → b ≡ true

@@ -1,6 +1,6 @@
 -- A whole statement: its parts, read one after the other, are its text, and its text gives them back.
 -- Assumes nothing.
-use Prim.Native.Nat.{ℕ, zero, suc, _+_, _*_, _<_, _≤_}
+use Prim.Native.Nat.{ℕ, zero, suc, _+_, _≤_}
 use native.Mathlib.Omega.{arith}
 use mathlib.Core.Path.{_≡_, refl, sym, ap, _∙_}
 use mathlib.Core.Bool.{Bool, true, false, cond}
@@ -8,7 +8,6 @@ use mathlib.Core.List.{List, [], _∷_, _++_, map, append-nil}
 use lib.Dec.{eqb}
 use lib.ListN.{length, drop}
 use Rattle.text.specs.declared.Read.{Read}
-use Rattle.text.specs.declared.Read.the-variants.{Got, Refused}
 use Rattle.text.specs.Text.{decText}
 use Rattle.text.specs.Scan.{Stops, decAt}
 use Rattle.text.proofs.Laws.{after, dec-at, dec-only}
@@ -19,7 +18,6 @@ use Rattle.statements.specs.declared.ViewPart.{ViewPart}
 use Rattle.statements.specs.declared.ViewsPart.{ViewsPart}
 use Rattle.statements.specs.declared.Binding.{Binding}
 use Rattle.statements.specs.declared.Statement.{Statement}
-use Rattle.statements.specs.declared.ReadStatement.{ReadStatement}
 use Rattle.statements.specs.Text.{parted, viewText, text}
 use Rattle.views.specs.Held.{viewIs}
 use Rattle.statements.specs.Meaning.{firstViews, bindingIs, payloadOf, stmtOf, Fits}

@@ -3,9 +3,8 @@
 use Prim.Native.Nat.{ℕ, _+_, _*_, _<_, _≤_}
 use native.Mathlib.Omega.{arith}
 use mathlib.Core.Path.{_≡_, refl, sym, ap, _∙_}
-use mathlib.Core.Bool.{Bool, true, false, cond, _&&_}
-use mathlib.Core.List.{List, [], _∷_, _++_, append-assoc}
-use lib.Dec.{leb}
+use mathlib.Core.Bool.{Bool, true, false, cond}
+use mathlib.Core.List.{List, _∷_, _++_, append-assoc}
 use lib.ListN.{length, length-append}
 use lib.Seq.{sets}
 use borrow.Author.Tests.{le-leb, lt-leb}
@@ -21,7 +20,7 @@ use Rattle.statements.specs.declared.Statement.{Statement}
 use Rattle.statements.specs.Text.{viewText, text}
 use Rattle.views.specs.Held.{viewIs}
 use Rattle.statements.specs.Meaning.{firstViews, bindingIs, payloadOf, stmtOf}
-use Rattle.statements.specs.Promise.{textFits, writtenCount, written}
+use Rattle.statements.specs.Promise.{isWritable, writtenCount, written}
 use Rattle.statements.specs.Parts.{tailText, firstText, secondText}
 use Rattle.statements.proofs.Fields.{view-long}
 use Rattle.statements.proofs.Views.{first-long, tail-long}
@@ -91,15 +90,15 @@ module _ (s : Statement) where
 
   module _ (out : List ℕ) where
     pub too-many : 16 < s .history .len → (0 ≡ writtenCount s out) × (out ≡ written s out)
-    unfolding writtenCount written textFits
+    unfolding writtenCount written isWritable
     too-many h = rw (lt-leb _ _ h) (refl, refl)
 
     pub too-short : s .history .len ≤ 16 → length out < length (text (stmtOf s)) → (0 ≡ writtenCount s out) × (out ≡ written s out)
-    unfolding writtenCount written textFits
+    unfolding writtenCount written isWritable
     too-short few h = rw (le-leb _ _ few) (rw (lt-leb _ _ h) (refl, refl))
 
     pub wrote : (n : ℕ) (out′ : List ℕ) → s .history .len ≤ 16 → length (text (stmtOf s)) ≤ length out → n ≡ length (text (stmtOf s)) → out′ ≡ sets out 0 (text (stmtOf s)) → (n ≡ writtenCount s out) × (out′ ≡ written s out)
-    unfolding writtenCount written textFits
+    unfolding writtenCount written isWritable
     wrote n out′ few h en eo = rw (le-leb _ _ few) (rw (le-leb _ _ h) (en, eo))
 
     module _ (b p z : ℕ) (eb : b ≡ bindingNumber (bindingIs (s .binding))) (ep : p ≡ payloadOf (s .binding) (s .payload)) (ez : z ≡ cond (s .stored) 1 0) where

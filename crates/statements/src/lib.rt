@@ -9,7 +9,7 @@ ghost use Rattle.protocol.specs.Statement.{bindingNumber};
 ghost use Rattle.text.specs.Text.{decText};
 ghost use Rattle.statements.specs.Text.{viewText, text};
 ghost use Rattle.views.specs.Held.{viewIs};
-ghost use Rattle.statements.specs.Meaning.{firstViews, bindingIs, payloadOf, stmtOf};
+ghost use Rattle.statements.specs.Meaning.{firstViews, bindingIs, payloadOf};
 ghost use Rattle.statements.specs.Promise.{ReadOf, writtenCount, written};
 ghost use Rattle.statements.specs.Parts.{Bounded, NumberAt, ViewAt, ViewsAt, bindingFrom, firstText, secondText, tailText};
 

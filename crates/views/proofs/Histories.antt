@@ -16,8 +16,8 @@ use Rattle.protocol.specs.History.{sameViews, last, top, rising, isHistory}
 use Rattle.protocol.specs.Statement.{isRising}
 use Rattle.protocol.proofs.Decided.{says-sames}
 use Rattle.views.specs.Table.{table}
-use Rattle.views.proofs.Tables.{all-append, table-length, tables-at, all-suc}
-use Rattle.views.proofs.Views.{passes, fails, same-yes, same-no}
+use Rattle.views.proofs.Tables.{all-append, table-length, tables-at}
+use Rattle.views.proofs.Views.{passes, fails}
 
 -- a test of one view, and of two, asked of equal ones
 

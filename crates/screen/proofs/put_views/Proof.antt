@@ -1,6 +1,5 @@
 use borrow.Author.Needs.{needs}
 use native.Mathlib.Omega.{arith}
-use mathlib.Core.Path.{_∙_}
 use Rattle.screen.proofs.ScreenLaws.{words-long, count-most, both, number-wrote}
 use Rattle.screen.proofs.put_views.Statement.{statement}
 use Rattle.screen.proofs.put_views.Tie as tie

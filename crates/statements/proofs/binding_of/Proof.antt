@@ -1,6 +1,4 @@
-use native.Mathlib.Omega.{arith}
 use borrow.Author.Tests.{eq-eqb, ne-eqb}
-use borrow.Author.Needs.{needs}
 use Rattle.statements.proofs.binding_of.Statement.{statement}
 use Rattle.statements.proofs.binding_of.Tie as tie
 use Rattle.statements.proofs.binding_of.Reads as reads

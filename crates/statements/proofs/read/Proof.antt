@@ -1,5 +1,5 @@
 use native.Mathlib.Omega.{arith}
-use Rattle.statements.proofs.Statements.{Chain, read-of}
+use Rattle.statements.proofs.Statements.{read-of}
 use borrow.Author.Needs.{needs}
 use Rattle.statements.proofs.read.Statement.{statement}
 use Rattle.statements.proofs.read.Tie as tie

@@ -1,6 +1,6 @@
 use native.Mathlib.Omega.{arith}
 use Prim.Native.Nat.{_-_, _≤_}
-use mathlib.Core.Path.{_≡_, refl}
+use mathlib.Core.Path.{refl}
 use Rattle.statements.proofs.Views.{SoFar, so-far-first, so-far-next, so-far-more, so-far-whole}
 use borrow.Author.Needs.{needs}
 use Rattle.statements.proofs.views_at.Statement.{statement}

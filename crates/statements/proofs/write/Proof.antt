@@ -1,11 +1,8 @@
 use native.Mathlib.Omega.{arith}
-use Prim.Native.Nat.{ℕ, _+_, _*_, _≤_}
-use mathlib.Core.Path.{_≡_, refl, sym, ap, _∙_}
-use mathlib.Core.List.{_∷_}
+use Prim.Native.Nat.{ℕ}
+use mathlib.Core.Path.{refl, ap, _∙_}
 use lib.ListN.{length}
 use Rattle.text.specs.Text.{decText}
-use Rattle.statements.specs.Text.{text}
-use Rattle.statements.specs.Meaning.{stmtOf}
 use Rattle.statements.proofs.Written.{too-many, too-short, wrote, text-size, sizes, all-runs, bool-byte}
 use borrow.Author.Needs.{needs}
 use Rattle.statements.proofs.write.Statement.{statement}

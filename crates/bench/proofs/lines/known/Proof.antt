@@ -1,4 +1,3 @@
-use native.Mathlib.Omega.{arith}
 use Rattle.bench.proofs.Runs.{full-whole, full-before}
 use borrow.Author.Needs.{needs}
 use Rattle.bench.proofs.lines.known.Statement.{statement}

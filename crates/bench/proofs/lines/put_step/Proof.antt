@@ -1,4 +1,3 @@
-use native.Mathlib.Omega.{arith}
 use Rattle.bench.proofs.Runs.{put-answer}
 use borrow.Author.Needs.{needs}
 use Rattle.bench.proofs.lines.put_step.Statement.{statement}

@@ -1,6 +1,5 @@
 use borrow.Author.Needs.{needs}
-use native.Mathlib.Omega.{arith}
-use mathlib.Core.Path.{_≡_, refl, sym, ap, _∙_}
+use mathlib.Core.Path.{sym, ap, _∙_}
 use Rattle.bench.specs.Seats.{valueOfAnswer}
 use Rattle.bench.specs.declared.row.Value.the-variants.{Number}
 use Rattle.bench.proofs.lines.value_of.Statement.{statement}

@@ -1,4 +1,3 @@
-use native.Mathlib.Omega.{arith}
 use Rattle.bench.proofs.Seats.{calls-join, calls-leave, calls-send, calls-turn}
 use Rattle.bench.proofs.States.{last-call}
 use borrow.Author.Needs.{needs}

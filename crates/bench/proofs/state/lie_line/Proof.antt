@@ -1,4 +1,3 @@
-use native.Mathlib.Omega.{arith}
 use borrow.Author.Tests.{not-true, not-false}
 use Rattle.bench.proofs.States.{at-told, at-untold}
 use borrow.Author.Needs.{needs}

@@ -1,4 +1,3 @@
-use native.Mathlib.Omega.{arith}
 use borrow.Author.Tests.{not-true, not-false}
 use Rattle.bench.proofs.States.{no-statement-early, no-statement-bad}
 use borrow.Author.Needs.{needs}

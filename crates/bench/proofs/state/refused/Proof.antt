@@ -1,4 +1,3 @@
-use native.Mathlib.Omega.{arith}
 use Rattle.bench.proofs.States.{told-as}
 use borrow.Author.Needs.{needs}
 use Rattle.bench.proofs.state.refused.Statement.{statement}

@@ -1,4 +1,3 @@
-use native.Mathlib.Omega.{arith}
 use mathlib.Core.Path.{refl}
 use Rattle.bench.proofs.States.{last-other, fit-lie, at-pool, at-give, at-all, at-lie}
 use borrow.Author.Needs.{needs}

@@ -1,4 +1,3 @@
-use native.Mathlib.Omega.{arith}
 use borrow.Author.Tests.{not-true, not-false}
 use Rattle.engine.specs.declared.Refusal.the-variants.{OutOfPlace}
 use Rattle.engine.proofs.Turned.{turn-unready, turn-refused, ring-is, turn-split, turn-crowded, looking, choosing, doing, turn-acts}

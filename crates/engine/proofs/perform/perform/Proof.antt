@@ -1,4 +1,3 @@
-use native.Mathlib.Omega.{arith}
 use Rattle.rules.proofs.Applied.{signs-else}
 use Rattle.engine.proofs.Performs.{rest-is, enter-is, deliver-is, ack-is, sign-is}
 use borrow.Author.Needs.{needs}

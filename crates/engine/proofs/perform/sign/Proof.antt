@@ -1,4 +1,3 @@
-use native.Mathlib.Omega.{arith}
 use Rattle.engine.proofs.Performs.{sign-full, sign-kept}
 use borrow.Author.Needs.{needs}
 use Rattle.engine.proofs.perform.sign.Statement.{statement}

@@ -1,7 +1,7 @@
 use borrow.Author.Needs.{needs}
 use native.Mathlib.Omega.{arith}
 use mathlib.Core.Path.{_≡_, sym}
-use mathlib.Core.Bool.{true, not}
+use mathlib.Core.Bool.{true}
 use Prim.Native.Nat.{_-_, _≤_}
 use Rattle.protocol.specs.Lists.{all}
 use Rattle.views.specs.Table.{table}

@@ -1,6 +1,4 @@
-use mathlib.Core.Path.{_≡_}
 use borrow.Author.Tests.{eq-eqb, ne-eqb}
-use borrow.Author.Needs.{needs}
 use Rattle.host.proofs.held.binding_in.Statement.{statement}
 use Rattle.host.proofs.held.binding_in.Tie as tie
 use Rattle.host.proofs.held.binding_in.Reads as reads

@@ -1,5 +1,4 @@
 use borrow.Author.Tests.{eq-eqb, ne-eqb}
-use borrow.Author.Needs.{needs}
 use Rattle.host.proofs.held.send_in.Statement.{statement}
 use Rattle.host.proofs.held.send_in.Tie as tie
 use Rattle.host.proofs.held.send_in.Reads as reads

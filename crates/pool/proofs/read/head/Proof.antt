@@ -1,4 +1,3 @@
-use native.Mathlib.Omega.{arith}
 use Rattle.pool.proofs.Searches.{head-at}
 use borrow.Author.Needs.{needs}
 use Rattle.pool.proofs.read.head.Statement.{statement}

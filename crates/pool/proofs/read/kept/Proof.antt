@@ -1,4 +1,3 @@
-use native.Mathlib.Omega.{arith}
 use Rattle.pool.specs.Pool.{stmtAt}
 use borrow.Author.Needs.{needs}
 use Rattle.pool.proofs.read.kept.Statement.{statement}

@@ -1,5 +1,5 @@
 use native.Mathlib.Omega.{arith}
-use mathlib.Core.Path.{sym, ap, _∙_}
+use mathlib.Core.Path.{_∙_}
 use Rattle.statements.specs.Meaning.{stmtOf}
 use Rattle.views.proofs.Views.{view-whole}
 use Rattle.pool.proofs.Laws.{at-fits, view-fits}

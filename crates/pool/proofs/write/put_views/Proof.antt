@@ -2,7 +2,6 @@ use borrow.Author.Needs.{needs}
 use native.Mathlib.Omega.{arith}
 use mathlib.Core.Path.{_≡_}
 use Prim.Native.Nat.{_-_, _≤_}
-use lib.ListN.{length}
 use lib.Seq.{sets}
 use Rattle.views.specs.Table.{table}
 use Rattle.pool.proofs.Writes.{heldWord, word-of, none-written, one-written, wrote-views}

@@ -1,4 +1,3 @@
-use native.Mathlib.Omega.{arith}
 use Rattle.rules.proofs.Applied.{rest-made, report-made, enter-made, view-made, history-made, ack-made, store-made, deliver-made, join-made, leave-made, prepare-made}
 use borrow.Author.Needs.{needs}
 use Rattle.rules.proofs.made.statement.Statement.{statement}

@@ -1,4 +1,3 @@
-use native.Mathlib.Omega.{arith}
 use borrow.Author.Tests.{not-true, not-false}
 use Rattle.rules.proofs.Applied.{stop, go, done, does, sixth, own-yes, own-no}
 use borrow.Author.Needs.{needs}

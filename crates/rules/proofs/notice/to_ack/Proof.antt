@@ -1,4 +1,3 @@
-use native.Mathlib.Omega.{arith}
 use Rattle.rules.proofs.Applied.{ack-bound, ack-barred, ack-outside, ack-first}
 use borrow.Author.Needs.{needs}
 use Rattle.rules.proofs.notice.to_ack.Statement.{statement}

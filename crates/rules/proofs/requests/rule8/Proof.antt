@@ -1,4 +1,3 @@
-use native.Mathlib.Omega.{arith}
 use borrow.Author.Tests.{not-true, not-false}
 use Rattle.rules.proofs.Applied.{stop, go, done, does, eighth, signed-before, not-signed}
 use borrow.Author.Needs.{needs}

@@ -2,7 +2,6 @@ use borrow.Author.Needs.{needs}
 use native.Mathlib.Omega.{arith}
 use lib.Dec.{eqb}
 use Prim.Native.Nat.{_-_, _≤_}
-use mathlib.Core.Path.{refl}
 use Rattle.evidence.proofs.Listing.{Sifted, more-fits, sifted-none, sifted-next, sifted-whole}
 use Rattle.rules.proofs.Scans.{isOf, of-is, owns-all}
 use Rattle.rules.proofs.signed.own_of.Statement.{statement}

@@ -8,7 +8,7 @@ use Rattle.pool.specs.Pool.{recordIn}
 use Rattle.tables.specs.Index.{keyAt}
 use Rattle.sealing.specs.Memos.{Later}
 use Rattle.sealing.proofs.Laws as laws
-use Prim.Native.Nat.{ℕ, _<_}
+use Prim.Native.Nat.{ℕ}
 use borrow.Fn.Kinds.{In}
 use borrow.Fn.PlainCycle.{Measures, is, falls, and}
 use Rattle.sealing.proofs.cycle.candidate.Reads as candidate

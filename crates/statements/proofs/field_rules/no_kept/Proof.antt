@@ -1,5 +1,3 @@
-use borrow.Author.Needs.{needs}
-use native.Mathlib.Omega.{arith}
 use Rattle.statements.proofs.FieldLaws.{no-kept-is}
 use Rattle.statements.proofs.field_rules.no_kept.Statement.{statement}
 use Rattle.statements.proofs.field_rules.no_kept.Tie as tie

@@ -1,4 +1,3 @@
-use native.Mathlib.Omega.{arith}
 use Rattle.statements.proofs.FieldLaws.{report-rule-is}
 use borrow.Author.Needs.{needs}
 use Rattle.statements.proofs.field_rules.report_rule.Statement.{statement}

@@ -1,6 +1,6 @@
 use borrow.Author.Needs.{needs}
 use native.Mathlib.Omega.{arith}
-use mathlib.Core.Path.{sym, _∙_}
+use mathlib.Core.Path.{_∙_}
 use Rattle.tables.specs.Index.{slotOf, slotAt}
 use Rattle.tables.proofs.Searches.{Walked, walked-first, walked-next, older-most, HasKey, walked-found, walked-none, key-slot}
 use Rattle.tables.proofs.search.walk.Statement.{statement}

@@ -1,4 +1,3 @@
-use native.Mathlib.Omega.{arith}
 use Rattle.protocol.specs.History.{last}
 use Rattle.views.specs.Held.{viewIs}
 use Rattle.views.proofs.Histories.{last-none, last-some}

@@ -1,5 +1,3 @@
-use borrow.Author.Needs.{needs}
-use native.Mathlib.Omega.{arith}
 use mathlib.Core.Path.{refl}
 use Rattle.views.proofs.Held.{none-held}
 use Rattle.views.proofs.History.new.Statement.{statement}

@@ -1,5 +1,4 @@
 use Rattle.views.proofs.Held.{set-low}
-use borrow.Author.Needs.{needs}
 use Rattle.views.proofs.View.left_set.Statement.{statement}
 use Rattle.views.proofs.View.left_set.Tie as tie
 use Rattle.views.proofs.View.left_set.Reads as reads

@@ -1,4 +1,3 @@
-use native.Mathlib.Omega.{arith}
 use lib.Bits.{and-le-l}
 use Rattle.views.proofs.Held.{members-are}
 use borrow.Author.Needs.{needs}

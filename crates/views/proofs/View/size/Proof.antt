@@ -1,4 +1,3 @@
-use native.Mathlib.Omega.{arith}
 use mathlib.Core.Path.{ap, _∙_}
 use Rattle.protocol.specs.View.{size}
 use borrow.Author.Needs.{needs}

@@ -1,4 +1,3 @@
-use native.Mathlib.Omega.{arith}
 use Rattle.views.proofs.Held.{word-is}
 use borrow.Author.Needs.{needs}
 use Rattle.views.proofs.View.word.Statement.{statement}

@@ -1,5 +1,3 @@
-use borrow.Author.Needs.{needs}
-use native.Mathlib.Omega.{arith}
 use Rattle.views.proofs.Views.{narrow-is}
 use Rattle.views.proofs.words.narrow.Statement.{statement}
 use Rattle.views.proofs.words.narrow.Tie as tie
