@@ -31,7 +31,7 @@ use Rattle.engine.specs.declared.Controller.{Controller}
 use Rattle.rules.specs.declared.Situation.{Situation}
 use Rattle.engine.specs.Meaning.{controllerIs}
 use Rattle.rules.specs.Rules.{SituationOf}
-use Rattle.engine.specs.SituationFrom.{notAbove, RingOf, SituationFrom}
+use Rattle.engine.specs.Situation.{notAbove, RingOf, SituationFrom}
 
 views-count : (h : History) → length (viewsIs h) ≡ min (h .len) 16
 unfolding viewsIs

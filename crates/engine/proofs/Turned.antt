@@ -34,7 +34,7 @@ use Rattle.engine.specs.declared.Refusal.the-variants.{ManyCandidates, C
 use Rattle.engine.specs.declared.Answer.the-variants.{Refused}
 use Rattle.engine.specs.Meaning.{controllerIs, refusalIs}
 use Rattle.engine.specs.Promise.{Turns}
-use Rattle.engine.specs.SituationFrom.{RingOf, SituationFrom}
+use Rattle.engine.specs.Situation.{RingOf, SituationFrom}
 use Rattle.engine.proofs.Requests.{refused-so}
 use Rattle.engine.proofs.Situations.{of-controller, init-fits, read-whole}
 

@@ -3,7 +3,7 @@ ghost use mathlib.Core.Path.{_≡_};
 ghost use Prim.Native.Nat.{_≤_, _<_};
 ghost use Rattle.protocol.specs.Lists.{all};
 ghost use Rattle.views.specs.Held.{viewIs, viewsIs};
-ghost use Rattle.engine.specs.SituationFrom.{notAbove, RingOf, SituationFrom};
+ghost use Rattle.engine.specs.Situation.{notAbove, RingOf, SituationFrom};
 use crate::Controller;
 use evidence::Evidence;
 use evidence::Ring;
