@@ -7,12 +7,12 @@ use pool::RECORD;
 use statements::Statement;
 
 // The number of the statement in the pool; or there is no room in the record, or none in the pool, which lacks the statement.
-pub fn place(words: &mut [u64; POOL_WORDS], ids: &[u16; RECORD], st: Statement) -> pool::PlacedFor
+pub fn place(words: &mut [u64; POOL_WORDS], ids: &[u16; RECORD], st: Statement) -> pool::Placed
     requires { ⌜ st .history .len ≤ 16 ⌝ }
     ensures { λ r. ⌜ PlacedFor (now (words .entry)) (now (ids .entry)) (stmtOf st) r (now (words .exit)) ⌝ }
 {
     if pool::record_length(ids) >= 512 {
-        return pool::PlacedFor::Full;
+        return pool::Placed::Full;
     }
     pool::append(words, st)
 }
