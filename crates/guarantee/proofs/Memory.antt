@@ -154,7 +154,7 @@ all-in-pool (s ∷ P) Q W l e h t =
     ∙ append-assoc Q (s ∷ []) P
 
 no-pool : (length zeros ≡ poolWords) × (poolOf zeros ≡ [])
-unfolding zeros poolOf poolOf
+unfolding zeros poolOf
 no-pool = (length-replicate {A = ℕ} poolWords 0, fresh poolWords .1)
 
 -- a statement is found where the pool has it

@@ -22,7 +22,7 @@ use Rattle.pool.specs.declared.Placed.{Placed}
 use Rattle.pool.specs.Pool.{stmtAt, countOf, viewAt, poolLen}
 use Rattle.pool.specs.Changes.{Appended}
 use Rattle.host.specs.Statement.{IsStatement}
-use Rattle.pekdrav.specs.Pooled.{placeNumber, AppendedText, Texted}
+use Rattle.pekdrav.specs.Pooled.{placeNumber, AppendedText, textFits, Texted}
 use Rattle.host.proofs.Written.{is-statement}
 
 pub stayed : (S W : List ℕ) → (IsStatement S → ⊥) → AppendedText S W 513 W
@@ -42,7 +42,7 @@ went-in S r p ok k W W′ placed a n e =
 
 module _ (W : List ℕ) (n : ℕ) (out : List ℕ) where
   pub no-text : poolLen W ≤ n → Texted W n out 0 out
-  unfolding isWritable
+  unfolding textFits
   no-text h = record { count = rw (le-ltb n (poolLen W) h); is = rw (le-ltb n (poolLen W) h) }
 
   module _ (st : Statement) (e : stmtOf st ≡ stmtAt W n) where
@@ -53,8 +53,8 @@ module _ (W : List ℕ) (n : ℕ) (out : List ℕ) where
         let b : length (firstViews (st .history .len) (st .history .views)) ≡ st .history .len = ap length (views-table (st .history .len) (st .history .views)) ∙ table-length (st .history .len) (heldAt (st .history .views)) in
         omega (arith, table-length (countOf W n) (viewAt W n))
 
-    room : n < poolLen W → isWritable st out ≡ isWritable W n out
-    unfolding isWritable isWritable
+    room : n < poolLen W → isWritable st out ≡ textFits W n out
+    unfolding isWritable textFits
     room h = rw (le-leb (st .history .len) 16 short, lt-ltb n (poolLen W) h, e)
 
     pub texted : n < poolLen W → (r : ℕ) (after : List ℕ) → (r ≡ writtenCount st out) × (after ≡ written st out) → Texted W n out r after
