@@ -2,9 +2,9 @@
 
 use std::hint::black_box;
 
-use compare::evidence::{lend, word, Lent};
+use compare::evidence::{lend, Lent};
 use compare::records::{breadth, depth, mixed, pool_of, Case};
-use pekdrav::{tell, TOLD};
+use pekdrav::EvidenceWords;
 use reference::Evidence;
 
 use crate::measure::{head, measure, row};
@@ -16,9 +16,9 @@ fn honest(count: usize) -> Vec<Case> {
 }
 
 fn mine(cases: &[(Case, Lent)]) {
-    let mut out = [0; TOLD];
-    for (case, lent) in cases {
-        tell(&lent.words, black_box(&lent.ids), word(case.initial), case.sender, &mut out);
+    let mut out = EvidenceWords::default();
+    for (_, lent) in cases {
+        black_box(&lent.record).evidence_into(&lent.pool, lent.ring, &mut out);
         black_box(&out);
     }
 }

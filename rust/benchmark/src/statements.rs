@@ -4,6 +4,7 @@ use std::hint::black_box;
 
 use compare::lines::{line, Damage, DAMAGES};
 use generate::Rng;
+use pekdrav::statement::{rewrite, TEXT_MAX};
 use reference::Statement;
 
 use crate::measure::{head, measure, row};
@@ -27,16 +28,16 @@ fn lines(damages: &[Damage], keep: impl Fn(Option<Statement>) -> bool) -> Vec<Ve
 }
 
 fn mine(lines: &[Vec<u8>]) {
-    let mut out = [0u8; 256];
+    let mut out = [0u8; TEXT_MAX];
     for line in lines {
-        black_box(pekdrav::statement(black_box(line), &mut out));
+        black_box(rewrite(black_box(line), &mut out));
         black_box(&out);
     }
 }
 
 /// The text goes into memory that is kept, as the proved code's does.
 fn theirs(lines: &[Vec<u8>]) {
-    let mut out = Vec::with_capacity(256);
+    let mut out = Vec::with_capacity(TEXT_MAX);
     for line in lines {
         out.clear();
         if let Some(statement) = Statement::read(black_box(line)) {
