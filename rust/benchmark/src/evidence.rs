@@ -53,7 +53,11 @@ pub fn repeat(record: &str, side: &str, rounds: usize) {
     // One record, so that a round is a record.
     let lent = lent(cases.into_iter().take(1).collect());
     for _ in 0..rounds {
-        if side == "mine" { mine(&lent) } else { theirs(&lent) }
+        if side == "mine" {
+            mine(&lent)
+        } else {
+            theirs(&lent)
+        }
     }
 }
 

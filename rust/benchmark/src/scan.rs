@@ -17,7 +17,11 @@ fn statements() -> Vec<Statement> {
     let at = |place: usize| View::new(0xff, ((1u32 << place) - 1) as u16);
     let body = |rng: &mut Rng| {
         let (at, payload) = (at(rng.below(8)), rng.draw());
-        if rng.chance(50) { Body::Ack { at, payload } } else { Body::Store { at, payload } }
+        if rng.chance(50) {
+            Body::Ack { at, payload }
+        } else {
+            Body::Store { at, payload }
+        }
     };
     (0..STATEMENTS).map(|_| Statement::new(rng.below(16) as u8, body(&mut rng))).collect()
 }

@@ -67,7 +67,11 @@ fn lines_of(kind: &str) -> Vec<Vec<u8>> {
 pub fn repeat(kind: &str, side: &str, rounds: usize) {
     let lines = lines_of(kind);
     for _ in 0..rounds {
-        if side == "mine" { mine(&lines) } else { theirs(&lines) }
+        if side == "mine" {
+            mine(&lines)
+        } else {
+            theirs(&lines)
+        }
     }
 }
 

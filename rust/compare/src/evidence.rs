@@ -88,7 +88,8 @@ pub fn theirs(case: &Case) -> Evidence {
 /// The text of a service screen, from the evidence.
 fn text(evidence: &Evidence) -> String {
     let view = |view: View| format!("{:04x}{:04x}", view.joined(), view.left());
-    let list = |views: &[View]| std::iter::once(views.len().to_string()).chain(views.iter().map(|&one| view(one))).collect::<Vec<_>>().join(",");
+    let list =
+        |views: &[View]| std::iter::once(views.len().to_string()).chain(views.iter().map(|&one| view(one))).collect::<Vec<_>>().join(",");
     let wished = format!("wished,{}\n", view(evidence.wished));
     let Some(shown) = &evidence.shown else { return wished + "conflict\n" };
     let candidates = shown.candidates.as_ref().map_or("many".to_string(), |views| list(views));
@@ -106,7 +107,12 @@ fn compare_text(case: &Case, lent: &Lent, theirs: &Evidence) -> Result<(), Strin
     if mine == theirs {
         return Ok(());
     }
-    Err(format!("initial {} sender {}, a record of {}\nproved:\n{mine}reference:\n{theirs}", case.initial, case.sender, case.statements.len()))
+    Err(format!(
+        "initial {} sender {}, a record of {}\nproved:\n{mine}reference:\n{theirs}",
+        case.initial,
+        case.sender,
+        case.statements.len()
+    ))
 }
 
 /// What the compared records showed.
@@ -175,7 +181,12 @@ pub fn compare(case: &Case, tally: &mut Tally) -> Result<(), String> {
         let least = shrink(case);
         let lines: Vec<String> = least.statements.iter().map(|s| String::from_utf8_lossy(&s.write()).into_owned()).collect();
         let (one, other) = (mine(&lend(&least)?), words(&theirs(&least)));
-        return Err(format!("initial {} sender {}\n{}\nproved: {one:x?}\nreference: {other:x?}", least.initial, least.sender, lines.join("\n")));
+        return Err(format!(
+            "initial {} sender {}\n{}\nproved: {one:x?}\nreference: {other:x?}",
+            least.initial,
+            least.sender,
+            lines.join("\n")
+        ));
     }
     compare_text(case, &lent, &theirs_now)?;
     tally.add(case, &theirs_now);
