@@ -7,7 +7,7 @@ use compare::records::{breadth, depth, mixed, pool_of, Case};
 use pekdrav::EvidenceWords;
 use reference::Evidence;
 
-use crate::measure::{head, measure, row};
+use crate::measure::{self, head, measure, row};
 
 /// Records of the first `count` statements of honest runs that fill the pool.
 fn honest(count: usize) -> Vec<Case> {
@@ -40,7 +40,7 @@ fn compared(name: &str, cases: Vec<Case>) {
     }
 }
 
-/// Does the work of one side on a record, as `honest, 64`, again and again, for a tool that counts its instructions.
+/// Does the work of one side on a record, as `honest, 64`.
 pub fn repeat(record: &str, side: &str, rounds: usize) {
     let (kind, count) = record.split_once(", ").unwrap_or((record, "0"));
     let count = count.parse().unwrap_or(0);
@@ -52,13 +52,7 @@ pub fn repeat(record: &str, side: &str, rounds: usize) {
     };
     // One record, so that a round is a record.
     let lent = lent(cases.into_iter().take(1).collect());
-    for _ in 0..rounds {
-        if side == "mine" {
-            mine(&lent)
-        } else {
-            theirs(&lent)
-        }
-    }
+    measure::repeat(rounds, side, &lent, mine, theirs);
 }
 
 pub fn print() {

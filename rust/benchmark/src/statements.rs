@@ -7,7 +7,7 @@ use generate::Rng;
 use pekdrav::statement::{rewrite, TEXT_MAX};
 use reference::Statement;
 
-use crate::measure::{head, measure, row};
+use crate::measure::{self, head, measure, row};
 
 const LINES: usize = 8_192;
 
@@ -63,16 +63,10 @@ fn lines_of(kind: &str) -> Vec<Vec<u8>> {
     }
 }
 
-/// Does the work of one side on the lines of a kind again and again, for a tool that counts its instructions.
+/// Does the work of one side on the lines of a kind.
 pub fn repeat(kind: &str, side: &str, rounds: usize) {
     let lines = lines_of(kind);
-    for _ in 0..rounds {
-        if side == "mine" {
-            mine(&lines)
-        } else {
-            theirs(&lines)
-        }
-    }
+    measure::repeat(rounds, side, &lines, mine, theirs);
 }
 
 pub fn print() {

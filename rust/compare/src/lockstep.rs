@@ -66,22 +66,16 @@ impl Seat {
 
     /// What the two answers, the same call's, differ in.
     fn differs(&self, mine: pekdrav::Answer, theirs: Answer) -> Option<String> {
-        let as_mine = match theirs {
-            Answer::Taken => pekdrav::Answer::Taken,
-            Answer::Signed(statement) => match mine {
-                pekdrav::Answer::Signed(number) if self.pool.text(number) == Some(statement.write()) => mine,
-                _ => return Some(format!("proved: {mine:?}, reference: {theirs:?}")),
-            },
-            Answer::Entered(view) => pekdrav::Answer::Entered(as_mine(view)),
-            Answer::Delivered(payload) => pekdrav::Answer::Delivered(payload),
-            Answer::Left => pekdrav::Answer::Left,
-            Answer::Quiet => pekdrav::Answer::Quiet,
-            Answer::Refused(refusal) => match mine {
-                pekdrav::Answer::Refused(number) if number.number() == refusal as u8 => mine,
-                _ => return Some(format!("proved: {mine:?}, reference: {theirs:?}")),
-            },
+        use pekdrav::Answer as Mine;
+        let same = match (mine, theirs) {
+            (Mine::Taken, Answer::Taken) | (Mine::Left, Answer::Left) | (Mine::Quiet, Answer::Quiet) => true,
+            (Mine::Signed(number), Answer::Signed(statement)) => self.pool.text(number) == Some(statement.write()),
+            (Mine::Entered(mine), Answer::Entered(theirs)) => mine == as_mine(theirs),
+            (Mine::Delivered(mine), Answer::Delivered(theirs)) => mine == theirs,
+            (Mine::Refused(mine), Answer::Refused(theirs)) => mine.number() == theirs as u8,
+            _ => false,
         };
-        (mine != as_mine).then(|| format!("proved: {mine:?}, reference: {theirs:?}"))
+        (!same).then(|| format!("proved: {mine:?}, reference: {theirs:?}"))
     }
 
     /// Whether the two controllers are the same in every field; of the record the length.

@@ -2,7 +2,7 @@
 
 use compare::lockstep::{compare_all, Tally};
 use compare::schedules;
-use pekdrav::{Answer, Controller, Pool, Refusal};
+use pekdrav::{Answer, Certificate, Controller, Kind, Pool, Refusal, View};
 
 fn agree(name: &str, schedules: impl Iterator<Item = Vec<u8>>) -> Tally {
     let tally = compare_all(schedules).unwrap_or_else(|difference| panic!("{name}: they differ, {difference}"));
@@ -52,4 +52,11 @@ fn one_of_everything() {
     assert_eq!(controller.turn(&mut pool), Answer::Delivered(7));
     assert_eq!(controller.turn(&mut pool), Answer::Quiet);
     assert_eq!(controller.record().numbers(), [0, 1, 2]);
+    let shown = controller.evidence(&pool).shown.expect("no conflict");
+    assert_eq!(shown.greatest, [View::new(1, 0)]);
+    assert_eq!(shown.certificate, Some(Certificate { payload: 7, stored: true }));
+    assert_eq!(controller.signers(&pool, Kind::Ack, View::new(1, 0)), 1);
+    assert_eq!(controller.signers(&pool, Kind::Report, View::new(1, 0)), 0);
+    let screen = "wished,00010000\ncandidates,1,00010000\ngreatest,1,00010000\ncertificate,7,stored\n";
+    assert_eq!(controller.screen(&pool), screen);
 }
