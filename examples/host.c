@@ -34,7 +34,7 @@ static int turn(int k) {
         pass_on(k, value);
         return 1;
     case PEKDRAV_ANSWER_ENTERED:
-        printf("%d entered %04x%04x\n", k, pekdrav_view_joined(value), pekdrav_view_left(value));
+        printf("%d entered %04" PRIx32 "%04" PRIx32 "\n", k, pekdrav_view_joined(value), pekdrav_view_left(value));
         return 1;
     case PEKDRAV_ANSWER_DELIVERED:
         printf("%d delivered %" PRIu64 "\n", k, value);

@@ -28,8 +28,9 @@ extern "C" {
 #define PEKDRAV_TEXT_MAX 256
 /* No text of what a record shows has more bytes. */
 #define PEKDRAV_SCREEN_MAX 512
-/* No schedule that is run has more bytes, and none has rows of more. */
+/* No schedule that is run has more bytes. */
 #define PEKDRAV_SCHEDULE_MAX 65536
+/* No schedule's rows have more bytes. */
 #define PEKDRAV_ROWS_MAX 2621504
 
 /* What pekdrav_pool_append answers where a statement got no number: the pool is full, or the line is no statement. */
@@ -182,10 +183,10 @@ uint8_t pekdrav_raw_controller_turn(struct pekdrav_fields *fields, struct pekdra
 }
 #endif
 
-/* The view with these sets. */
-static inline uint64_t pekdrav_view(uint16_t joined, uint16_t left) { return (uint64_t)left << 32 | joined; }
-static inline uint16_t pekdrav_view_joined(uint64_t view) { return (uint16_t)view; }
-static inline uint16_t pekdrav_view_left(uint64_t view) { return (uint16_t)(view >> 32); }
+/* The view with these sets, and the sets of a view. It is written as eight hexadecimal digits, four of the joined set and four of the left. */
+static inline uint64_t pekdrav_view(uint32_t joined, uint32_t left) { return (uint64_t)left << 32 | joined; }
+static inline uint32_t pekdrav_view_joined(uint64_t view) { return (uint32_t)view; }
+static inline uint32_t pekdrav_view_left(uint64_t view) { return (uint32_t)(view >> 32); }
 
 /* A controller before its setup. */
 static inline void pekdrav_controller_init(struct pekdrav_controller *controller) {

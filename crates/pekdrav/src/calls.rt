@@ -1,5 +1,5 @@
-// The engine's calls, one at a time, on a controller in lent memory. Its fields are one array and its record another, since nothing is proved of a lent struct; a host
-// has both in one struct, and a thin wrapper around each of these. A call that has no use for its record is not lent it. Each answers 0 taken, 1 signed, 2 entered,
+// The engine's calls, one at a time, on a controller in lent memory. Its fields are one array and its record another, since the borrow checker covers no reference to a
+// struct; a host has both in one struct, and a thin wrapper around each of these. A call that has no use for its record is not lent it. Each answers 0 taken, 1 signed, 2 entered,
 // 3 delivered, 4 left, 5 quiet or 6 refused, and tells in `value` the pool number of what was signed, the entered view's word, the delivered payload, the refusal's number, or 0.
 ghost use mathlib.Core.List.{List};
 ghost use Prim.Native.Nat.{ℕ};

@@ -50,31 +50,37 @@ unsafe extern "C" {
     fn pekdrav_schedule_rows(schedule: *const u8, schedule_len: usize, rows: *mut u8, rows_len: usize) -> usize;
 }
 
+#[inline]
 pub fn raw_controller_add(fields: &mut Fields, record: &mut Record, words: &mut Words, line: &[u8], value: &mut u64) -> u8 {
     // SAFETY: the pointer is that of a slice, with its length; so in each function below.
     unsafe { pekdrav_raw_controller_add(fields, record, words, line.as_ptr(), line.len(), value) }
 }
 
+#[inline]
 pub fn pool_append(words: &mut Words, line: &[u8]) -> u16 {
     // SAFETY: as above.
     unsafe { pekdrav_pool_append(words, line.as_ptr(), line.len()) }
 }
 
+#[inline]
 pub fn pool_text(words: &Words, number: u16, out: &mut [u8]) -> usize {
     // SAFETY: as above.
     unsafe { pekdrav_pool_text(words, number, out.as_mut_ptr(), out.len()) }
 }
 
+#[inline]
 pub fn record_screen(record: &Record, words: &Words, initial: u64, sender: u8, out: &mut [u8]) -> usize {
     // SAFETY: as above.
     unsafe { pekdrav_record_screen(record, words, initial, sender, out.as_mut_ptr(), out.len()) }
 }
 
+#[inline]
 pub fn statement_rewrite(line: &[u8], out: &mut [u8]) -> usize {
     // SAFETY: as above.
     unsafe { pekdrav_statement_rewrite(line.as_ptr(), line.len(), out.as_mut_ptr(), out.len()) }
 }
 
+#[inline]
 pub fn schedule_rows(schedule: &[u8], rows: &mut [u8]) -> usize {
     // SAFETY: as above.
     unsafe { pekdrav_schedule_rows(schedule.as_ptr(), schedule.len(), rows.as_mut_ptr(), rows.len()) }

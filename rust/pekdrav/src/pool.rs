@@ -88,10 +88,12 @@ impl Pool {
     }
 
     /// The words that the pool stands in.
+    #[inline]
     pub fn words(&self) -> &[u64; POOL_WORDS] {
         &self.words
     }
 
+    #[inline]
     pub(crate) fn words_mut(&mut self) -> &mut ffi::Words {
         &mut self.words
     }

@@ -61,6 +61,7 @@ impl Record {
     }
 
     /// Who signed a statement of this kind at this view, bit k for controller k.
+    #[inline]
     pub fn signers(&self, pool: &Pool, kind: Kind, at: View) -> u32 {
         ffi::pekdrav_record_signers(self, pool.words(), kind as u8, at.word())
     }
@@ -73,6 +74,7 @@ impl Record {
     }
 
     /// The same in memory that is lent, all of which is written.
+    #[inline]
     pub fn evidence_into(&self, pool: &Pool, ring: Ring, out: &mut EvidenceWords) {
         ffi::pekdrav_record_evidence(self, pool.words(), ring.initial.word(), ring.sender, out);
     }

@@ -10,6 +10,7 @@ pub const ROWS_MAX: usize = 2_621_504;
 /// Writes the rows of a schedule from the start of `rows` and answers their length; `None`, with `rows` as it was, if they have no room.
 ///
 /// With fewer than `ROWS_MAX` bytes the schedule is run twice, the first time to learn the length of its rows.
+#[inline]
 pub fn rows_into(schedule: &[u8], rows: &mut [u8]) -> Option<usize> {
     let length = ffi::schedule_rows(schedule, rows);
     // The header is always printed, so no rows have the length 0.

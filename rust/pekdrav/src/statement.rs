@@ -30,6 +30,7 @@ pub enum Kind {
 /// Writes the statement that `line` is from the start of `out` and answers its length.
 ///
 /// `None`, with `out` as it was, if `line` is the text of no statement that keeps the field rules or `out` is too short.
+#[inline]
 pub fn rewrite(line: &[u8], out: &mut [u8]) -> Option<usize> {
     let length = ffi::statement_rewrite(line, out);
     (length > 0).then_some(length)
