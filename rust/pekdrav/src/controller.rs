@@ -42,7 +42,7 @@ pub(crate) struct Fields {
 
 /// A controller in the memory that the proved calls are lent.
 ///
-/// A refused call leaves it as it was.
+/// A refused call leaves it as it was. `==` compares the memory, also words that stand for nothing.
 #[derive(Clone, PartialEq, Eq, Debug)]
 pub struct Controller {
     fields: Fields,

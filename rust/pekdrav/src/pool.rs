@@ -11,7 +11,7 @@ pub const POOL_WORDS: usize = 21 * STATEMENTS + 1;
 
 /// Statements that controllers signed or were given, numbered from 0 in the order in which they came.
 ///
-/// Controllers may share a pool or have one each.
+/// Controllers may share a pool or have one each. `==` compares the memory, also words that stand for nothing.
 #[derive(Clone, PartialEq, Eq)]
 pub struct Pool {
     words: Box<ffi::Words>,

@@ -8,7 +8,7 @@ use crate::view::{Ring, View};
 
 /// Statements of a pool by their numbers, in order of arrival.
 ///
-/// A controller has one of its own; one that is made here can be looked at in any ring.
+/// A controller has one of its own; one that is made here can be looked at in any ring. `==` compares the memory, also places that do not count.
 #[derive(Clone, PartialEq, Eq)]
 #[repr(C)]
 pub struct Record {

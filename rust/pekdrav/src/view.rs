@@ -44,9 +44,10 @@ impl std::fmt::Display for View {
     }
 }
 
+/// The whole word, with the bits that stand for nobody.
 impl std::fmt::Debug for View {
     fn fmt(&self, f: &mut std::fmt::Formatter<'_>) -> std::fmt::Result {
-        write!(f, "{self}")
+        write!(f, "View({:#018x})", self.0)
     }
 }
 
