@@ -1,17 +1,17 @@
 use Rattle.pekdrav.proofs.Told.{tells}
 use borrow.Author.Needs.{needs}
-use Rattle.pekdrav.proofs.shown.pekdrav_evidence.Statement.{statement}
-use Rattle.pekdrav.proofs.shown.pekdrav_evidence.Tie as tie
-use Rattle.pekdrav.proofs.shown.pekdrav_evidence.Reads as reads
-use Rattle.pekdrav.proofs.shown.pekdrav_evidence.Lts as lts
+use Rattle.pekdrav.proofs.shown.pekdrav_record_evidence.Statement.{statement}
+use Rattle.pekdrav.proofs.shown.pekdrav_record_evidence.Tie as tie
+use Rattle.pekdrav.proofs.shown.pekdrav_record_evidence.Reads as reads
+use Rattle.pekdrav.proofs.shown.pekdrav_record_evidence.Lts as lts
 use Rattle.evidence.proofs.of_record.Reads as of-record-reads
 use Rattle.pekdrav.proofs.shown.room.Reads as room-reads
 use Rattle.pekdrav.proofs.shown.tell.Reads as tell-reads
 use Rattle.pekdrav.proofs.shown.when.Reads as when-reads
 use Rattle.pekdrav.proofs.shown.told.Reads as told-reads
 
-pub pekdrav-evidence-spec : {M : Type 1} → statement M
-pekdrav-evidence-spec =
+pub pekdrav-record-evidence-spec : {M : Type 1} → statement M
+pekdrav-record-evidence-spec =
     tie.close
     (tie.spec
     (λ c κs. search needs)

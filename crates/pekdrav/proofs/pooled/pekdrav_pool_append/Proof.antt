@@ -3,17 +3,17 @@ use borrow.Author.Tests.{not-true, not-false}
 use Rattle.host.proofs.Written.{not-read, not-kept}
 use Rattle.pekdrav.proofs.Placing.{stayed, went-in}
 use borrow.Author.Needs.{needs}
-use Rattle.pekdrav.proofs.pooled.pekdrav_append.Statement.{statement}
-use Rattle.pekdrav.proofs.pooled.pekdrav_append.Tie as tie
-use Rattle.pekdrav.proofs.pooled.pekdrav_append.Reads as reads
-use Rattle.pekdrav.proofs.pooled.pekdrav_append.Lts as lts
+use Rattle.pekdrav.proofs.pooled.pekdrav_pool_append.Statement.{statement}
+use Rattle.pekdrav.proofs.pooled.pekdrav_pool_append.Tie as tie
+use Rattle.pekdrav.proofs.pooled.pekdrav_pool_append.Reads as reads
+use Rattle.pekdrav.proofs.pooled.pekdrav_pool_append.Lts as lts
 use Rattle.pekdrav.proofs.pooled.place_number.Reads as place-number-reads
 use Rattle.pool.proofs.append.Reads as append-reads
 use Rattle.statements.proofs.read.Reads as read-reads
 use Rattle.statements.proofs.keeps_field_rules.Reads as keeps-field-rules-reads
 
-pub pekdrav-append-spec : {M : Type 1} → statement M
-pekdrav-append-spec =
+pub pekdrav-pool-append-spec : {M : Type 1} → statement M
+pekdrav-pool-append-spec =
     tie.close
     (tie.spec
     (λ c κs. search needs)

@@ -2,16 +2,16 @@ use mathlib.Core.Path.{sym, _∙_}
 use Rattle.host.proofs.Written.{not-read, not-kept, nothing, again}
 use borrow.Author.Tests.{not-true, not-false}
 use borrow.Author.Needs.{needs}
-use Rattle.pekdrav.proofs.statement.pekdrav_statement.Statement.{statement}
-use Rattle.pekdrav.proofs.statement.pekdrav_statement.Tie as tie
-use Rattle.pekdrav.proofs.statement.pekdrav_statement.Reads as reads
-use Rattle.pekdrav.proofs.statement.pekdrav_statement.Lts as lts
+use Rattle.pekdrav.proofs.statement.pekdrav_statement_rewrite.Statement.{statement}
+use Rattle.pekdrav.proofs.statement.pekdrav_statement_rewrite.Tie as tie
+use Rattle.pekdrav.proofs.statement.pekdrav_statement_rewrite.Reads as reads
+use Rattle.pekdrav.proofs.statement.pekdrav_statement_rewrite.Lts as lts
 use Rattle.statements.proofs.read.Reads as read-reads
 use Rattle.statements.proofs.keeps_field_rules.Reads as keeps-field-rules-reads
 use Rattle.statements.proofs.write.Reads as write-reads
 
-pub pekdrav-statement-spec : {M : Type 1} → statement M
-pekdrav-statement-spec =
+pub pekdrav-statement-rewrite-spec : {M : Type 1} → statement M
+pekdrav-statement-rewrite-spec =
     tie.close
     (tie.spec
     (λ c κs. search needs)

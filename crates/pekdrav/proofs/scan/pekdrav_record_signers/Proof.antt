@@ -10,23 +10,23 @@ use Rattle.views.proofs.Sets.{note-none}
 use Rattle.pool.specs.Pool.{recordUpTo}
 use Rattle.pool.proofs.Records.{set-first, set-next, set-whole}
 use Rattle.pekdrav.specs.Scan.{isAt}
-use Rattle.pekdrav.proofs.scan.pekdrav_signers.Statement.{statement}
-use Rattle.pekdrav.proofs.scan.pekdrav_signers.Tie as tie
-use Rattle.pekdrav.proofs.scan.pekdrav_signers.Reads as reads
-use Rattle.pekdrav.proofs.scan.pekdrav_signers.Lts as lts
+use Rattle.pekdrav.proofs.scan.pekdrav_record_signers.Statement.{statement}
+use Rattle.pekdrav.proofs.scan.pekdrav_record_signers.Tie as tie
+use Rattle.pekdrav.proofs.scan.pekdrav_record_signers.Reads as reads
+use Rattle.pekdrav.proofs.scan.pekdrav_record_signers.Lts as lts
 use Rattle.pekdrav.proofs.scan.is_at.Reads as is-at-reads
 use Rattle.pool.proofs.record_length.Reads as record-length-reads
 use Rattle.pool.proofs.origin.Reads as origin-reads
 use Rattle.views.proofs.note.Reads as note-reads
 
 abbrev Inv-loop : tie.InvT-loop
-Inv-loop words ids kind at end seen₀ i₀ seen i = (i ≤ end) × IsSet seen (signs (isAt kind (viewOf at)) (recordUpTo words ids i))
+Inv-loop ids words kind at end seen₀ i₀ seen i = (i ≤ end) × IsSet seen (signs (isAt kind (viewOf at)) (recordUpTo words ids i))
 
 abbrev μ-loop : tie.MeasureT-loop
-μ-loop words ids kind at end seen₀ i₀ seen i = end - i
+μ-loop ids words kind at end seen₀ i₀ seen i = end - i
 
-pub pekdrav-signers-spec : {M : Type 1} → statement M
-pekdrav-signers-spec =
+pub pekdrav-record-signers-spec : {M : Type 1} → statement M
+pekdrav-record-signers-spec =
     tie.close
     (tie.spec
     Inv-loop
