@@ -246,7 +246,7 @@ module _ (S : Schedule) where
       let r = from-line i (call k c) e in
       record {
         number = r .at;
-        lineAt = r .of;
+        line = r .of;
         there = r .there;
         from = r .low;
         to = r .high;
