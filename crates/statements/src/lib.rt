@@ -4,12 +4,11 @@ ghost use mathlib.Core.Bool.{false};
 ghost use mathlib.Core.List.{_∷_};
 ghost use Prim.Native.Nat.{_+_, _*_, _<_, _≤_};
 ghost use lib.ListN.{length};
-ghost use lib.Seq.{sets};
-ghost use Rattle.protocol.specs.Statement.{bindingNumber};
 ghost use Rattle.text.specs.Text.{decText};
+ghost use Rattle.text.specs.Written.{Wrote};
 ghost use Rattle.statements.specs.Text.{viewText, text};
 ghost use Rattle.views.specs.Held.{viewIs};
-ghost use Rattle.statements.specs.Meaning.{firstViews, bindingIs, payloadOf};
+ghost use Rattle.statements.specs.Meaning.{firstViews};
 ghost use Rattle.statements.specs.Promise.{ReadOf, writtenCount, written};
 ghost use Rattle.statements.specs.Parts.{Bounded, NumberAt, ViewAt, ViewsAt, bindingFrom, firstText, secondText, tailText};
 
@@ -18,6 +17,7 @@ mod make;
 
 pub use field_rules::binding_number;
 pub use field_rules::keeps_field_rules;
+pub use field_rules::number_of;
 pub use field_rules::payload_of;
 pub use make::ack;
 pub use make::agree_history;
@@ -27,6 +27,7 @@ pub use make::leave;
 pub use make::prepare;
 pub use make::report;
 pub use make::store;
+use field_rules::payload_with;
 use text::Read;
 use views::History;
 use views::View;
@@ -222,7 +223,7 @@ pub fn read(s: &[u8]) -> ReadStatement
 // Writes a comma and a number from a position with room for them, and answers the next position.
 pub fn put_number(out: &mut [u8], at: usize, v: u64) -> usize
     requires { ⌜ at + 1 + length (decText v) ≤ length (now out) ⌝ }
-    ensures { λ r. ⌜ (r ≡ at + 1 + length (decText v)) × (now (out .exit) ≡ sets (now (out .entry)) at (44 ∷ decText v)) ⌝ }
+    ensures { λ r. ⌜ Wrote (now (out .entry)) at (44 ∷ decText v) r (now (out .exit)) ⌝ }
 {
     out[at] = 44;
     text::write_dec(out, at + 1, v)
@@ -230,7 +231,7 @@ pub fn put_number(out: &mut [u8], at: usize, v: u64) -> usize
 
 pub fn put_view(out: &mut [u8], at: usize, v: View) -> usize
     requires { ⌜ at + 9 ≤ length (now out) ⌝ }
-    ensures { λ r. ⌜ (r ≡ at + 9) × (now (out .exit) ≡ sets (now (out .entry)) at (44 ∷ viewText (viewIs v))) ⌝ }
+    ensures { λ r. ⌜ (r ≡ at + 9) × Wrote (now (out .entry)) at (44 ∷ viewText (viewIs v)) r (now (out .exit)) ⌝ }
 {
     out[at] = 44;
     text::write_hex(
@@ -243,7 +244,7 @@ pub fn put_view(out: &mut [u8], at: usize, v: View) -> usize
 
 fn put_views(out: &mut [u8], from: usize, h: History) -> usize
     requires { ⌜ (h .len ≤ 16) × (from + 9 * h .len ≤ length (now out)) ⌝ }
-    ensures { λ r. ⌜ (r ≡ from + 9 * h .len) × (now (out .exit) ≡ sets (now (out .entry)) from (tailText (firstViews (h .len) (h .views)))) ⌝ }
+    ensures { λ r. ⌜ (r ≡ from + 9 * h .len) × Wrote (now (out .entry)) from (tailText (firstViews (h .len) (h .views))) r (now (out .exit)) ⌝ }
 {
     let mut at = from;
     let mut i = 0usize;
@@ -258,7 +259,7 @@ fn put_views(out: &mut [u8], from: usize, h: History) -> usize
 // Writes the fields up to the view, from the start.
 fn put_first(out: &mut [u8], kind: u64, origin: u64, at: View, view: View) -> usize
     requires { ⌜ length (firstText kind origin (viewIs at) (viewIs view)) ≤ length (now out) ⌝ }
-    ensures { λ r. ⌜ (r ≡ length (firstText kind origin (viewIs at) (viewIs view))) × (now (out .exit) ≡ sets (now (out .entry)) 0 (firstText kind origin (viewIs at) (viewIs view))) ⌝ }
+    ensures { λ r. ⌜ Wrote (now (out .entry)) 0 (firstText kind origin (viewIs at) (viewIs view)) r (now (out .exit)) ⌝ }
 {
     let a = text::write_dec(out, 0, kind);
     let b = put_number(out, a, origin);
@@ -276,32 +277,12 @@ fn put_second(
     kept: u64,
 ) -> usize
     requires { ⌜ at + length (secondText binding payload stored kept) ≤ length (now out) ⌝ }
-    ensures { λ r. ⌜ (r ≡ at + length (secondText binding payload stored kept)) × (now (out .exit) ≡ sets (now (out .entry)) at (secondText binding payload stored kept)) ⌝ }
+    ensures { λ r. ⌜ Wrote (now (out .entry)) at (secondText binding payload stored kept) r (now (out .exit)) ⌝ }
 {
     let a = put_number(out, at, binding);
     let b = put_number(out, a, payload);
     let c = put_number(out, b, stored);
     put_number(out, c, kept)
-}
-
-fn number_of(b: Binding) -> u64
-    ensures { λ r. ⌜ r ≡ bindingNumber (bindingIs b) ⌝ }
-{
-    match b {
-        Binding::Unbound => 0,
-        Binding::Bound(_) => 1,
-        Binding::Barred => 2,
-    }
-}
-
-fn told_payload(b: Binding, payload: u64) -> u64
-    ensures { λ r. ⌜ r ≡ payloadOf b payload ⌝ }
-{
-    match b {
-        Binding::Unbound => payload,
-        Binding::Bound(m) => m,
-        Binding::Barred => payload,
-    }
 }
 
 // How long a text is: binding and stored have one digit each, and a view eight.
@@ -324,7 +305,7 @@ pub fn write(st: Statement, out: &mut [u8]) -> usize
         return 0;
     }
     let binding = st.binding;
-    let payload = told_payload(binding, st.payload);
+    let payload = payload_with(binding, st.payload);
     let size = text_len(
         st.kind as u64,
         st.origin as u64,

@@ -3,9 +3,9 @@
 ghost use mathlib.Core.Path.{_≡_};
 ghost use Prim.Native.Nat.{_+_, _-_, _<_, _≤_};
 ghost use lib.ListN.{length, drop};
-ghost use lib.Seq.{sets};
 ghost use Rattle.text.specs.Text.{glyph, decText, hexText};
 ghost use Rattle.text.specs.Scan.{isDigit, hexVal, scanDec, zeroThen, decAt, hexAt, isComma};
+ghost use Rattle.text.specs.Written.{Wrote};
 
 pub enum Read {
     Got { value: u64, next: usize },
@@ -199,10 +199,23 @@ fn glyph_of(d: u64) -> u8
     }
 }
 
+// Writes t from a position with room for it, and answers the next position.
+pub fn write_text(out: &mut [u8], at: usize, t: &[u8]) -> usize
+    requires { ⌜ at + length (now t) ≤ length (now out) ⌝ }
+    ensures { λ r. ⌜ Wrote (now (out .entry)) at (now (t .entry)) r (now (out .exit)) ⌝ }
+{
+    let mut i = 0usize;
+    while i < t.len() {
+        out[at + i] = t[i];
+        i += 1;
+    }
+    at + i
+}
+
 // Writes v from a position with room for it, and answers the next position. The digits go in from the last one on, two at a time.
 pub fn write_dec(out: &mut [u8], at: usize, v: u64) -> usize
     requires { ⌜ at + length (decText v) ≤ length (now out) ⌝ }
-    ensures { λ r. ⌜ (r ≡ at + length (decText v)) × (now (out .exit) ≡ sets (now (out .entry)) at (decText v)) ⌝ }
+    ensures { λ r. ⌜ Wrote (now (out .entry)) at (decText v) r (now (out .exit)) ⌝ }
 {
     // Most numbers of a line have one digit.
     if v < 10 {
@@ -231,7 +244,7 @@ pub fn write_dec(out: &mut [u8], at: usize, v: u64) -> usize
 // Writes the last `digits` hexadecimal digits of v from a position with room for them, and answers the next position.
 pub fn write_hex(out: &mut [u8], at: usize, v: u64, digits: usize) -> usize
     requires { ⌜ at + digits ≤ length (now out) ⌝ }
-    ensures { λ r. ⌜ (r ≡ at + digits) × (now (out .exit) ≡ sets (now (out .entry)) at (hexText digits v)) ⌝ }
+    ensures { λ r. ⌜ Wrote (now (out .entry)) at (hexText digits v) r (now (out .exit)) ⌝ }
 {
     let end = at + digits;
     let mut i = end;

@@ -97,13 +97,13 @@ same-length-2 : tie.Need-same-length-2 Inv-loop μ-loop
 same-length-2 c = simp length-set (left-length _ _ _ _ _ _ (c .before .before .before .before .loop .inv .1))
 
 returns-2 : tie.Need-returns-2 Inv-loop μ-loop
-returns-2 c = (ap (λ k. c .before .before .before .before .before .before .before .before .args .at + k) (c .before .before .before .before .before .dec-len .ensures .0), rw (c .before .glyph-of4 .ensures, c .glyph-of5 .ensures) (left-end-two _ _ _ _ _ _ (c .before .before .before .before .loop .inv .1) (c .before .before .if2 .taken) (omega (arith, c .before .before .before .loop-test .left))))
+returns-2 c = record { next = ap (λ k. c .before .before .before .before .before .before .before .before .args .at + k) (c .before .before .before .before .before .dec-len .ensures .0); is = rw (c .before .glyph-of4 .ensures, c .glyph-of5 .ensures) (left-end-two _ _ _ _ _ _ (c .before .before .before .before .loop .inv .1) (c .before .before .if2 .taken) (omega (arith, c .before .before .before .loop-test .left))) }
 
 same-length-3 : tie.Need-same-length-3 Inv-loop μ-loop
 same-length-3 c = simp length-set (left-length _ _ _ _ _ _ (c .before .before .before .loop .inv .1))
 
 returns-3 : tie.Need-returns-3 Inv-loop μ-loop
-returns-3 c = (ap (λ k. c .before .before .before .before .before .before .before .args .at + k) (c .before .before .before .before .dec-len .ensures .0), rw (c .glyph-of6 .ensures) (left-end _ _ _ _ _ _ (c .before .before .before .loop .inv .1) (omega (arith, c .before .if2 .left))))
+returns-3 c = record { next = ap (λ k. c .before .before .before .before .before .before .before .args .at + k) (c .before .before .before .before .dec-len .ensures .0); is = rw (c .glyph-of6 .ensures) (left-end _ _ _ _ _ _ (c .before .before .before .loop .inv .1) (omega (arith, c .before .if2 .left))) }
 
 pub write-dec-spec : {M : Type 1} → statement M
 write-dec-spec =

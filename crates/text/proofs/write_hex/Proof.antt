@@ -2,7 +2,8 @@
 use borrow.Author.Needs.{needs}
 use native.Mathlib.Omega.{arith}
 use Prim.Native.Nat.{_+_, _-_, _≤_}
-use mathlib.Core.Path.{refl}
+use mathlib.Core.Path.{refl, sym, ap}
+use Rattle.text.proofs.Hex.{hex-length}
 use Rattle.text.proofs.Stores.{HexLeft, hex-first, hex-step-back, hex-length-kept, hex-done}
 use Rattle.text.proofs.write_hex.Statement.{statement}
 use Rattle.text.proofs.write_hex.Tie as tie
@@ -38,7 +39,7 @@ same-length : tie.Need-same-length Inv-loop μ-loop
 same-length c = hex-length-kept _ _ _ _ _ _ _ (c .before .loop .inv .2)
 
 returns : tie.Need-returns Inv-loop μ-loop
-returns c = (refl, hex-done _ _ _ _ _ _ _ (c .before .loop .inv .2) (omega (arith, c .before .loop .inv .0, c .loop-test .left)))
+returns c = record { next = ap (λ k. c .before .before .before .args .at + k) (sym (hex-length (c .before .before .before .args .digits) (c .before .before .before .args .v))); is = hex-done _ _ _ _ _ _ _ (c .before .loop .inv .2) (omega (arith, c .before .loop .inv .0, c .loop-test .left)) }
 
 pub write-hex-spec : {M : Type 1} → statement M
 write-hex-spec =
