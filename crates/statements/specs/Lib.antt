@@ -4,7 +4,6 @@
 pub mod Text
 pub mod Meaning
 pub mod Promise
-
 -- ---- inside: what functions tell each other, and what loops keep
 pub mod Parts
 pub mod Made

@@ -19,6 +19,7 @@ pub use field_rules::binding_number;
 pub use field_rules::keeps_field_rules;
 pub use field_rules::number_of;
 pub use field_rules::payload_of;
+use field_rules::payload_with;
 pub use make::ack;
 pub use make::agree_history;
 pub use make::agree_view;
@@ -27,10 +28,27 @@ pub use make::leave;
 pub use make::prepare;
 pub use make::report;
 pub use make::store;
-use field_rules::payload_with;
+use text::COMMA;
+use text::NUMBER_MAX;
 use text::Read;
 use views::History;
 use views::View;
+
+// A view is written as eight hexadecimal digits, with a comma before it.
+const VIEW_DIGITS: usize = 8;
+
+const VIEW_BYTES: usize = 9;
+
+// The greatest number of eight digits: the joined set times `SETS`, and the left set.
+const VIEW_MAX: u64 = 4294967295;
+
+const SETS: u64 = 65536;
+
+// What every text has besides its numbers and its history: eight commas, two views, and a digit each for binding and stored.
+const FIXED_BYTES: usize = 26;
+
+// The greatest number of eight bits.
+pub const BYTE_MAX: u64 = 255;
 
 pub enum Binding {
     Unbound,
@@ -121,13 +139,13 @@ fn view_at(s: &[u8], at: usize) -> ViewPart
     ensures { λ p. ⌜ ViewAt (now (s .entry)) at p ⌝ }
 {
     if text::comma_at(s, at) {
-        let r = text::read_hex(s, at + 1, 8);
-        let p = bounded(s, r, 4294967295);
+        let r = text::read_hex(s, at + 1, VIEW_DIGITS);
+        let p = bounded(s, r, VIEW_MAX);
         ViewPart {
             ok: p.ok,
             view: View {
-                joined: (p.value / 65536) as u32,
-                left: (p.value % 65536) as u32,
+                joined: (p.value / SETS) as u32,
+                left: (p.value % SETS) as u32,
             },
             next: p.next,
         }
@@ -191,14 +209,14 @@ pub fn read(s: &[u8]) -> ReadStatement
     ensures { λ r. ⌜ ReadOf (now (s .entry)) r ⌝ }
 {
     let first = text::read_dec(s, 0);
-    let kind = bounded(s, first, 255);
-    let origin = number_at(s, kind.next, 255);
+    let kind = bounded(s, first, BYTE_MAX);
+    let origin = number_at(s, kind.next, BYTE_MAX);
     let at = view_at(s, origin.next);
     let view = view_at(s, at.next);
     let binding = number_at(s, view.next, 2);
-    let payload = number_at(s, binding.next, 18446744073709551615);
+    let payload = number_at(s, binding.next, NUMBER_MAX);
     let stored = number_at(s, payload.next, 1);
-    let kept = number_at(s, stored.next, 18446744073709551615);
+    let kept = number_at(s, stored.next, NUMBER_MAX);
     let count = number_at(s, kept.next, View::LIMIT as u64);
     let views = views_at(s, count);
     let u = at.view;
@@ -225,7 +243,7 @@ pub fn put_number(out: &mut [u8], at: usize, v: u64) -> usize
     requires { ⌜ at + 1 + length (decText v) ≤ length (now out) ⌝ }
     ensures { λ r. ⌜ Wrote (now (out .entry)) at (44 ∷ decText v) r (now (out .exit)) ⌝ }
 {
-    out[at] = 44;
+    out[at] = COMMA;
     text::write_dec(out, at + 1, v)
 }
 
@@ -233,12 +251,12 @@ pub fn put_view(out: &mut [u8], at: usize, v: View) -> usize
     requires { ⌜ at + 9 ≤ length (now out) ⌝ }
     ensures { λ r. ⌜ (r ≡ at + 9) × Wrote (now (out .entry)) at (44 ∷ viewText (viewIs v)) r (now (out .exit)) ⌝ }
 {
-    out[at] = 44;
+    out[at] = COMMA;
     text::write_hex(
         out,
         at + 1,
-        v.joined_set() as u64 * 65536 + v.left_set() as u64,
-        8,
+        v.joined_set() as u64 * SETS + v.left_set() as u64,
+        VIEW_DIGITS,
     )
 }
 
@@ -285,14 +303,14 @@ fn put_second(
     put_number(out, c, kept)
 }
 
-// How long a text is: binding and stored have one digit each, and a view eight.
+// How long a text is.
 fn text_len(kind: u64, origin: u64, payload: u64, kept: u64, len: u64) -> usize
     requires { ⌜ len ≤ 16 ⌝ }
     ensures { λ r. ⌜ r ≡ length (decText kind) + length (decText origin) + length (decText payload) + length (decText kept) + length (decText len) + 26 + 9 * len ⌝ }
 {
     let a = text::dec_len(kind) + text::dec_len(origin);
     let b = text::dec_len(payload) + text::dec_len(kept);
-    a + b + text::dec_len(len) + 26 + 9 * (len as usize)
+    a + b + text::dec_len(len) + FIXED_BYTES + VIEW_BYTES * (len as usize)
 }
 
 // Writes a statement's text from the start of `out`, and answers its length; 0 where it has more than 16 views or `out` is too short.

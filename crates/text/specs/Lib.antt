@@ -2,7 +2,6 @@
 
 -- ---- what is promised
 pub mod Text
-
 -- ---- inside: what functions tell each other, and what loops keep
 pub mod Scan
 pub mod Written

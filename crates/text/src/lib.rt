@@ -7,6 +7,15 @@ ghost use Rattle.text.specs.Text.{glyph, decText, hexText};
 ghost use Rattle.text.specs.Scan.{isDigit, hexVal, scanDec, zeroThen, decAt, hexAt, isComma};
 ghost use Rattle.text.specs.Written.{Wrote};
 
+pub const COMMA: u8 = 44;
+
+pub const NEWLINE: u8 = 10;
+
+// The greatest number that a field has: 64 bits.
+pub const NUMBER_MAX: u64 = 18446744073709551615;
+// With one digit more a greater number than this is too great.
+const NUMBER_TENTH: u64 = 1844674407370955161;
+
 pub enum Read {
     Got { value: u64, next: usize },
     Refused,
@@ -59,11 +68,11 @@ fn scan_dec(s: &[u8], from: usize, start: u64) -> Read
             };
         }
         let d = wide(c) - 48;
-        if acc > 1844674407370955161 {
+        if acc > NUMBER_TENTH {
             return Read::Refused;
         }
         let t = acc * 10;
-        if d > 18446744073709551615 - t {
+        if d > NUMBER_MAX - t {
             return Read::Refused;
         }
         acc = t + d;
@@ -144,7 +153,7 @@ pub fn read_hex(s: &[u8], at: usize, digits: usize) -> Read
 pub fn comma_at(s: &[u8], at: usize) -> bool
     ensures { λ r. ⌜ r ≡ isComma (now (s .entry)) at ⌝ }
 {
-    if at < s.len() { s[at] == 44 } else { false }
+    if at < s.len() { s[at] == COMMA } else { false }
 }
 
 // How many digits a number below ten thousand has.

@@ -1,8 +1,6 @@
 use borrow.Author.Tests.{eq-eqb, ne-eqb}
 use Rattle.statements.proofs.binding_of.Statement.{statement}
 use Rattle.statements.proofs.binding_of.Tie as tie
-use Rattle.statements.proofs.binding_of.Reads as reads
-use Rattle.statements.proofs.binding_of.Lts as lts
 
 returns : tie.Need-returns
 returns c = simp (eq-eqb _ _ (c .if1 .taken))

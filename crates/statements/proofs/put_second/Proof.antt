@@ -5,9 +5,6 @@ use Rattle.statements.proofs.Written.{second-size}
 use borrow.Author.Needs.{needs}
 use Rattle.statements.proofs.put_second.Statement.{statement}
 use Rattle.statements.proofs.put_second.Tie as tie
-use Rattle.statements.proofs.put_second.Reads as reads
-use Rattle.statements.proofs.put_second.Lts as lts
-use Rattle.statements.proofs.put_number.Reads as put-number-reads
 
 put-number-requires : tie.Need-put-number-requires
 put-number-requires c κs = omega (arith, c .before .before .pre, second-size (c .before .before .args .binding) (c .before .before .args .payload) (c .before .before .args .stored) (c .before .before .args .kept))

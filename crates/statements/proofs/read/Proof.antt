@@ -3,14 +3,6 @@ use Rattle.statements.proofs.Statements.{read-of}
 use borrow.Author.Needs.{needs}
 use Rattle.statements.proofs.read.Statement.{statement}
 use Rattle.statements.proofs.read.Tie as tie
-use Rattle.statements.proofs.read.Reads as reads
-use Rattle.statements.proofs.read.Lts as lts
-use Rattle.statements.proofs.binding_of.Reads as binding-of-reads
-use Rattle.statements.proofs.bounded.Reads as bounded-reads
-use Rattle.statements.proofs.number_at.Reads as number-at-reads
-use Rattle.statements.proofs.view_at.Reads as view-at-reads
-use Rattle.statements.proofs.views_at.Reads as views-at-reads
-use Rattle.text.proofs.read_dec.Reads as read-dec-reads
 
 pub read-spec : {M : Type 1} → statement M
 read-spec =

@@ -5,9 +5,6 @@ use Rattle.statements.proofs.Views.{SoFar, so-far-first, so-far-next, s
 use borrow.Author.Needs.{needs}
 use Rattle.statements.proofs.views_at.Statement.{statement}
 use Rattle.statements.proofs.views_at.Tie as tie
-use Rattle.statements.proofs.views_at.Reads as reads
-use Rattle.statements.proofs.views_at.Lts as lts
-use Rattle.statements.proofs.view_at.Reads as view-at-reads
 
 abbrev Inv-loop : tie.InvT-loop
 Inv-loop s views₀ n ok₀ at₀ i₀ views ok at i = (n ≤ 16) × SoFar s n ok₀ at₀ views ok at i

@@ -8,15 +8,6 @@ use Rattle.statements.proofs.Written.{too-many, too-short, wrote, text-
 use borrow.Author.Needs.{needs}
 use Rattle.statements.proofs.write.Statement.{statement}
 use Rattle.statements.proofs.write.Tie as tie
-use Rattle.statements.proofs.write.Reads as reads
-use Rattle.statements.proofs.write.Lts as lts
-use Rattle.statements.proofs.field_rules.number_of.Reads as number-of-reads
-use Rattle.statements.proofs.field_rules.payload_with.Reads as payload-with-reads
-use Rattle.statements.proofs.put_first.Reads as put-first-reads
-use Rattle.statements.proofs.put_number.Reads as put-number-reads
-use Rattle.statements.proofs.put_second.Reads as put-second-reads
-use Rattle.statements.proofs.put_views.Reads as put-views-reads
-use Rattle.statements.proofs.text_len.Reads as text-len-reads
 
 returns : tie.Need-returns
 returns c = too-many _ _ (c .if1 .taken)

@@ -4,12 +4,6 @@ use lib.ListN.{length-set}
 use Rattle.bench.proofs.Rows.{line-most, who-most, word-most, row-size, row-runs}
 use Rattle.bench.proofs.row.put_row.Statement.{statement}
 use Rattle.bench.proofs.row.put_row.Tie as tie
-use Rattle.bench.proofs.row.put_row.Reads as reads
-use Rattle.bench.proofs.row.put_row.Lts as lts
-use Rattle.bench.proofs.row.put_value.Reads as put-value-reads
-use Rattle.bench.proofs.row.put_word.Reads as put-word-reads
-use Rattle.statements.proofs.put_number.Reads as put-number-reads
-use Rattle.text.proofs.write_dec.Reads as write-dec-reads
 
 write-dec-requires : tie.Need-write-dec-requires
 write-dec-requires c κs = omega (arith, c .before .before .pre .0, line-most (c .before .before .args .n) (c .before .before .pre .1))

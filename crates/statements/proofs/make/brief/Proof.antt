@@ -2,10 +2,6 @@ use borrow.Author.Needs.{needs}
 use Rattle.statements.proofs.Held.{brief-made}
 use Rattle.statements.proofs.make.brief.Statement.{statement}
 use Rattle.statements.proofs.make.brief.Tie as tie
-use Rattle.statements.proofs.make.brief.Reads as reads
-use Rattle.statements.proofs.make.brief.Lts as lts
-use Rattle.statements.proofs.make.plain.Reads as plain-reads
-use Rattle.views.proofs.History.new.Reads as new-reads
 
 new-requires : tie.Need-new-requires
 new-requires c κs = search needs

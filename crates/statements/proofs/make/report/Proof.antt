@@ -3,9 +3,6 @@ use Rattle.statements.proofs.Held.{report-made}
 use borrow.Author.Needs.{needs}
 use Rattle.statements.proofs.make.report.Statement.{statement}
 use Rattle.statements.proofs.make.report.Tie as tie
-use Rattle.statements.proofs.make.report.Reads as reads
-use Rattle.statements.proofs.make.report.Lts as lts
-use Rattle.statements.proofs.make.kept.Reads as kept-reads
 
 kept-requires : tie.Need-kept-requires
 kept-requires c κs = search needs
