@@ -59,7 +59,7 @@ pub record Reading (S : List ℕ) (printed rest : List ℕ) : Type 0 where
   pub rows : rowsFrom 1 newBench reading ≡ printed ++ rest
 
 -- The lines before the place were run, and b is the bench; `printed` stands in the rows R′ after the header.
-pub record Going (S : List ℕ) (place : Place) (b : Bench) (R R′ : List ℕ) : Type 0 where
+pub record RunSoFar (S : List ℕ) (place : Place) (b : Bench) (R R′ : List ℕ) : Type 0 where
   pub printed : List ℕ
   pub rows : R′ ≡ sets R 22 printed
   pub end : place .out ≡ 22 + length printed
@@ -69,7 +69,7 @@ pub record Going (S : List ℕ) (place : Place) (b : Bench) (R R′ : List ℕ) 
   pub rest : (L : List (Option Line)) → ReadAll (lines (drop (place .at) S)) L → Reading S printed (rowsFrom (place .n) b L)
 
 -- A run before the first line, with the rows after the header.
-pub record Begins (place : Place) : Type 0 where
+pub record AtStart (place : Place) : Type 0 where
   pub ready : place .setting .ready ≡ false
   pub faulty : place .setting .faulty ≡ 0
   pub at : place .at ≡ 0
@@ -77,7 +77,7 @@ pub record Begins (place : Place) : Type 0 where
   pub out : place .out ≡ 22
 
 -- A run that has room for one more row and goes on so many bytes later.
-pub record Room (place : Place) (next : ℕ) : Type 0 where
+pub record HasRoom (place : Place) (next : ℕ) : Type 0 where
   pub out : place .out ≤ 2621504
   pub number : place .n < 100000
   pub at : place .at + next ≤ 65536

@@ -8,16 +8,8 @@ pub read-spec : {M : Type 1} → statement M
 read-spec =
     tie.close
     (tie.spec
-    (λ c κs. search needs)
-    (λ c κs. search needs)
-    (λ c κs. search needs)
-    (λ c κs. search needs)
-    (λ c κs. search needs)
-    (λ c κs. search needs)
-    (λ c κs. search needs)
-    (λ c κs. search needs)
-    (λ c κs. search needs)
-    (λ c κs. search needs)
+    (λ c κs. search needs) (λ c κs. search needs) (λ c κs. search needs) (λ c κs. search needs) (λ c κs. search needs) (λ c κs. search needs) (λ c κs. search needs)
+    (λ c κs. search needs) (λ c κs. search needs) (λ c κs. search needs)
     (λ c κs. (c .number-at6 .ensures .low, c .number-at6 .ensures .stop))
     (λ c. omega (arith, c .before .before .before .before .before .before .before .before .before .before .before .before .before .bounded .ensures .low))
     (λ c. omega (arith, c .before .before .before .before .before .before .before .before .before .before .before .before .before .number-at .ensures .low))

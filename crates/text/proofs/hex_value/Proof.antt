@@ -11,11 +11,9 @@ hex-value-spec =
     tie.close
     (tie.spec
     (λ c. sym (val-1 _ (c .if1 .taken)))
-    (λ c κs. search needs)
-    (λ c. search needs)
+    (λ c κs. search needs) (λ c. search needs)
     (λ c. omega (arith, c .wide .ensures, val-2 (c .before .before .before .args .b) (c .before .before .if1 .left) (c .before .if2 .taken)))
     (λ c. sym (val-3 _ (c .before .if2 .left) (c .if3 .taken)))
-    (λ c κs. search needs)
-    (λ c. search needs)
+    (λ c κs. search needs) (λ c. search needs)
     (λ c. omega (arith, c .wide2 .ensures, val-4 (c .before .before .before .before .before .args .b) (c .before .before .if3 .left) (c .before .if4 .taken)))
     (λ c. sym (val-5 _ (c .if4 .left))))

@@ -14,9 +14,7 @@ read-dec-spec =
     tie.close
     (tie.spec
     (λ c. sym (at-end (c .before .before .args .s .now) (c .before .before .args .at) (c .if1 .taken)))
-    (λ c. search needs)
-    (λ c. search needs)
-    (λ c κs. search needs)
+    (λ c. search needs) (λ c. search needs) (λ c κs. search needs)
     (λ c. c .after-zero .ensures ∙ sym (at-zero (c .before .before .before .before .before .args .s .now) (c .before .before .before .before .before .args .at) (c .before .before .before .if1 .left) (c .before .if2 .taken)))
     (λ c κs. search needs)
     (λ c. sym (at-other (c .before .before .before .before .before .before .args .s .now) (c .before .before .before .before .before .before .args .at) (c .before .before .before .before .if1 .left) (c .before .before .if2 .left) (sym (c .before .digit .ensures) ∙ not-true _ (c .if3 .taken))))

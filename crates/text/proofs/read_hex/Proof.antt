@@ -42,8 +42,7 @@ read-hex-spec =
     returns-2
     (λ c. omega (arith, hex-small (c .before .before .before .before .loop .acc) (c .before .before .before .before .loop .i - c .before .before .before .before .before .before .before .before .args .at) (c .before .before .before .before .loop .inv .2) (omega (arith, c .before .before .before .loop-test .taken, c .before .before .before .before .before .before .before .before .pre, c .before .before .before .before .loop .inv .0))))
     (λ c. omega (arith, c .if2 .left, hex-small (c .before .before .before .before .loop .acc) (c .before .before .before .before .loop .i - c .before .before .before .before .before .before .before .before .args .at) (c .before .before .before .before .loop .inv .2) (omega (arith, c .before .before .before .loop-test .taken, c .before .before .before .before .before .before .before .before .pre, c .before .before .before .before .loop .inv .0))))
-    (λ c. search needs)
-    (λ c. search needs)
+    (λ c. search needs) (λ c. search needs)
     (λ c. (
       omega (arith, c .before .before .before .before .loop .inv .0),
       omega (arith, c .before .before .before .loop-test .taken),

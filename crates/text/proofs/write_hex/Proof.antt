@@ -22,8 +22,7 @@ write-hex-spec =
     μ-loop
     (λ c. search needs)
     (λ c. (omega arith, omega arith, hex-first _ _ _ _ _ refl))
-    (λ c. search needs)
-    (λ c κs. search needs)
+    (λ c. search needs) (λ c κs. search needs)
     (λ c. omega (arith, c .before .before .before .before .pre, c .before .before .loop .inv .1, hex-length-kept _ _ _ _ _ _ _ (c .before .before .loop .inv .2)))
     (λ c. search needs)
     (λ c. (omega arith, omega arith, rw (c .glyph-of .ensures) (hex-step-back _ _ _ _ _ _ _ (c .before .before .loop .inv .2) (c .before .loop-test .taken))))

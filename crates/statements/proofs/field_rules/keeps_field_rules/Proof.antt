@@ -14,8 +14,5 @@ keeps-field-rules-spec =
     tie.close
     (tie.spec
     (λ c. rules-long (c .before .before .before .args .st) (c .if1 .taken))
-    (λ c κs. search needs)
-    (λ c κs. search needs)
-    (λ c κs. search needs)
-    (λ c κs. search needs)
+    (λ c κs. search needs) (λ c κs. search needs) (λ c κs. search needs) (λ c κs. search needs)
     returns-2)
