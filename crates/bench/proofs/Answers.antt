@@ -13,7 +13,7 @@ use Rattle.bench.specs.Running.{PrintedInto, Long}
 use Rattle.bench.proofs.One.{printed-one}
 
 pub wrote-long : {S R : List ℕ} {r : ℕ} {R′ : List ℕ} → PrintedInto S R r R′ → Long S r
-wrote-long w = record { text = w .text; printed = w .printed; long = w .long; small = w .small }
+wrote-long w = record { text = w .text; printed = w .printed; long = omega (arith, w .wrote .next); small = w .small }
 
 -- the rows have room
 pub has-room : (S R : List ℕ) (r : ℕ) (R′ : List ℕ) (w : PrintedInto S R r R′) → length (w .text) ≤ length R → Answered S R r R′
@@ -21,7 +21,7 @@ has-room S R r R′ w l = record {
   text = w .text;
   printed = w .printed;
   most = w .small;
-  fits = λ h. (w .long, w .rows ∙ sets-eq (w .text) R 0 (omega arith) ∙ ap (λ k. w .text ++ drop k R) (zero-add (length (w .text))));
+  fits = λ h. (omega (arith, w .wrote .next), w .wrote .is ∙ sets-eq (w .text) R 0 (omega arith) ∙ ap (λ k. w .text ++ drop k R) (zero-add (length (w .text))));
   short = λ h. absurd (omega arith);
 }
 

@@ -18,7 +18,7 @@ use Rattle.protocol.specs.View.{controllers}
 use Rattle.protocol.specs.Controller as controller
 use Rattle.protocol.specs.Call.{setupAllowed, started}
 use Rattle.text.specs.Written.{Wrote}
-use Rattle.text.proofs.Stores.{sets-append}
+use Rattle.text.proofs.Stores.{both}
 use Rattle.views.specs.Table.{table}
 use Rattle.views.proofs.Tables.{table-length, table-at, table-cong}
 use Rattle.pool.specs.Pool.{stmtAt, poolLen, recordUpTo, recordLen, recordIn, AllIn, Grows}
@@ -266,8 +266,7 @@ module _ (S : List ℕ) (place on : Place) (b b′ : Bench) (R R′ R″ : List 
   goes-on : RunSoFar S on b′ R R″
   goes-on = record {
     printed = going .printed ++ row;
-    rows = p .rows ∙ ap₂ (λ t o. sets t o row) (going .rows) (going .end) ∙ sym (sets-append (going .printed) row R 22);
-    end = omega (arith, p .end, going .end, length-append (going .printed) row);
+    wrote = both (going .wrote) (p .wrote);
     small = omega (arith, p .small, p .at, going .small, length-append (going .printed) row, of .moves some-left);
     number = omega (arith, p .number, p .at, going .number, of .moves some-left);
     within = omega (arith, p .at, of .within, length-drop (place .at) S, going .within);
@@ -289,7 +288,7 @@ module _ (S : List ℕ) (place : Place) (r : ReadLine) (of : LineOf (take (lengt
   less l p = omega (arith, p .at, next-moves l, next-within (omega arith))
 
   pub room : {b : Bench} {R R′ : List ℕ} → RunSoFar S place b R R′ → length S ≤ 65536 → place .at < length S → HasRoom place (r .next)
-  room g s m = record { out = omega (arith, g .end, g .small); number = omega (arith, g .number); at = omega (arith, next-within (omega arith)) }
+  room g s m = record { out = omega (arith, g .wrote .next, g .small); number = omega (arith, g .number); at = omega (arith, next-within (omega arith)) }
 
   -- a line that reads
   module _ (l : Held) (e : r .parsed ≡ Readable l) where
@@ -402,7 +401,7 @@ module _ (S : List ℕ) (place : Place) (r : ReadLine) (of : LineOf (take (lengt
       (record { who = 16; answer = controller.refused controller.outOfPlace; number = 0 }) refl (passed-as (refused-row (place .n)) (p .passed)))
 
 pub going-long : {S : List ℕ} {place : Place} {b : Bench} {R R′ : List ℕ} → RunSoFar S place b R R′ → length R′ ≡ length R
-going-long {R = R} g = ap length (g .rows) ∙ length-sets R 22 (g .printed)
+going-long {R = R} g = ap length (g .wrote .is) ∙ length-sets R 22 (g .printed)
 
 pub full-whole : (b : Bool) (n full r : ℕ) → b ≡ true → r ≡ n → r ≡ fullAfter b n full
 full-whole b n full r e q = q ∙ sym (ap (λ x. fullAfter x n full) e)
@@ -424,7 +423,7 @@ module _ (W R : List ℕ) (place : Place) (l : Held) (T : List ℕ) (full : ℕ)
     line = a .line;
     reads = a .reads;
     reply = replyIs W′ (st .who) (st .answer) (st .number);
-    passed = (let u = passed-as (row-is W′ (place .n) (st .who) (st .answer) (st .number)) (p .passed) in record { at = u .at; number = u .number; end = u .end; rows = u .rows; small = u .small });
+    passed = (let u = passed-as (row-is W′ (place .n) (st .who) (st .answer) (st .number)) (p .passed) in record { at = u .at; number = u .number; wrote = u .wrote; small = u .small });
     advanced = a .stepped .advanced;
     full-is = λ e. subst (Full R′) (sym z) (full-after R′ (poolLen W′) (st .whole) (a .stepped .advanced .keeps e) (a .stepped .full));
   }
@@ -435,8 +434,7 @@ pub going-end : {S : List ℕ} {place : Place} {b : Bench} {R R′ : List ℕ} �
 unfolding rowsFrom lines
 going-end {S} {place} {b} {R} {R′} g e l = record {
   printed = g .printed;
-  rows = g .rows;
-  end = g .end;
+  wrote = g .wrote;
   small = omega (arith, g .small, g .within);
   ran = g .rest [] (subst (λ t. ReadAll (lines t) []) (sym (drop-of-length-le S e)) tt);
 }
@@ -491,8 +489,7 @@ module _ (c : Controller) (fresh : controllerIs c ≡ controller.notSetUp) (m n 
   pub going-first : (S R : List ℕ) (place : Place) → AtStart place → RunSoFar S place (benchIs (place .setting) W₀ (replicate m c) (replicate m R₀)) R R
   going-first S R place b = record {
     printed = [];
-    rows = refl;
-    end = b .out;
+    wrote = record { next = omega (arith, b .out); is = refl };
     small = omega arith;
     number = omega (arith, b .number, b .at);
     within = omega (arith, b .at);
@@ -505,14 +502,8 @@ module _ (c : Controller) (fresh : controllerIs c ≡ controller.notSetUp) (m n 
 
 -- ---- the header and what stands after it
 
-headed : (S R R′ R″ xs : List ℕ) (r : ℕ) → Printed S (headerText ++ xs) → R′ ≡ sets R 0 headerText → R″ ≡ sets R′ 22 xs → r ≡ 22 + length xs → length xs ≤ 2621440 → PrintedInto S R r R″
-headed S R R′ R″ xs r p e f g m = record {
-  text = headerText ++ xs;
-  printed = p;
-  long = g ∙ sym (length-append headerText xs);
-  small = omega (arith, length-append headerText xs);
-  rows = f ∙ ap (λ t. sets t 22 xs) e ∙ sym (sets-append headerText xs R 0);
-}
+headed : (S R R′ R″ xs : List ℕ) (r : ℕ) → Printed S (headerText ++ xs) → R′ ≡ sets R 0 headerText → Wrote R′ 22 xs r R″ → length xs ≤ 2621440 → PrintedInto S R r R″
+headed S R R′ R″ xs r p e w m = record { text = headerText ++ xs; printed = p; wrote = both {s = headerText} (record { next = refl; is = e }) w; small = omega (arith, length-append headerText xs) }
 
 empty-reads : (S : List ℕ) → length S ≡ 0 → ReadAll (lines S) []
 unfolding lines
@@ -522,7 +513,7 @@ empty-reads (x ∷ S) e = absurd (omega arith)
 module _ (S R R′ R″ : List ℕ) (r : ℕ) (e : R′ ≡ sets R 0 headerText)
     (put : Wrote R′ 22 refusedRow r R″ × (length refusedRow ≤ 40)) where
   refusal : Printed S (headerText ++ refusedRow) → PrintedInto S R r R″
-  refusal p = headed S R R′ R″ refusedRow r p e (put .0 .is) (put .0 .next) (omega (arith, put .1))
+  refusal p = headed S R R′ R″ refusedRow r p e (put .0) (omega (arith, put .1))
 
   pub printed-empty : length S ≡ 0 → PrintedInto S R r R″
   printed-empty z = refusal (record { reading = []; reads = λ h. empty-reads S z; prints = ap (λ t. headerText ++ t) (sym (pick-true (eqb (length S) 0 || ltb 65536 (length S)) refusedRow (rowsFrom 1 newBench []) (ap (λ b. b || ltb 65536 (length S)) (eq-eqb (length S) 0 z)))) })
@@ -539,4 +530,4 @@ printed-run S R R′ R″ r e m a b = headed S R R′ R″ (m .printed) r (recor
   reading = m .ran .reading;
   reads = λ h. m .ran .reads;
   prints = ap (λ t. headerText ++ t) (sym (m .ran .rows ∙ append-nil (m .printed)) ∙ sym (pick-false (eqb (length S) 0 || ltb 65536 (length S)) refusedRow (rowsFrom 1 newBench (m .ran .reading)) (ap₂ _||_ (ne-eqb (length S) 0 a) (le-ltb 65536 (length S) b))));
-}) e (m .rows) (m .end) (m .small)
+}) e (m .wrote) (m .small)

@@ -49,7 +49,7 @@ use Rattle.schedule.specs.Reading.{meant, Tells, Lying, LiedOf}
 use Rattle.schedule.proofs.Lies.{lie-untold}
 use Rattle.bench.specs.Bench as bench
 use Rattle.bench.specs.Bench.{Seat, emptySeat, Bench, step}
-use Rattle.bench.specs.Seats.{benchOf, Distinct, Full, refusedFor, takenAs, GivenAtSeat, Gives, GivesAll, ReadFrom, seatOf, isCall, ToldAs, SteppedAs, SteppedBy, SteppedOnPool, SteppedOnPoolBy, NoStatement, LacksNothing}
+use Rattle.bench.specs.Seats.{benchOf, Distinct, Sound, Full, Keeps, replyIs, refusedFor, takenAs, GivenAtSeat, Gives, GivesAll, ReadFrom, seatOf, isCall, ToldAs, SteppedAs, SteppedBy, SteppedOnPool, SteppedOnPoolBy, NoStatement, LacksNothing}
 use Rattle.bench.proofs.Records.{keeps-same}
 use Rattle.bench.proofs.Seats.{grows-same, seat-same, one-grows, one-distinct, pool-size, all-needless}
 
@@ -68,21 +68,29 @@ if-true b x y e = rw e
 pub told-as : {g : Setting} {who : ℕ} {r r′ : Given} {s : Effect} → r ≡ r′ → ToldAs g who r s → ToldAs g who r′ s
 told-as {g} {who} {r} {r′} {s} e t = subst (λ x. ToldAs g who x s) e t
 
--- a line that was answered on its record
-pub stepped-seated : {W R R′ : List ℕ} {g : Setting} {k : ℕ} {l : Line} {r : Given} {s : Effect} → k < 16 → Distinct W → GivenAtSeat W R (g .ready) k l r R′ → ToldAs g k r s → SteppedAs W R g k l s W R′
-stepped-seated {W} {R} {R′} {g} {k} {l} {r} {s} b d m e = record {
+-- a line that was answered so and leaves all settings as they were: what it does to every bench that has the record R at seat k
+told-on : {W W′ R R′ : List ℕ} {g : Setting} {k who : ℕ} {l : Line} {r : Given} {s : Effect} → who ≤ 16 → ToldAs g who r s → Sound W′ R′ → Grows W W′ → Keeps R R′ → (r .whole ≡ true → Full R′ (poolLen W′))
+    → ((X : List Seat) → getD X k emptySeat .statements ≡ recordIn W R
+    → step (benchOf (g .ready) (g .faulty) X W) (some l)
+    ≡ record { reply = replyIs W′ who (r .answer) (r .number); bench = benchOf (g .ready) (g .faulty) (set X k (record { controller = getD X k emptySeat .controller; statements = recordIn W′ R′ })) W′ })
+    → SteppedAs W R g k l s W′ R′
+told-on {W} {W′} {R} {R′} {g} {k} {who} {l} {r} {s} b e sound grows keeps full steps = record {
   who = omega (arith, e .who-is);
   advanced = record {
-    steps = λ X x. m .steps (g .faulty) X x
-        ∙ stepped (sym (e .who-is)) (sym (ap (answerIs W) (e .answer))) (sym (e .number)) (sym (ap (λ (t : Setting). t .ready) (e .setting))) (sym (ap (λ (t : Setting). t .faulty) (e .setting)))
-        (if-false (s .fresh) (table controllers (λ j. record { controller = started j (s .setting .members) (s .setting .sender); statements = [] })) (set X k (record { controller = getD X k emptySeat .controller; statements = recordIn W R′ })) (e .fresh)) refl;
-    sound = λ h. record { distinct = d; whole = m .whole };
-    grows = λ h. grows-same W;
-    keeps = λ h. m .keeps;
+    steps = λ X x. steps X x
+        ∙ stepped (sym (e .who-is)) (sym (ap (answerIs W′) (e .answer))) (sym (e .number)) (sym (ap (λ (t : Setting). t .ready) (e .setting))) (sym (ap (λ (t : Setting). t .faulty) (e .setting)))
+        (if-false (s .fresh) (table controllers (λ j. record { controller = started j (s .setting .members) (s .setting .sender); statements = [] })) (set X k (record { controller = getD X k emptySeat .controller; statements = recordIn W′ R′ })) (e .fresh)) refl;
+    sound = λ h. sound;
+    grows = λ h. grows;
+    keeps = λ h. keeps;
     begun = λ h. absurd (subst T (sym h ∙ e .fresh) tt);
   };
-  full = λ h. m .full (sym (e .whole) ∙ h);
+  full = λ h. full (sym (e .whole) ∙ h);
 }
+
+-- a line that was answered on its record
+stepped-seated : {W R R′ : List ℕ} {g : Setting} {k : ℕ} {l : Line} {r : Given} {s : Effect} → k < 16 → Distinct W → GivenAtSeat W R (g .ready) k l r R′ → ToldAs g k r s → SteppedAs W R g k l s W R′
+stepped-seated {W} {g = g} b d m e = told-on (omega arith) e (record { distinct = d; whole = m .whole }) (grows-same W) (m .keeps) (m .full) (λ X x. m .steps (g .faulty) X x)
 
 -- a line on the pool that was refused
 module _ {W : List ℕ} {g : Setting} {l : Line} {s : Effect} where
@@ -90,36 +98,23 @@ module _ {W : List ℕ} {g : Setting} {l : Line} {s : Effect} where
       → ((X : List Seat) → step (benchOf (g .ready) (g .faulty) X W) (some l) ≡ bench.refuseLine (benchOf (g .ready) (g .faulty) X W) who (refusalIs q)) → SteppedOnPool W g l s W
   unfolding answerIs
   pools-refused who q b d e h = record {
-    over = λ R w. record {
-      who = omega (arith, e .who-is);
-      advanced = record {
-        steps = λ X x. h X ∙ stepped (sym (e .who-is)) (sym (ap (answerIs W) (e .answer))) (sym (e .number)) (sym (ap (λ (t : Setting). t .ready) (e .setting))) (sym (ap (λ (t : Setting). t .faulty) (e .setting)))
-            (sym (seat-same X 0 x) ∙ if-false (s .fresh) (table controllers (λ j. record { controller = started j (s .setting .members) (s .setting .sender); statements = [] })) (set X 0 (record { controller = getD X 0 emptySeat .controller; statements = recordIn W R })) (e .fresh)) refl;
-        sound = λ t. record { distinct = d; whole = w };
-        grows = λ t. grows-same W;
-        keeps = λ t. keeps-same R;
-        begun = λ t. absurd (subst T (sym t ∙ e .fresh) tt);
-      };
-      full = λ t. absurd (true≢false (sym t ∙ e .whole));
-    };
+    over = λ R w. told-on b e (record { distinct = d; whole = w }) (grows-same W) (keeps-same R) (λ t. absurd (true≢false (sym t)))
+        (λ X x. h X ∙ ap (λ Y. bench.refuseLine (benchOf (g .ready) (g .faulty) Y W) who (refusalIs q)) (sym (seat-same X 0 x)));
   }
 
 -- ---- lies that are no statement
 
+abbrev unstated : Bench → Bool → bench.Stepped
+unstated b ready = if ready then bench.refuseLine b 16 controller.badStatement else bench.refuseLine b 16 controller.outOfPlace
+
 module _ (g : Setting) (s : Effect) where
   pub no-statement-early : ToldAs g 16 (refusedFor refusal.OutOfPlace) s → g .ready ≡ false → NoStatement g s
   unfolding step
-  no-statement-early e q = record { pools = λ W d. pools-refused 16 refusal.OutOfPlace (omega arith) d e (λ X. go (g .ready) q (benchOf (g .ready) (g .faulty) X W)) }
-    where
-      go : (b : Bool) → b ≡ false → (d : Bench) → (if b then bench.refuseLine d 16 controller.badStatement else bench.refuseLine d 16 controller.outOfPlace) ≡ bench.refuseLine d 16 controller.outOfPlace
-      go b e d = rw e
+  no-statement-early e q = record { pools = λ W d. pools-refused 16 refusal.OutOfPlace (omega arith) d e (λ X. ap (unstated (benchOf (g .ready) (g .faulty) X W)) q) }
 
   pub no-statement-bad : ToldAs g 16 (refusedFor refusal.BadStatement) s → g .ready ≡ true → NoStatement g s
   unfolding step
-  no-statement-bad e q = record { pools = λ W d. pools-refused 16 refusal.BadStatement (omega arith) d e (λ X. go (g .ready) q (benchOf (g .ready) (g .faulty) X W)) }
-    where
-      go : (b : Bool) → b ≡ true → (d : Bench) → (if b then bench.refuseLine d 16 controller.badStatement else bench.refuseLine d 16 controller.outOfPlace) ≡ bench.refuseLine d 16 controller.badStatement
-      go b e d = rw e
+  no-statement-bad e q = record { pools = λ W d. pools-refused 16 refusal.BadStatement (omega arith) d e (λ X. ap (unstated (benchOf (g .ready) (g .faulty) X W)) q) }
 
 -- ---- a setup
 
@@ -298,20 +293,10 @@ module _ (W W′ : List ℕ) (g : Setting) (st : Statement) (d : Distinct W) (ne
   pub lie-taken : (s : Effect) → ToldAs g (st .origin) (takenAs n false) s → SteppedOnPool W g (lie (stmtOf st)) s W′
   unfolding stmtOf answerIs
   lie-taken s e = record {
-    over = λ R w. record {
-      who = omega (arith, e .who-is);
-      advanced = record {
-        steps = λ X x. lie-is (benchOf (g .ready) (g .faulty) X W) (stmtOf st) q b (absent-in W (stmtOf st) z) (lt-leb 512 (length (poolOf W)) (omega (arith, pool-size W, room)))
-            ∙ stepped (sym (e .who-is)) (sym (ap (answerIs W′) (e .answer))) (pool-size W ∙ sym placed-at ∙ sym (e .number)) (sym (ap (λ (t : Setting). t .ready) (e .setting))) (sym (ap (λ (t : Setting). t .faulty) (e .setting)))
-            (sym (seat-same X 0 (x ∙ sym (record-kept (one-grows W W′ (stmtOf st) longer) R w)))
-            ∙ if-false (s .fresh) (table controllers (λ j. record { controller = started j (s .setting .members) (s .setting .sender); statements = [] })) (set X 0 (record { controller = getD X 0 emptySeat .controller; statements = recordIn W′ R })) (e .fresh)) (sym longer);
-        sound = λ t. record { distinct = one-distinct W W′ (stmtOf st) longer (absent-in W (stmtOf st) z) d; whole = whole-kept (one-grows W W′ (stmtOf st) longer) R w };
-        grows = λ t. one-grows W W′ (stmtOf st) longer;
-        keeps = λ t. keeps-same R;
-        begun = λ t. absurd (subst T (sym t ∙ e .fresh) tt);
-      };
-      full = λ t. absurd (true≢false (sym t ∙ e .whole));
-    };
+    over = λ R w. told-on (omega arith) e
+        (record { distinct = one-distinct W W′ (stmtOf st) longer (absent-in W (stmtOf st) z) d; whole = whole-kept (one-grows W W′ (stmtOf st) longer) R w }) (one-grows W W′ (stmtOf st) longer) (keeps-same R) (λ t. absurd (true≢false (sym t)))
+        (λ X x. lie-is (benchOf (g .ready) (g .faulty) X W) (stmtOf st) q b (absent-in W (stmtOf st) z) (lt-leb 512 (length (poolOf W)) (omega (arith, pool-size W, room)))
+        ∙ stepped refl refl (pool-size W ∙ sym placed-at) refl refl (sym (seat-same X 0 (x ∙ sym (record-kept (one-grows W W′ (stmtOf st) longer) R w)))) (sym longer));
   }
 
 pub appended : {W W′ : List ℕ} {st : Statement} {p q : Answered} → memory.Appended W W′ st p → p ≡ q → memory.Appended W W′ st q
