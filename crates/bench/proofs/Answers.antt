@@ -4,16 +4,16 @@ use Prim.Native.Nat.{ℕ, _+_, _<_, _≤_}
 use native.Mathlib.Nat.{zero-add}
 use native.Mathlib.Decide.{decLt}
 use native.Mathlib.Omega.{arith}
-use mathlib.Core.Path.{refl, sym, ap, ap₂, subst, _∙_}
+use mathlib.Core.Path.{refl, ap, _∙_}
 use mathlib.Core.List.{List, _++_}
-use lib.ListN.{length, take, drop, length-append}
-use lib.Seq.{sets-eq, take-append-seam}
+use lib.ListN.{length, drop, length-append}
+use lib.Seq.{sets-eq}
 use Rattle.bench.specs.Rows.{Printed, Answered}
 use Rattle.bench.specs.Running.{PrintedInto, Long}
 use Rattle.bench.proofs.One.{printed-one}
 
 pub wrote-long : {S R : List ℕ} {r : ℕ} {R′ : List ℕ} → PrintedInto S R r R′ → Long S r
-wrote-long w = record { text = w .text; printed = w .printed; long = w .long; small = w .small }
+wrote-long w = record { text = w .text; printed = w .printed; long = omega (arith, w .wrote .next); small = w .small }
 
 -- the rows have room
 pub has-room : (S R : List ℕ) (r : ℕ) (R′ : List ℕ) (w : PrintedInto S R r R′) → length (w .text) ≤ length R → Answered S R r R′
@@ -21,7 +21,7 @@ has-room S R r R′ w l = record {
   text = w .text;
   printed = w .printed;
   most = w .small;
-  fits = λ h. (w .long, w .rows ∙ sets-eq (w .text) R 0 (omega arith) ∙ ap (λ k. w .text ++ drop k R) (zero-add (length (w .text))));
+  fits = λ h. (omega (arith, w .wrote .next), w .wrote .is ∙ sets-eq (w .text) R 0 (omega arith) ∙ ap (λ k. w .text ++ drop k R) (zero-add (length (w .text))));
   short = λ h. absurd (omega arith);
 }
 
@@ -41,13 +41,7 @@ no-room S R n k l = record {
   short = λ h. (refl, refl);
 }
 
--- what stands in memory that has room is what is printed
-pub answer-printed : (S R : List ℕ) (r : ℕ) (R′ : List ℕ) → Answered S R r R′ → 2621504 ≤ length R → Printed S (take r R′)
-answer-printed S R r R′ a l =
-    let room : length (a .text) ≤ length R = omega (arith, a .most) in
-    subst (Printed S) (sym (ap₂ take (a .fits room .0) (a .fits room .1) ∙ take-append-seam (a .text) (drop (length (a .text)) R))) (a .printed)
-
--- and no more than the memory has
+-- no more is answered than the memory has
 pub answer-within : (S R : List ℕ) (r : ℕ) (R′ : List ℕ) → Answered S R r R′ → r ≤ length R′
 answer-within S R r R′ a = elim (decLt (length R) (length (a .text))) [
   | yes h ↦ omega (arith, a .short h .0)

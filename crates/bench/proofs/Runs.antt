@@ -17,7 +17,8 @@ use Rattle.protocol.specs.Lists.{if_then_else_}
 use Rattle.protocol.specs.View.{controllers}
 use Rattle.protocol.specs.Controller as controller
 use Rattle.protocol.specs.Call.{setupAllowed, started}
-use Rattle.text.proofs.Stores.{sets-append}
+use Rattle.text.specs.Written.{Wrote}
+use Rattle.text.proofs.Stores.{both}
 use Rattle.views.specs.Table.{table}
 use Rattle.views.proofs.Tables.{table-length, table-at, table-cong}
 use Rattle.pool.specs.Pool.{stmtAt, poolLen, recordUpTo, recordLen, recordIn, AllIn, Grows}
@@ -44,8 +45,8 @@ use Rattle.bench.specs.Bench as bench
 use Rattle.bench.specs.Bench.{Seat, emptySeat, Bench, Reply, newBench, step}
 use Rattle.bench.specs.Rows.{rowText, headerText, rowsFrom, refusedRow, Printed}
 use Rattle.bench.specs.Writing.{wordFor, valueIs, rowOf}
-use Rattle.bench.specs.Seats.{blank, seatIs, benchOf, Sound, Full, Keeps, Fit, seatOf, seatsAfter, replyIs, numberIs, changesIs, CalledAtSeat, CalledByLine, Needless, Advanced, SteppedBy, wordOfAnswer, valueOfAnswer}
-use Rattle.bench.specs.Running.{rowIs, seatsIs, benchIs, BenchKept, Fulls, Started, Reading, Going, Begins, Room, RowWritten, RowPut, fullAfter, LineRun, Ran, PrintedInto}
+use Rattle.bench.specs.Seats.{blank, seatIs, benchOf, Sound, Full, Keeps, ReadFrom, seatOf, seatsAfter, replyIs, numberIs, changesIs, CalledAtSeat, CalledByLine, LacksNothing, Advanced, SteppedBy, wordOfAnswer, valueOfAnswer}
+use Rattle.bench.specs.Running.{rowIs, seatsIs, benchIs, BenchKept, Fulls, Started, Reading, RunSoFar, AtStart, HasRoom, RowWritten, RowPut, fullAfter, LineRun, Ran, PrintedInto}
 use Rattle.bench.proofs.Rows.{shown}
 use Rattle.bench.proofs.Records.{full-none, full-kept}
 use Rattle.bench.proofs.States.{fit-seat, record-kept, whole-kept, no-pool}
@@ -68,6 +69,11 @@ row-is W n who a number = shown n (record { named = refl; word = shows W a numbe
 
 refused-row : (n : ℕ) → rowOf n 16 word.Refused (value.Number 8) ≡ rowText n (record { who = 16; answer = controller.refused controller.outOfPlace; number = 0 })
 refused-row n = shown n (record { named = refl; word = refl; value = refl })
+
+-- the only row of a schedule that is not run
+pub refused-wrote : {R R′ : List ℕ} {r : ℕ} → Wrote R 22 (rowOf 0 16 word.Refused (value.Number 8)) r R′ × (length (rowOf 0 16 word.Refused (value.Number 8)) ≤ 40)
+    → Wrote R 22 refusedRow r R′ × (length refusedRow ≤ 40)
+refused-wrote {R} {R′} {r} w = subst (λ t. Wrote R 22 t r R′ × (length t ≤ 40)) (refused-row 0) w
 
 taken-row : (n who : ℕ) → rowOf n who word.Taken (value.Number 0) ≡ rowText n (record { who = who; answer = controller.taken; number = 0 })
 taken-row n who = shown n (record { named = refl; word = refl; value = refl })
@@ -233,7 +239,7 @@ module _ (g : Setting) (W W′ : List ℕ) (cs : List Controller) (Rs : List (Li
 
 -- ---- one line more
 
-module _ (S : List ℕ) (place on : Place) (b b′ : Bench) (R R′ R″ : List ℕ) (going : Going S place b R R′) (r : ReadLine) (of : LineOf (drop (place .at) S) r) (more : place .at < length S)
+module _ (S : List ℕ) (place on : Place) (b b′ : Bench) (R R′ R″ : List ℕ) (going : RunSoFar S place b R R′) (r : ReadLine) (of : LineOf (drop (place .at) S) r) (more : place .at < length S)
     (this : Option Line) (is-this : Reads (take (r .next) (drop (place .at) S)) this) (reply : Reply) (left : step b this ≡ record { reply = reply; bench = b′ })
     (p : RowWritten R′ place (r .next) (rowText (place .n) reply) on R″) where
   abbrev row : List ℕ
@@ -257,11 +263,10 @@ module _ (S : List ℕ) (place on : Place) (b b′ : Bench) (R R′ R″ : List 
             ∙ ap (λ t. (going .printed ++ row) ++ rowsFrom t b′ L) (sym (p .number ∙ add-one (place .n)));
       }
 
-  goes-on : Going S on b′ R R″
+  goes-on : RunSoFar S on b′ R R″
   goes-on = record {
     printed = going .printed ++ row;
-    rows = p .rows ∙ ap₂ (λ t o. sets t o row) (going .rows) (going .end) ∙ sym (sets-append (going .printed) row R 22);
-    end = omega (arith, p .end, going .end, length-append (going .printed) row);
+    wrote = both (going .wrote) (p .wrote);
     small = omega (arith, p .small, p .at, going .small, length-append (going .printed) row, of .moves some-left);
     number = omega (arith, p .number, p .at, going .number, of .moves some-left);
     within = omega (arith, p .at, of .within, length-drop (place .at) S, going .within);
@@ -282,8 +287,8 @@ module _ (S : List ℕ) (place : Place) (r : ReadLine) (of : LineOf (take (lengt
   pub less : {R R′ row : List ℕ} {on : Place} → place .at < length S → RowWritten R place (r .next) row on R′ → length S - on .at < length S - place .at
   less l p = omega (arith, p .at, next-moves l, next-within (omega arith))
 
-  pub room : {b : Bench} {R R′ : List ℕ} → Going S place b R R′ → length S ≤ 65536 → place .at < length S → Room place (r .next)
-  room g s m = record { out = omega (arith, g .end, g .small); number = omega (arith, g .number); at = omega (arith, next-within (omega arith)) }
+  pub room : {b : Bench} {R R′ : List ℕ} → RunSoFar S place b R R′ → length S ≤ 65536 → place .at < length S → HasRoom place (r .next)
+  room g s m = record { out = omega (arith, g .wrote .next, g .small); number = omega (arith, g .number); at = omega (arith, next-within (omega arith)) }
 
   -- a line that reads
   module _ (l : Held) (e : r .parsed ≡ Readable l) where
@@ -303,14 +308,14 @@ module _ (S : List ℕ) (place : Place) (r : ReadLine) (of : LineOf (take (lengt
     line-reads : (this : Line) → Reads (ended body) (some this) → Reads (take (r .next) (drop (place .at) S)) (some this)
     line-reads this t = subst (λ s. Reads s (some this)) (sym body-ended) t
 
-    pub line-fits : Fit l body
+    pub line-fits : ReadFrom l body
     line-fits = record { tells = subst (λ t. Tells (meant l) (ended t)) (sym body-is) (line-tells (drop (place .at) S) r (part-read S (place .at) r of) l e) }
 
     pub line-seat : {k : ℕ} → k ≡ seatOf (Readable l) → k < 16
     line-seat q = omega (arith, q, fit-seat l line-fits)
 
-    pub room-body : {b : Bench} {R R′ : List ℕ} → Going S place b R R′ → length S ≤ 65536 → place .at < length S → Room place (length body + 1)
-    room-body g s m = subst (Room place) (sym (body-long m)) (room g s m)
+    pub room-body : {b : Bench} {R R′ : List ℕ} → RunSoFar S place b R R′ → length S ≤ 65536 → place .at < length S → HasRoom place (length body + 1)
+    room-body g s m = subst (HasRoom place) (sym (body-long m)) (room g s m)
 
     -- one that calls
     module _ (W W′ : List ℕ) (cs cs′ : List Controller) (Rs : List (List ℕ)) (fs R′ : List ℕ) (k : ℕ) (q : k ≡ seatOf (Readable l)) (m : BenchKept W cs Rs) (w : Fulls Rs fs) (o : Outcome)
@@ -321,12 +326,12 @@ module _ (S : List ℕ) (place : Place) (r : ReadLine) (of : LineOf (take (lengt
       call-reads : Reads (ended body) (some (a .line))
       call-reads = subst (λ u. Tells u (ended body)) (a .means) (line-fits .tells)
 
-      pub call-on : {R₀ rows rows′ : List ℕ} {on : Place} {number : ℕ} → Going S place (benchIs (place .setting) W cs Rs) R₀ rows → place .at < length S → number ≡ numberIs (o .answer)
+      pub call-on : {R₀ rows rows′ : List ℕ} {on : Place} {number : ℕ} → RunSoFar S place (benchIs (place .setting) W cs Rs) R₀ rows → place .at < length S → number ≡ numberIs (o .answer)
           → RowPut rows place (r .next) (rowIs (place .n) k (o .answer) number) on rows′
-          → BenchKept W′ cs′ (set Rs k R′) × Going S on (benchIs (on .setting) W′ cs′ (set Rs k R′)) R₀ rows′ × Fulls (set Rs k R′) fs
+          → BenchKept W′ cs′ (set Rs k R′) × RunSoFar S on (benchIs (on .setting) W′ cs′ (set Rs k R′)) R₀ rows′ × Fulls (set Rs k R′) fs
       call-on {R₀} {rows} {rows′} {on} {number} going more z p = (
         call-kept (place .setting) W W′ cs cs′ Rs R′ k (a .line) o (line-seat q) m at-seat t,
-        subst (λ g. Going S on (benchIs g W′ cs′ (set Rs k R′)) R₀ rows′) (sym (p .setting))
+        subst (λ g. RunSoFar S on (benchIs g W′ cs′ (set Rs k R′)) R₀ rows′) (sym (p .setting))
             (goes-on S place on (benchIs (place .setting) W cs Rs) (benchIs (place .setting) W′ cs′ (set Rs k R′)) R₀ rows rows′ going r (part-read S (place .at) r of) more (some (a .line)) (line-reads (a .line) call-reads)
             (replyIs W′ k (o .answer) (numberIs (o .answer))) (call-left (place .setting) W W′ cs cs′ Rs R′ k (a .line) o (line-seat q) m at-seat t)
             (passed-as (ap (rowIs (place .n) k (o .answer)) z ∙ row-is W′ (place .n) k (o .answer) (numberIs (o .answer))) (p .passed))),
@@ -334,7 +339,7 @@ module _ (S : List ℕ) (place : Place) (r : ReadLine) (of : LineOf (take (lengt
       )
 
     -- one that finds nothing to do
-    module _ (W : List ℕ) (cs : List Controller) (Rs : List (List ℕ)) (fs : List ℕ) (k : ℕ) (q : k ≡ seatOf (Readable l)) (m : BenchKept W cs Rs) (w : Fulls Rs fs) (idle : Needless W (place .setting) (getD fs k 0) l) where
+    module _ (W : List ℕ) (cs : List Controller) (Rs : List (List ℕ)) (fs : List ℕ) (k : ℕ) (q : k ≡ seatOf (Readable l)) (m : BenchKept W cs Rs) (w : Fulls Rs fs) (idle : LacksNothing W (place .setting) (getD fs k 0) l) where
       idle-reads : Reads (ended body) (some (idle .line))
       idle-reads = subst (λ u. Tells u (ended body)) (idle .means) (line-fits .tells)
 
@@ -342,11 +347,11 @@ module _ (S : List ℕ) (place : Place) (r : ReadLine) (of : LineOf (take (lengt
       idle-left = idle .steps (getD Rs k []) (record { distinct = m .distinct; whole = m .whole k (line-seat q) }) (w .each k (line-seat q)) (seatsIs W cs Rs)
           (ap (λ j. getD (seatsIs W cs Rs) j emptySeat .statements) (sym q) ∙ ap (λ (s : Seat). s .statements) (seat-there W cs Rs k (line-seat q)))
 
-      pub idle-on : {R₀ rows rows′ : List ℕ} {on : Place} → Going S place (benchIs (place .setting) W cs Rs) R₀ rows → place .at < length S → RowPut rows place (r .next) (rowOf (place .n) k word.Taken (value.Number 0)) on rows′
-          → BenchKept W cs Rs × Going S on (benchIs (on .setting) W cs Rs) R₀ rows′ × Fulls Rs fs
+      pub idle-on : {R₀ rows rows′ : List ℕ} {on : Place} → RunSoFar S place (benchIs (place .setting) W cs Rs) R₀ rows → place .at < length S → RowPut rows place (r .next) (rowOf (place .n) k word.Taken (value.Number 0)) on rows′
+          → BenchKept W cs Rs × RunSoFar S on (benchIs (on .setting) W cs Rs) R₀ rows′ × Fulls Rs fs
       idle-on {R₀} {rows} {rows′} {on} going more p = (
         m,
-        subst (λ g. Going S on (benchIs g W cs Rs) R₀ rows′) (sym (p .setting))
+        subst (λ g. RunSoFar S on (benchIs g W cs Rs) R₀ rows′) (sym (p .setting))
             (goes-on S place on (benchIs (place .setting) W cs Rs) (benchIs (place .setting) W cs Rs) R₀ rows rows′ going r (part-read S (place .at) r of) more (some (idle .line)) (line-reads (idle .line) idle-reads)
             (record { who = seatOf (Readable l); answer = controller.taken; number = 0 }) idle-left
             (passed-as (taken-row (place .n) k ∙ ap (λ j. rowText (place .n) (record { who = j; answer = controller.taken; number = 0 })) q) (p .passed))),
@@ -365,8 +370,8 @@ module _ (S : List ℕ) (place : Place) (r : ReadLine) (of : LineOf (take (lengt
       pub run-less : length S - s .place .at < length S - place .at
       run-less = less more run-passed
 
-      pub run-on : {R₀ : List ℕ} → s .fresh ≡ false → Going S place (benchIs (place .setting) W cs Rs) R₀ rows
-          → BenchKept W′ cs (set Rs k R′) × Going S (s .place) (benchIs (s .place .setting) W′ cs (set Rs k R′)) R₀ rows′ × Fulls (set Rs k R′) (set fs k (s .full))
+      pub run-on : {R₀ : List ℕ} → s .fresh ≡ false → RunSoFar S place (benchIs (place .setting) W cs Rs) R₀ rows
+          → BenchKept W′ cs (set Rs k R′) × RunSoFar S (s .place) (benchIs (s .place .setting) W′ cs (set Rs k R′)) R₀ rows′ × Fulls (set Rs k R′) (set fs k (s .full))
       run-on {R₀} e′ going = (
         line-kept (place .setting) W W′ cs Rs R′ k (a .line) (a .reply) (s .place .setting) (s .fresh) (line-seat q) m run-at e′,
         goes-on S place (s .place) (benchIs (place .setting) W cs Rs) (benchIs (s .place .setting) W′ cs (set Rs k R′)) R₀ rows rows′ going r (part-read S (place .at) r of) more (some (a .line)) (line-reads (a .line) (a .reads)) (a .reply)
@@ -377,8 +382,8 @@ module _ (S : List ℕ) (place : Place) (r : ReadLine) (of : LineOf (take (lengt
       pub run-allowed : s .fresh ≡ true → setupAllowed 0 (s .place .setting .members) (s .place .setting .sender) ≡ true
       run-allowed e′ = run-at .begun e′ .1
 
-      pub run-fresh : {R₀ : List ℕ} (cs″ : List Controller) (Rs″ : List (List ℕ)) (f : ℕ) → f ≡ 16 → s .fresh ≡ true → Started (s .place .setting .members) (s .place .setting .sender) cs″ Rs″ → Going S place (benchIs (place .setting) W cs Rs) R₀ rows
-          → BenchKept W′ cs″ Rs″ × Going S (s .place) (benchIs (s .place .setting) W′ cs″ Rs″) R₀ rows′ × Fulls Rs″ (replicate f 0)
+      pub run-fresh : {R₀ : List ℕ} (cs″ : List Controller) (Rs″ : List (List ℕ)) (f : ℕ) → f ≡ 16 → s .fresh ≡ true → Started (s .place .setting .members) (s .place .setting .sender) cs″ Rs″ → RunSoFar S place (benchIs (place .setting) W cs Rs) R₀ rows
+          → BenchKept W′ cs″ Rs″ × RunSoFar S (s .place) (benchIs (s .place .setting) W′ cs″ Rs″) R₀ rows′ × Fulls Rs″ (replicate f 0)
       run-fresh {R₀} cs″ Rs″ f z e′ d going = (
         fresh-kept (place .setting) W W′ cs Rs R′ k (a .line) (a .reply) (s .place .setting) (s .fresh) (line-seat q) m run-at cs″ Rs″ d e′,
         goes-on S place (s .place) (benchIs (place .setting) W cs Rs) (benchIs (s .place .setting) W′ cs″ Rs″) R₀ rows rows′ going r (part-read S (place .at) r of) more (some (a .line)) (line-reads (a .line) (a .reads)) (a .reply)
@@ -387,16 +392,16 @@ module _ (S : List ℕ) (place : Place) (r : ReadLine) (of : LineOf (take (lengt
       )
 
   -- one that does not
-  pub unread-on : r .parsed ≡ Unreadable → {W : List ℕ} {cs : List Controller} {Rs : List (List ℕ)} {R R′ R″ : List ℕ} {on : Place} → BenchKept W cs Rs → Going S place (benchIs (place .setting) W cs Rs) R R′ → place .at < length S
-      → RowPut R′ place (r .next) (rowOf (place .n) 16 word.Refused (value.Number 8)) on R″ → Going S on (benchIs (on .setting) W cs Rs) R R″
+  pub unread-on : r .parsed ≡ Unreadable → {W : List ℕ} {cs : List Controller} {Rs : List (List ℕ)} {R R′ R″ : List ℕ} {on : Place} → BenchKept W cs Rs → RunSoFar S place (benchIs (place .setting) W cs Rs) R R′ → place .at < length S
+      → RowPut R′ place (r .next) (rowOf (place .n) 16 word.Refused (value.Number 8)) on R″ → RunSoFar S on (benchIs (on .setting) W cs Rs) R R″
   unfolding step
   unread-on e {W} {cs} {Rs} {R} {R′} {R″} {on} m going more p =
-      subst (λ g. Going S on (benchIs g W cs Rs) R R″) (sym (p .setting))
+      subst (λ g. RunSoFar S on (benchIs g W cs Rs) R R″) (sym (p .setting))
       (goes-on S place on (benchIs (place .setting) W cs Rs) (benchIs (place .setting) W cs Rs) R R′ R″ going r (part-read S (place .at) r of) more none (subst (λ t. ReadAs t (take (r .next) (drop (place .at) S))) e (part-read S (place .at) r of .reads))
       (record { who = 16; answer = controller.refused controller.outOfPlace; number = 0 }) refl (passed-as (refused-row (place .n)) (p .passed)))
 
-pub going-long : {S : List ℕ} {place : Place} {b : Bench} {R R′ : List ℕ} → Going S place b R R′ → length R′ ≡ length R
-going-long {R = R} g = ap length (g .rows) ∙ length-sets R 22 (g .printed)
+pub going-long : {S : List ℕ} {place : Place} {b : Bench} {R R′ : List ℕ} → RunSoFar S place b R R′ → length R′ ≡ length R
+going-long {R = R} g = ap length (g .wrote .is) ∙ length-sets R 22 (g .printed)
 
 pub full-whole : (b : Bool) (n full r : ℕ) → b ≡ true → r ≡ n → r ≡ fullAfter b n full
 full-whole b n full r e q = q ∙ sym (ap (λ x. fullAfter x n full) e)
@@ -418,19 +423,18 @@ module _ (W R : List ℕ) (place : Place) (l : Held) (T : List ℕ) (full : ℕ)
     line = a .line;
     reads = a .reads;
     reply = replyIs W′ (st .who) (st .answer) (st .number);
-    passed = (let u = passed-as (row-is W′ (place .n) (st .who) (st .answer) (st .number)) (p .passed) in record { at = u .at; number = u .number; end = u .end; rows = u .rows; small = u .small });
+    passed = (let u = passed-as (row-is W′ (place .n) (st .who) (st .answer) (st .number)) (p .passed) in record { at = u .at; number = u .number; wrote = u .wrote; small = u .small });
     advanced = a .stepped .advanced;
     full-is = λ e. subst (Full R′) (sym z) (full-after R′ (poolLen W′) (st .whole) (a .stepped .advanced .keeps e) (a .stepped .full));
   }
 
 -- ---- the start and the end
 
-pub going-end : {S : List ℕ} {place : Place} {b : Bench} {R R′ : List ℕ} → Going S place b R R′ → length S ≤ place .at → length S ≤ 65536 → Ran S R R′ (place .out)
+pub going-end : {S : List ℕ} {place : Place} {b : Bench} {R R′ : List ℕ} → RunSoFar S place b R R′ → length S ≤ place .at → length S ≤ 65536 → Ran S R R′ (place .out)
 unfolding rowsFrom lines
 going-end {S} {place} {b} {R} {R′} g e l = record {
   printed = g .printed;
-  rows = g .rows;
-  end = g .end;
+  wrote = g .wrote;
   small = omega (arith, g .small, g .within);
   ran = g .rest [] (subst (λ t. ReadAll (lines t) []) (sym (drop-of-length-le S e)) tt);
 }
@@ -482,11 +486,10 @@ module _ (c : Controller) (fresh : controllerIs c ≡ controller.notSetUp) (m n 
       (λ k l. ap₂ (λ x y. record { controller = controllerIs x; statements = recordIn W₀ y }) (controller-is k l) (record-is k l) ∙ ap₂ (λ x y. record { controller = x; statements = y }) fresh no-record))
       (sym (no-pool W₀ empty-pool))
 
-  pub going-first : (S R : List ℕ) (place : Place) → Begins place → Going S place (benchIs (place .setting) W₀ (replicate m c) (replicate m R₀)) R R
+  pub going-first : (S R : List ℕ) (place : Place) → AtStart place → RunSoFar S place (benchIs (place .setting) W₀ (replicate m c) (replicate m R₀)) R R
   going-first S R place b = record {
     printed = [];
-    rows = refl;
-    end = b .out;
+    wrote = record { next = omega (arith, b .out); is = refl };
     small = omega arith;
     number = omega (arith, b .number, b .at);
     within = omega (arith, b .at);
@@ -499,14 +502,8 @@ module _ (c : Controller) (fresh : controllerIs c ≡ controller.notSetUp) (m n 
 
 -- ---- the header and what stands after it
 
-headed : (S R R′ R″ xs : List ℕ) (r : ℕ) → Printed S (headerText ++ xs) → R′ ≡ sets R 0 headerText → R″ ≡ sets R′ 22 xs → r ≡ 22 + length xs → length xs ≤ 2621440 → PrintedInto S R r R″
-headed S R R′ R″ xs r p e f g m = record {
-  text = headerText ++ xs;
-  printed = p;
-  long = g ∙ sym (length-append headerText xs);
-  small = omega (arith, length-append headerText xs);
-  rows = f ∙ ap (λ t. sets t 22 xs) e ∙ sym (sets-append headerText xs R 0);
-}
+headed : (S R R′ R″ xs : List ℕ) (r : ℕ) → Printed S (headerText ++ xs) → R′ ≡ sets R 0 headerText → Wrote R′ 22 xs r R″ → length xs ≤ 2621440 → PrintedInto S R r R″
+headed S R R′ R″ xs r p e w m = record { text = headerText ++ xs; printed = p; wrote = both {s = headerText} (record { next = refl; is = e }) w; small = omega (arith, length-append headerText xs) }
 
 empty-reads : (S : List ℕ) → length S ≡ 0 → ReadAll (lines S) []
 unfolding lines
@@ -514,9 +511,9 @@ empty-reads [] e = tt
 empty-reads (x ∷ S) e = absurd (omega arith)
 
 module _ (S R R′ R″ : List ℕ) (r : ℕ) (e : R′ ≡ sets R 0 headerText)
-    (put : (r ≡ 22 + length (rowOf 0 16 word.Refused (value.Number 8))) × (R″ ≡ sets R′ 22 (rowOf 0 16 word.Refused (value.Number 8))) × (length (rowOf 0 16 word.Refused (value.Number 8)) ≤ 40)) where
+    (put : Wrote R′ 22 refusedRow r R″ × (length refusedRow ≤ 40)) where
   refusal : Printed S (headerText ++ refusedRow) → PrintedInto S R r R″
-  refusal p = headed S R R′ R″ (rowOf 0 16 word.Refused (value.Number 8)) r (subst (λ t. Printed S (headerText ++ t)) (sym (refused-row 0)) p) e (put .1) (put .0) (omega (arith, put .2))
+  refusal p = headed S R R′ R″ refusedRow r p e (put .0) (omega (arith, put .1))
 
   pub printed-empty : length S ≡ 0 → PrintedInto S R r R″
   printed-empty z = refusal (record { reading = []; reads = λ h. empty-reads S z; prints = ap (λ t. headerText ++ t) (sym (pick-true (eqb (length S) 0 || ltb 65536 (length S)) refusedRow (rowsFrom 1 newBench []) (ap (λ b. b || ltb 65536 (length S)) (eq-eqb (length S) 0 z)))) })
@@ -533,4 +530,4 @@ printed-run S R R′ R″ r e m a b = headed S R R′ R″ (m .printed) r (recor
   reading = m .ran .reading;
   reads = λ h. m .ran .reads;
   prints = ap (λ t. headerText ++ t) (sym (m .ran .rows ∙ append-nil (m .printed)) ∙ sym (pick-false (eqb (length S) 0 || ltb 65536 (length S)) refusedRow (rowsFrom 1 newBench (m .ran .reading)) (ap₂ _||_ (ne-eqb (length S) 0 a) (le-ltb 65536 (length S) b))));
-}) e (m .rows) (m .end) (m .small)
+}) e (m .wrote) (m .small)

@@ -37,7 +37,7 @@ use Rattle.schedule.specs.declared.line.Line.the-variants as is
 use Rattle.bench.specs.declared.seat.Given.{Given}
 use Rattle.bench.specs.Bench as bench
 use Rattle.bench.specs.Bench.{Seat, emptySeat, Bench, Stepped, step}
-use Rattle.bench.specs.Seats.{seatIs, benchOf, Distinct, Sound, numbersIn, hasNumber, Full, Keeps, Marks, unmarked, RecordFilled, refusedFor, takenAs, Seated, Gives, GivesAll, numberIs, changesIs, CalledAtSeat, CalledByLine}
+use Rattle.bench.specs.Seats.{seatIs, benchOf, Distinct, Sound, numbersIn, hasNumber, Full, Keeps, Marks, unmarked, RecordFilled, refusedFor, takenAs, GivenAtSeat, Gives, GivesAll, numberIs, changesIs, CalledAtSeat, CalledByLine}
 use Rattle.bench.proofs.Unchanged.{Idle, idle-answer, Stays, Unsigned, join-stays, leave-stays, send-stays, turn-stays, join-unsigned, leave-unsigned, send-unsigned}
 use Rattle.bench.proofs.Records.{ids, keeps-same, keeps-pushed, below-pushed, within-pool, pool-within, pool-most, keeps-filled, full-filled, filter-append, filter-one, numbers-pushed}
 
@@ -113,9 +113,9 @@ seat-same X k e = ap (λ t. set X k (record { controller = getD X k emptySeat .c
 module _ (W R : List ℕ) (ready : Bool) (k : ℕ) (l : Line) (r : Given) where
   seat-refused : (q : Refusal) → r ≡ refusedFor q → AllIn W R
       → ((faulty : ℕ) (X : List Seat) → getD X k emptySeat .statements ≡ recordIn W R → step (benchOf ready faulty X W) (some l) ≡ bench.refuseLine (benchOf ready faulty X W) k (refusalIs q))
-      → Seated W R ready k l r R
+      → GivenAtSeat W R ready k l r R
   unfolding answerIs
-  seat-refused q e w h = subst (λ t. Seated W R ready k l t R) (sym e) (record {
+  seat-refused q e w h = subst (λ t. GivenAtSeat W R ready k l t R) (sym e) (record {
     steps = λ faulty X x. h faulty X x ∙ replied k ready faulty refl refl (sym (seat-same X k x)) refl;
     whole = w;
     keeps = keeps-same R;
@@ -126,9 +126,9 @@ module _ (W R : List ℕ) (ready : Bool) (k : ℕ) (l : Line) (r : Given) where
       → ((faulty : ℕ) (X : List Seat) → getD X k emptySeat .statements ≡ recordIn W R
       → step (benchOf ready faulty X W) (some l)
       ≡ record { reply = record { who = k; answer = controller.taken; number = n }; bench = benchOf ready faulty (set X k (record { controller = getD X k emptySeat .controller; statements = recordIn W R′ })) W })
-      → Seated W R ready k l r R′
+      → GivenAtSeat W R ready k l r R′
   unfolding answerIs
-  seat-taken n b R′ e w p f h = subst (λ t. Seated W R ready k l t R′) (sym e) (record { steps = h; whole = w; keeps = p; full = f })
+  seat-taken n b R′ e w p f h = subst (λ t. GivenAtSeat W R ready k l t R′) (sym e) (record { steps = h; whole = w; keeps = p; full = f })
 
 -- ---- give
 

@@ -6,8 +6,8 @@ use mathlib.Core.List.{List, [], _++_}
 use mathlib.Core.Option.{Option, some}
 use Prim.Native.Nat.{ℕ, _+_, _*_, _<_, _≤_}
 use lib.ListN.{length, getD, drop}
-use lib.Seq.{sets}
 use Rattle.protocol.specs.Call.{started}
+use Rattle.text.specs.Written.{Wrote}
 use Rattle.views.specs.Table.{table}
 use Rattle.pool.specs.Pool.{recordLen, AllIn}
 use Rattle.engine.specs.declared.Controller.{Controller}
@@ -59,17 +59,16 @@ pub record Reading (S : List ℕ) (printed rest : List ℕ) : Type 0 where
   pub rows : rowsFrom 1 newBench reading ≡ printed ++ rest
 
 -- The lines before the place were run, and b is the bench; `printed` stands in the rows R′ after the header.
-pub record Going (S : List ℕ) (place : Place) (b : Bench) (R R′ : List ℕ) : Type 0 where
+pub record RunSoFar (S : List ℕ) (place : Place) (b : Bench) (R R′ : List ℕ) : Type 0 where
   pub printed : List ℕ
-  pub rows : R′ ≡ sets R 22 printed
-  pub end : place .out ≡ 22 + length printed
+  pub wrote : Wrote R 22 printed (place .out) R′
   pub small : length printed ≤ 40 * place .at
   pub number : place .n ≤ place .at + 1
   pub within : place .at ≤ length S
   pub rest : (L : List (Option Line)) → ReadAll (lines (drop (place .at) S)) L → Reading S printed (rowsFrom (place .n) b L)
 
 -- A run before the first line, with the rows after the header.
-pub record Begins (place : Place) : Type 0 where
+pub record AtStart (place : Place) : Type 0 where
   pub ready : place .setting .ready ≡ false
   pub faulty : place .setting .faulty ≡ 0
   pub at : place .at ≡ 0
@@ -77,7 +76,7 @@ pub record Begins (place : Place) : Type 0 where
   pub out : place .out ≡ 22
 
 -- A run that has room for one more row and goes on so many bytes later.
-pub record Room (place : Place) (next : ℕ) : Type 0 where
+pub record HasRoom (place : Place) (next : ℕ) : Type 0 where
   pub out : place .out ≤ 2621504
   pub number : place .n < 100000
   pub at : place .at + next ≤ 65536
@@ -86,8 +85,7 @@ pub record Room (place : Place) (next : ℕ) : Type 0 where
 pub record RowWritten (R : List ℕ) (place : Place) (next : ℕ) (row : List ℕ) (on : Place) (R′ : List ℕ) : Type 0 where
   pub at : on .at ≡ place .at + next
   pub number : on .n ≡ place .n + 1
-  pub end : on .out ≡ place .out + length row
-  pub rows : R′ ≡ sets R (place .out) row
+  pub wrote : Wrote R (place .out) row (on .out) R′
   pub small : length row ≤ 40
 
 -- What a row of a line that leaves all settings as they are does to the run.
@@ -112,8 +110,7 @@ pub record LineRun (W R : List ℕ) (place : Place) (k : ℕ) (T : List ℕ) (ro
 -- The rows of a schedule stand after the header.
 pub record Ran (S : List ℕ) (R R′ : List ℕ) (out : ℕ) : Type 0 where
   pub printed : List ℕ
-  pub rows : R′ ≡ sets R 22 printed
-  pub end : out ≡ 22 + length printed
+  pub wrote : Wrote R 22 printed out R′
   pub small : length printed ≤ 2621440
   pub ran : Reading S printed []
 
@@ -121,9 +118,8 @@ pub record Ran (S : List ℕ) (R R′ : List ℕ) (out : ℕ) : Type 0 where
 pub record PrintedInto (S R : List ℕ) (r : ℕ) (R′ : List ℕ) : Type 0 where
   pub text : List ℕ
   pub printed : Printed S text
-  pub long : r ≡ length text
+  pub wrote : Wrote R 0 text r R′
   pub small : length text ≤ 2621504
-  pub rows : R′ ≡ sets R 0 text
 
 -- r is the length of what is printed for S.
 pub record Long (S : List ℕ) (r : ℕ) : Type 0 where

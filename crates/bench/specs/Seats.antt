@@ -118,7 +118,7 @@ pub record RecordFilled (R : List ℕ) (marks : List Bool) (n : ℕ) (R′ : Lis
 -- ---- a line that goes to one record
 
 -- The line l, which names seat k, was answered so: what it does to every bench that has the record R there.
-pub record Seated (W R : List ℕ) (ready : Bool) (k : ℕ) (l : Line) (r : Given) (R′ : List ℕ) : Type 0 where
+pub record GivenAtSeat (W R : List ℕ) (ready : Bool) (k : ℕ) (l : Line) (r : Given) (R′ : List ℕ) : Type 0 where
   pub steps : (faulty : ℕ) (X : List Seat) → getD X k emptySeat .statements ≡ recordIn W R
       → step (benchOf ready faulty X W) (some l)
       ≡ record {
@@ -131,10 +131,10 @@ pub record Seated (W R : List ℕ) (ready : Bool) (k : ℕ) (l : Line) (r : Give
 
 -- What `give` of statement n promises, and what `all` does, whomever they name.
 pub record Gives (W R : List ℕ) (ready : Bool) (n : ℕ) (r : Given) (R′ : List ℕ) : Type 0 where
-  pub to : (k : ℕ) → Seated W R ready k (lines.give k n) r R′
+  pub to : (k : ℕ) → GivenAtSeat W R ready k (lines.give k n) r R′
 
 pub record GivesAll (W R : List ℕ) (ready : Bool) (r : Given) (R′ : List ℕ) : Type 0 where
-  pub to : (k : ℕ) → Seated W R ready k (lines.all k) r R′
+  pub to : (k : ℕ) → GivenAtSeat W R ready k (lines.all k) r R′
 
 -- ---- a call
 
@@ -198,7 +198,7 @@ isCall (is.Turn k) = true
 isCall is.Lie = false
 
 -- The line l was read from the text T.
-pub record Fit (l : Held) (T : List ℕ) : Type 0 where
+pub record ReadFrom (l : Held) (T : List ℕ) : Type 0 where
   pub tells : Tells (meant l) (ended T)
 
 -- The line l calls the controller c, which has the record R.
@@ -238,15 +238,15 @@ pub record SteppedBy (W R : List ℕ) (g : Setting) (k : ℕ) (T : List ℕ) (s 
   pub stepped : SteppedAs W R g k line s W′ R′
 
 -- The same of a line that goes to the pool alone: whatever record stands at the first seat stays.
-pub record Pools (W : List ℕ) (g : Setting) (l : Line) (s : Effect) (W′ : List ℕ) : Type 0 where
+pub record SteppedOnPool (W : List ℕ) (g : Setting) (l : Line) (s : Effect) (W′ : List ℕ) : Type 0 where
   pub over : (R : List ℕ) → AllIn W R → SteppedAs W R g 0 l s W′ R
 
-pub record PoolsBy (W : List ℕ) (g : Setting) (T : List ℕ) (s : Effect) (W′ : List ℕ) : Type 0 where
+pub record SteppedOnPoolBy (W : List ℕ) (g : Setting) (T : List ℕ) (s : Effect) (W′ : List ℕ) : Type 0 where
   pub over : (R : List ℕ) → AllIn W R → SteppedBy W R g 0 T s W′ R
 
 -- What is told of a lie whose text is no statement.
 pub record NoStatement (g : Setting) (s : Effect) : Type 0 where
-  pub pools : (W : List ℕ) → Distinct W → Pools W g lines.noStatement s W
+  pub pools : (W : List ℕ) → Distinct W → SteppedOnPool W g lines.noStatement s W
 
 -- What is told of a line that was answered so and leaves all settings as they were.
 pub record ToldAs (g : Setting) (who : ℕ) (r : Given) (s : Effect) : Type 0 where
@@ -264,7 +264,7 @@ abbrev pub takenAs : ℕ → Bool → Given
 takenAs n whole = record { answer = Taken; number = n; whole = whole }
 
 -- The line leaves every bench as it is and answers taken with 0, where the record of the controller that it names has every number below full.
-pub record Needless (W : List ℕ) (g : Setting) (full : ℕ) (l : Held) : Type 0 where
+pub record LacksNothing (W : List ℕ) (g : Setting) (full : ℕ) (l : Held) : Type 0 where
   pub line : Line
   pub means : meant l ≡ some line
   pub steps : (R : List ℕ) → Sound W R → Full R full → (X : List Seat) → getD X (seatOf (Readable l)) emptySeat .statements ≡ recordIn W R

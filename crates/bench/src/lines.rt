@@ -5,12 +5,13 @@ ghost use Prim.Native.Nat.{_+_, _<_, _≤_};
 ghost use lib.ListN.{length};
 ghost use Rattle.protocol.specs.Controller.{refusalNumber};
 ghost use Rattle.protocol.specs.Call.{setupAllowed};
+ghost use Rattle.text.specs.Written.{Wrote};
 ghost use Rattle.engine.specs.Meaning.{refusalIs};
 ghost use Rattle.schedule.specs.declared.line.Parsed.the-variants.{Readable};
-ghost use Rattle.bench.specs.Rows.{Answered};
-ghost use Rattle.bench.specs.Seats.{Sound, Full, Fit, seatOf, isCall, wordOfAnswer, valueOfAnswer};
+ghost use Rattle.bench.specs.Rows.{refusedRow, Answered};
+ghost use Rattle.bench.specs.Seats.{Sound, Full, ReadFrom, seatOf, isCall, wordOfAnswer, valueOfAnswer};
 ghost use Rattle.bench.specs.Writing.{rowOf};
-ghost use Rattle.bench.specs.Running.{rowIs, Started, Room, RowPut, fullAfter, LineRun, Begins, Ran, PrintedInto, Long};
+ghost use Rattle.bench.specs.Running.{rowIs, Started, HasRoom, RowPut, fullAfter, LineRun, AtStart, Ran, PrintedInto, Long};
 ghost use Rattle.pool.specs.Pool.{poolLen};
 use crate::row;
 use crate::row::Value;
@@ -30,6 +31,12 @@ use views::View;
 
 // A seat for each controller.
 const SEATS: usize = View::WIDTH as usize;
+
+// No longer schedule is run.
+const SCHEDULE_MAX: usize = 65536;
+
+// The number of the refusal of what is out of place.
+const OUT_OF_PLACE: u64 = 8;
 
 // Enough for the rows of any schedule.
 pub const ROWS_MAX: usize = 2621504;
@@ -94,7 +101,7 @@ struct Moved {
 
 // Writes a row, and goes on with the line that starts so many bytes later.
 fn put_line(rows: &mut [u8], place: Place, next: usize, who: u64, word: Word, value: Value) -> Place
-    requires { ⌜ Room place next × (who ≤ 16) ⌝ }
+    requires { ⌜ HasRoom place next × (who ≤ 16) ⌝ }
     ensures { λ r. ⌜ RowPut (now (rows .entry)) place next (rowOf (place .n) who word value) r (now (rows .exit)) ⌝ }
 {
     let end = row::put_row_within(rows, place.out, place.n, who, word, value);
@@ -108,7 +115,7 @@ fn put_line(rows: &mut [u8], place: Place, next: usize, who: u64, word: Word, va
 
 // The row of an answer.
 fn put_step(rows: &mut [u8], place: Place, next: usize, who: u64, a: Answer, number: u64) -> Place
-    requires { ⌜ Room place next × (who ≤ 16) ⌝ }
+    requires { ⌜ HasRoom place next × (who ≤ 16) ⌝ }
     ensures { λ r. ⌜ RowPut (now (rows .entry)) place next (rowIs (place .n) who a number) r (now (rows .exit)) ⌝ }
 {
     put_line(rows, place, next, who, word_of(a), value_of(a, number))
@@ -176,7 +183,7 @@ fn run_line(
     text: &[u8],
     full: usize,
 ) -> Moved
-    requires { ⌜ Sound (now words) (now ids) × Fit line (now text) × (isCall line ≡ false) × Room place (length (now text) + 1) × Full (now ids) full ⌝ }
+    requires { ⌜ Sound (now words) (now ids) × ReadFrom line (now text) × (isCall line ≡ false) × HasRoom place (length (now text) + 1) × Full (now ids) full ⌝ }
     ensures { λ r. ⌜ LineRun (now (words .entry)) (now (ids .entry)) place (seatOf (Readable line)) (now (text .entry)) (now (rows .entry)) r (now (words .exit)) (now (ids .exit)) (now (rows .exit)) ⌝ }
 {
     let next = text.len() + 1;
@@ -194,7 +201,7 @@ fn run_line(
 
 // Where a run stands at first: the rows stand after the header.
 fn first() -> Place
-    ensures { λ r. ⌜ Begins r ⌝ }
+    ensures { λ r. ⌜ AtStart r ⌝ }
 {
     let none = Setting {
         ready: false,
@@ -206,7 +213,7 @@ fn first() -> Place
         setting: none,
         at: 0,
         n: 1,
-        out: 22,
+        out: row::HEADER,
     }
 }
 
@@ -229,7 +236,14 @@ fn run_lines(schedule: &[u8], rows: &mut [u8]) -> usize
         let next = read.next;
         let parsed = read.parsed;
         let Parsed::Readable(line) = parsed else {
-            let on = put_line(rows, place, next, NOBODY, Word::Refused, Value::Number(8));
+            let on = put_line(
+                rows,
+                place,
+                next,
+                NOBODY,
+                Word::Refused,
+                Value::Number(OUT_OF_PLACE),
+            );
             place = on;
             continue;
         };
@@ -270,6 +284,20 @@ fn run_lines(schedule: &[u8], rows: &mut [u8]) -> usize
     place.out
 }
 
+// The only row of a schedule that is not run.
+fn put_refused(rows: &mut [u8]) -> usize
+    ensures { λ r. ⌜ Wrote (now (rows .entry)) 22 refusedRow r (now (rows .exit)) × (length refusedRow ≤ 40) ⌝ }
+{
+    row::put_row_within(
+        rows,
+        row::HEADER,
+        0,
+        NOBODY,
+        Word::Refused,
+        Value::Number(OUT_OF_PLACE),
+    )
+}
+
 // Of the rows of a schedule, writes what has room, and answers how many bytes they all have. No schedule has more than 65,536 lines, and
 // no row more than 40 bytes.
 fn run_rows(schedule: &[u8], rows: &mut [u8]) -> usize
@@ -277,10 +305,10 @@ fn run_rows(schedule: &[u8], rows: &mut [u8]) -> usize
 {
     row::put_header(rows);
     if schedule.len() == 0 {
-        return row::put_row_within(rows, 22, 0, NOBODY, Word::Refused, Value::Number(8));
+        return put_refused(rows);
     }
-    if schedule.len() > 65536 {
-        return row::put_row_within(rows, 22, 0, NOBODY, Word::Refused, Value::Number(8));
+    if schedule.len() > SCHEDULE_MAX {
+        return put_refused(rows);
     }
     run_lines(schedule, rows)
 }

@@ -7,7 +7,7 @@ ghost use Rattle.statements.specs.Meaning.{stmtOf};
 ghost use Rattle.schedule.specs.declared.line.Parsed.the-variants.{Readable};
 ghost use Rattle.schedule.specs.Line as lines;
 ghost use Rattle.schedule.specs.Reading.{Lying};
-ghost use Rattle.bench.specs.Seats.{Distinct, Sound, Fit, seatOf, isCall, numberIs, changesIs, refusedFor, CalledByLine, ToldAs, SteppedBy, Pools, PoolsBy, NoStatement, Needless};
+ghost use Rattle.bench.specs.Seats.{Distinct, Sound, ReadFrom, seatOf, isCall, numberIs, changesIs, refusedFor, CalledByLine, ToldAs, SteppedBy, SteppedOnPool, SteppedOnPoolBy, NoStatement, LacksNothing};
 use crate::seat;
 use crate::seat::Given;
 use engine::Answer;
@@ -139,7 +139,7 @@ fn set_up(
     faulty: u16,
 ) -> Effect
     requires { ⌜ Distinct (now words) ⌝ }
-    ensures { λ s. ⌜ Pools (now (words .entry)) g (lines.setup members sender faulty) s (now (words .exit)) ⌝ }
+    ensures { λ s. ⌜ SteppedOnPool (now (words .entry)) g (lines.setup members sender faulty) s (now (words .exit)) ⌝ }
 {
     if sender >= View::WIDTH {
         return refused(g, NOBODY, Refusal::BadSetup);
@@ -181,7 +181,7 @@ fn is_marked(faulty: u16, k: u8) -> bool
 // A lie changes the pool alone.
 fn lie(words: &mut [u64; POOL_WORDS], g: Setting, st: Statement) -> Effect
     requires { ⌜ Distinct (now words) × (st .history .len ≤ 16) × (st .origin < 16) ⌝ }
-    ensures { λ s. ⌜ Pools (now (words .entry)) g (lines.lie (stmtOf st)) s (now (words .exit)) ⌝ }
+    ensures { λ s. ⌜ SteppedOnPool (now (words .entry)) g (lines.lie (stmtOf st)) s (now (words .exit)) ⌝ }
 {
     let who = st.origin as u64;
     if !g.ready {
@@ -214,7 +214,7 @@ fn no_statement(g: Setting) -> Effect
 // A line that is a lie. Its statement is read here, so that no other line pays for it.
 fn lie_line(words: &mut [u64; POOL_WORDS], g: Setting, text: &[u8]) -> Effect
     requires { ⌜ Distinct (now words) × Lying (now text) ⌝ }
-    ensures { λ s. ⌜ PoolsBy (now (words .entry)) g (now (text .entry)) s (now (words .exit)) ⌝ }
+    ensures { λ s. ⌜ SteppedOnPoolBy (now (words .entry)) g (now (text .entry)) s (now (words .exit)) ⌝ }
 {
     let read = line::lied(text);
     if !read.ok {
@@ -226,7 +226,7 @@ fn lie_line(words: &mut [u64; POOL_WORDS], g: Setting, text: &[u8]) -> Effect
 
 // Whether a line is an `all` that finds nothing missing. The record of the controller that it names has every number below `full`.
 pub fn lacks_nothing(line: Line, g: Setting, words: &[u64; POOL_WORDS], full: usize) -> bool
-    ensures { λ r. ⌜ (r ≡ true → Needless (now (words .entry)) g full line) ⌝ }
+    ensures { λ r. ⌜ (r ≡ true → LacksNothing (now (words .entry)) g full line) ⌝ }
 {
     if !g.ready {
         return false;
@@ -249,7 +249,7 @@ pub fn step(
     line: Line,
     text: &[u8],
 ) -> Effect
-    requires { ⌜ Sound (now words) (now ids) × Fit line (now text) × (isCall line ≡ false) ⌝ }
+    requires { ⌜ Sound (now words) (now ids) × ReadFrom line (now text) × (isCall line ≡ false) ⌝ }
     ensures { λ s. ⌜ SteppedBy (now (words .entry)) (now (ids .entry)) g (seatOf (Readable line)) (now (text .entry)) s (now (words .exit)) (now (ids .exit)) ⌝ }
 {
     match line {

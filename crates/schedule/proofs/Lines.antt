@@ -23,15 +23,6 @@ use Rattle.schedule.specs.Line.{Line, setup, join, leave, send, give, al
 use Rattle.schedule.specs.Reading.{meant, Tells, ReadAs, bodyLength, Understood, LineOf}
 
 -- ---- the length of a line without its newline
-pub body-most : (S : List ℕ) → bodyLength S ≤ length S
-unfolding bodyLength
-body-most [] = omega arith
-body-most (c ∷ S) = go (eqb c 10) (body-most S)
-  where
-    go : (t : Bool) → bodyLength S ≤ length S → cond t 0 (suc (bodyLength S)) ≤ suc (length S)
-    go true h = omega arith
-    go false h = omega arith
-
 body-newline : (S : List ℕ) → bodyLength S < length S → getD S (bodyLength S) 0 ≡ 10
 unfolding bodyLength
 body-newline [] h = absurd (omega arith)

@@ -5,12 +5,13 @@ ghost use mathlib.Core.List.{[], _∷_, _++_};
 ghost use Prim.Native.Nat.{_+_, _*_, _≤_, _<_};
 ghost use lib.ListN.{length, getD};
 ghost use Rattle.text.specs.Text.{decText};
+ghost use Rattle.text.specs.Written.{Wrote};
 ghost use Rattle.statements.specs.Parts.{tailText};
 ghost use Rattle.views.specs.View.{viewOf, viewsOf};
 ghost use Rattle.pool.specs.Pool.{recordIn};
 ghost use Rattle.evidence.specs.Evidence.{ringIs};
 ghost use Rattle.screen.specs.Screen.{wishedLine, candidatesLine, viewsLine, greatestWord, ScreenShows};
-ghost use Rattle.screen.specs.ScreenParts.{Wrote, certifiedLine, linesOf, Few};
+ghost use Rattle.screen.specs.ScreenParts.{certifiedLine, linesOf, Few};
 use evidence::Evidence;
 use evidence::Ring;
 use pool::POOL_WORDS;
@@ -19,18 +20,6 @@ use views::View;
 
 // No text is longer: 16 bytes of the wished view, 158 of sixteen candidates, 156 of sixteen views of a history and 40 of a certificate.
 pub const SHOWN_BYTES: usize = 512;
-
-fn put_text(out: &mut [u8], at: usize, t: &[u8]) -> usize
-    requires { ⌜ at + length (now t) ≤ length (now out) ⌝ }
-    ensures { λ r. ⌜ Wrote (now (out .entry)) at (now (t .entry)) r (now (out .exit)) ⌝ }
-{
-    let mut i = 0usize;
-    while i < t.len() {
-        out[at + i] = t[i];
-        i += 1;
-    }
-    at + i
-}
 
 // View i of a list.
 fn view_in(list: &[u64; View::LIMIT], i: usize) -> u64
@@ -62,17 +51,17 @@ fn put_views(out: &mut [u8], at: usize, list: &[u64; View::LIMIT], n: usize) -> 
 {
     let a = statements::put_number(out, at, n as u64);
     let b = put_list(out, a, list, n);
-    put_text(out, b, b"\n")
+    text::write_text(out, b, b"\n")
 }
 
 fn put_wished(out: &mut [u8], wished: u64) -> usize
     requires { ⌜ 16 ≤ length (now out) ⌝ }
     ensures { λ r. ⌜ Wrote (now (out .entry)) 0 (wishedLine (viewOf wished)) r (now (out .exit)) ⌝ }
 {
-    let a = put_text(out, 0, b"wished");
+    let a = text::write_text(out, 0, b"wished");
     let v = View::of_word(wished);
     let b = statements::put_view(out, a, v);
-    put_text(out, b, b"\n")
+    text::write_text(out, b, b"\n")
 }
 
 fn put_candidates(
@@ -86,9 +75,9 @@ fn put_candidates(
     ensures { λ r. ⌜ Wrote (now (out .entry)) at (candidatesLine many (viewsOf (now (list .entry)) n)) r (now (out .exit)) ⌝ }
 {
     if many {
-        return put_text(out, at, b"candidates,many\n");
+        return text::write_text(out, at, b"candidates,many\n");
     }
-    let a = put_text(out, at, b"candidates");
+    let a = text::write_text(out, at, b"candidates");
     put_views(out, a, list, n)
 }
 
@@ -96,7 +85,7 @@ fn put_greatest(out: &mut [u8], at: usize, list: &[u64; View::LIMIT], n: usize) 
     requires { ⌜ (n ≤ 16) × (at + 156 ≤ length (now out)) ⌝ }
     ensures { λ r. ⌜ Wrote (now (out .entry)) at (viewsLine greatestWord (viewsOf (now (list .entry)) n)) r (now (out .exit)) ⌝ }
 {
-    let a = put_text(out, at, b"greatest");
+    let a = text::write_text(out, at, b"greatest");
     put_views(out, a, list, n)
 }
 
@@ -105,14 +94,14 @@ fn put_certificate(out: &mut [u8], at: usize, certified: bool, payload: u64, sto
     ensures { λ r. ⌜ Wrote (now (out .entry)) at (certifiedLine certified payload stored) r (now (out .exit)) ⌝ }
 {
     if !certified {
-        return put_text(out, at, b"certificate,none\n");
+        return text::write_text(out, at, b"certificate,none\n");
     }
-    let a = put_text(out, at, b"certificate");
+    let a = text::write_text(out, at, b"certificate");
     let b = statements::put_number(out, a, payload);
     if stored {
-        return put_text(out, b, b",stored\n");
+        return text::write_text(out, b, b",stored\n");
     }
-    put_text(out, b, b",kept\n")
+    text::write_text(out, b, b",kept\n")
 }
 
 fn put_evidence(
@@ -126,7 +115,7 @@ fn put_evidence(
 {
     let a = put_wished(out, e.wished);
     if e.conflict {
-        return put_text(out, a, b"conflict\n");
+        return text::write_text(out, a, b"conflict\n");
     }
     let b = put_candidates(out, a, e.many, candidates, e.count);
     let c = put_greatest(out, b, greatest, e.length);

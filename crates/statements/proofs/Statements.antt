@@ -23,7 +23,8 @@ use Rattle.views.specs.Held.{viewIs}
 use Rattle.statements.specs.Meaning.{firstViews, bindingIs, payloadOf, stmtOf, Fits}
 use Rattle.statements.specs.Promise.{ReadOf}
 use Rattle.statements.specs.Parts.{Bounded, NumberAt, ViewAt, ViewsAt, tailText, bindingFrom}
-use Rattle.statements.proofs.Views.{ok-before, first-long}
+use Rattle.statements.proofs.FieldLaws.{views-length}
+use Rattle.statements.proofs.Views.{ok-before}
 
 -- ---- the text of a statement from each of its parts on
 abbrev pub fromCount : Stmt → List ℕ
@@ -105,7 +106,7 @@ module _ (S : List ℕ) (first : Read) (kind origin : Part) (at view : ViewPart)
   pub whole-only : (t : Stmt) → Same t kind origin at view binding payload stored kept views → views .ok ≡ true → S ≡ text t
   whole-only t s o =
       let d10 = ch .c10 .only o ∙ ap tailText (s .views-is) in
-      let n = sym (ch .c10 .len o) ∙ sym (first-long (views .history .len) (views .history .views)) ∙ ap length (s .views-is) in
+      let n = sym (ch .c10 .len o) ∙ sym (views-length (views .history .len) (views .history .views)) ∙ ap length (s .views-is) in
       let d9 = number-on (kept .next) 16 count (ch .c9) (ch .c10 .counted o) (length (t .views)) (tailText (t .views)) n d10 in
       let d8 = number-on (stored .next) 18446744073709551615 kept (ch .c8) (before (kept .next) 44 _ (kept .ok) d9 (ch .c8 .stop)) (t .kept) (fromCount t) (s .kept-is) d9 in
       let d7 = number-on (payload .next) 1 stored (ch .c7) (before (stored .next) 44 _ (stored .ok) d8 (ch .c7 .stop)) (t .stored) (fromKept t) (s .stored-is) d8 in
