@@ -4,16 +4,16 @@ use Rattle.pool.proofs.listed.record_clear.Statement.{statement}
 use Rattle.pool.proofs.listed.record_clear.Tie as tie
 use Rattle.pool.proofs.listed.record_clear.Reads as reads
 use Rattle.pool.proofs.listed.record_clear.Lts as lts
-use Rattle.pool.proofs.listed.room.Reads as room-reads
+use Rattle.pool.proofs.listed.record_room.Reads as record-room-reads
 
-room-requires : tie.Need-room-requires
-room-requires c κs = search needs
+record-room-requires : tie.Need-record-room-requires
+record-room-requires c κs = search needs
 
 element-write-ids : tie.Need-element-write-ids
 element-write-ids c = search needs
 
 returns : tie.Need-returns
-returns c = emptied _ (c .room .ensures)
+returns c = emptied _ (c .record-room .ensures)
 
 pub record-clear-spec : {M : Type 1} → statement M
-record-clear-spec = tie.close (tie.spec room-requires element-write-ids returns)
+record-clear-spec = tie.close (tie.spec record-room-requires element-write-ids returns)
