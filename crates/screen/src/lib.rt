@@ -3,7 +3,7 @@ ghost use mathlib.Core.Path.{_≡_};
 ghost use mathlib.Core.Bool.{false};
 ghost use mathlib.Core.List.{[], _∷_, _++_};
 ghost use Prim.Native.Nat.{_+_, _*_, _≤_, _<_};
-ghost use lib.ListN.{length, getD};
+ghost use lib.ListN.{length};
 ghost use Rattle.text.specs.Text.{decText};
 ghost use Rattle.statements.specs.Parts.{tailText};
 ghost use Rattle.views.specs.View.{viewOf, viewsOf};
@@ -32,14 +32,6 @@ fn put_text(out: &mut [u8], at: usize, t: &[u8]) -> usize
     at + i
 }
 
-// View i of a list.
-fn view_in(list: &[u64; View::LIMIT], i: usize) -> u64
-    requires { ⌜ i < 16 ⌝ }
-    ensures { λ r. ⌜ r ≡ getD (now (list .entry)) i 0 ⌝ }
-{
-    list[i]
-}
-
 // A comma and a view for each of the first `n` of a list.
 fn put_list(out: &mut [u8], from: usize, list: &[u64; View::LIMIT], n: usize) -> usize
     requires { ⌜ (n ≤ 16) × (from + 9 * n ≤ length (now out)) ⌝ }
@@ -48,7 +40,7 @@ fn put_list(out: &mut [u8], from: usize, list: &[u64; View::LIMIT], n: usize) ->
     let mut at = from;
     let mut i = 0usize;
     while i < n {
-        let v = View::of_word(view_in(list, i));
+        let v = View::of_word(views::list_at(list, i));
         at = statements::put_view(out, at, v);
         i += 1;
     }

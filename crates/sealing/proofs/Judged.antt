@@ -59,15 +59,15 @@ module _ {W : List ℕ} {X : List Stmt} {init : ℕ} {K R M N : List ℕ} (ok : 
 
 -- ---- what the verdicts say
 
-module _ {W : List ℕ} {X : List Stmt} {init : ℕ} {K R : List ℕ} {nc na : ℕ} where
-  pub verdicts-of : {M : List ℕ} → Tables W X init K R nc na → Memos W X init K R M → Known 0 nc M → Known 512 (512 + na) M → Verdicts W X init K R nc na M
+module _ {W : List ℕ} {X : List Stmt} {init : ℕ} {K R : List ℕ} {choiceCount agreementCount : ℕ} where
+  pub verdicts-of : {M : List ℕ} → Tables W X init K R choiceCount agreementCount → Memos W X init K R M → Known 0 choiceCount M → Known 512 (512 + agreementCount) M → Verdicts W X init K R choiceCount agreementCount M
   verdicts-of {M} ok m c a = record {
     candidate = λ i l. m .right i (c .known i (omega arith) l) ∙ about-choice (omega (arith, ok .chosen .few)) .so;
     sealed = λ i l. m .right (512 + i) (a .known (512 + i) (omega arith) (omega arith)) ∙ about-agreement i .so;
   }
 
-  pub says-yes : {M : List ℕ} {a : ℕ} → Verdicts W X init K R nc na M → a < na → getD M (512 + a) 0 ≡ 1 → sealsAt W X init K R a ≡ true
+  pub says-yes : {M : List ℕ} {a : ℕ} → Verdicts W X init K R choiceCount agreementCount M → a < agreementCount → getD M (512 + a) 0 ≡ 1 → sealsAt W X init K R a ≡ true
   says-yes {M} {a} ok l e = sym (ok .sealed a l) ∙ eq-eqb (getD M (512 + a) 0) 1 e
 
-  pub says-no : {M : List ℕ} {a : ℕ} → Verdicts W X init K R nc na M → a < na → (getD M (512 + a) 0 ≡ 1 → ⊥) → false ≡ sealsAt W X init K R a
+  pub says-no : {M : List ℕ} {a : ℕ} → Verdicts W X init K R choiceCount agreementCount M → a < agreementCount → (getD M (512 + a) 0 ≡ 1 → ⊥) → false ≡ sealsAt W X init K R a
   says-no {M} {a} ok l e = sym (ne-eqb (getD M (512 + a) 0) 1 e) ∙ ok .sealed a l

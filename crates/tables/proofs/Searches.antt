@@ -1,4 +1,4 @@
--- Laws of searches for the rows of a key.
+-- Laws of walks along the index, and of searches for the rows of a key.
 -- Assumes nothing.
 use mathlib.Core.Path.{_≡_, sym, ap, subst, _∙_}
 use mathlib.Core.Bool.{Bool, false}

@@ -7,7 +7,7 @@ ghost use Rattle.tables.specs.Index.{newestAt, olderAt, numberAt, keyAt,
 // The most rows of a table.
 pub const CAPACITY: usize = 512;
 
-// The slots of an index. More of them, here 512, made long records 1.5 in 100 faster, and take longer to clear than they save where records are short.
+// The slots of an index. More would take longer to clear than they save where a record is short; with 512 two of three worst cases were 1.5 in 100 faster.
 pub const SLOTS: usize = 256;
 
 // Of the numbers of a table its slots come first. Where its links and the numbers of its rows start, and how many numbers it has.

@@ -55,12 +55,12 @@ module _ (W ids : List ℕ) (init : ℕ) (G : List ℕ) where
     pub word : IsWord (keyAt K 1 a)
     pub statement : numberAt R 1 a ≡ getD ids (placeOf (getD G g 0)) 0
 
-  -- The choices of the groups below n are the nc rows of the first table; the agreements are the na rows of the second.
+  -- The choices of the groups below n are the choiceCount rows of the first table; the agreements are the agreementCount rows of the second.
 
-  pub record Choices (n : ℕ) (K R : List ℕ) (nc : ℕ) : Type 0 where
-    pub index : Indexed K R 0 nc
-    pub picked : Picked (λ g. isChoice (ringOfWord init) (recordIn W ids) (voteAt W ids G g)) (ChoiceRow K R) n nc
+  pub record Choices (n : ℕ) (K R : List ℕ) (choiceCount : ℕ) : Type 0 where
+    pub index : Indexed K R 0 choiceCount
+    pub picked : Picked (λ g. isChoice (ringOfWord init) (recordIn W ids) (voteAt W ids G g)) (ChoiceRow K R) n choiceCount
 
-  pub record Agreements (n : ℕ) (K R : List ℕ) (na : ℕ) : Type 0 where
-    pub index : Indexed K R 1 na
-    pub picked : Picked (λ g. isAgreement (ringOfWord init) (recordIn W ids) (voteAt W ids G g)) (AgreementRow K R) n na
+  pub record Agreements (n : ℕ) (K R : List ℕ) (agreementCount : ℕ) : Type 0 where
+    pub index : Indexed K R 1 agreementCount
+    pub picked : Picked (λ g. isAgreement (ringOfWord init) (recordIn W ids) (voteAt W ids G g)) (AgreementRow K R) n agreementCount

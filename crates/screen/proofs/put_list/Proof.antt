@@ -28,6 +28,6 @@ put-list-spec =
     (λ c κs. omega (arith, c .before .before .before .before .before .before .pre .0, c .before .before .before .before .before .before .pre .1, c .before .before .before .loop-test .taken, c .before .before .before .before .loop .inv .1, ap length (c .before .before .before .before .loop .inv .2) ∙ length-sets (c .before .before .before .before .before .before .args .out .now) (c .before .before .before .before .before .before .args .from) (tailText (viewsOf (c .before .before .before .before .before .before .args .list .now) (c .before .before .before .before .loop .i)))))
     (λ c. search needs)
     (λ c. search needs)
-    (λ c. (omega arith, omega (arith, c .before .before .put-view .ensures .0), c .before .before .put-view .ensures .1 ∙ words-next _ _ (c .before .before .before .before .before .before .before .before .before .args .list .now) _ _ (c .before .before .before .before .before .before .before .loop .i) _ (c .before .before .before .before .before .before .before .loop .inv .2) (c .before .before .before .before .before .before .before .loop .inv .1) (word-text _ _ _ (c .before .before .before .before .of-word .ensures) (c .before .before .before .before .before .view-in .ensures))))
+    (λ c. (omega arith, omega (arith, c .before .before .put-view .ensures .0), c .before .before .put-view .ensures .1 ∙ words-next _ _ (c .before .before .before .before .before .before .before .before .before .args .list .now) _ _ (c .before .before .before .before .before .before .before .loop .i) _ (c .before .before .before .before .before .before .before .loop .inv .2) (c .before .before .before .before .before .before .before .loop .inv .1) (word-text _ _ _ (c .before .before .before .before .of-word .ensures) (c .before .before .before .before .before .list-at .ensures))))
     (λ c. ap length (c .before .loop .inv .2) ∙ simp length-sets)
     (λ c. let e : c .before .loop .i ≡ c .before .before .before .args .n = omega arith in record { next = rw (← e) (c .before .loop .inv .1 ∙ ap (λ k. c .before .before .before .args .from + k) (sym (words-long (c .before .before .before .args .list .now) (c .before .loop .i)))); is = rw (← e) (c .before .loop .inv .2) }))
