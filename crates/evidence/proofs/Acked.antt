@@ -76,17 +76,17 @@ module _ (W ids G : List ℕ) (n : ℕ) where
   paid g = vote g .payload
 
   -- the groups of acks before g have one payload
-  abbrev pub AckedTo : ℕ → Bool → ℕ → Type 0
-  AckedTo g some payload = Sole (λ h. vote h .kind ≡ 7) paid n g some payload
+  pub record AckedTo (g : ℕ) (some : Bool) (payload : ℕ) : Type 0 where
+    pub sole : Sole (λ h. vote h .kind ≡ 7) paid n g some payload
 
   pub acked-first : (payload : ℕ) → AckedTo 0 false payload
-  acked-first payload = sole-first
+  acked-first payload = record { sole = sole-first }
 
   pub acked-many : (some : Bool) (payload : ℕ) → AckedOf W ids G n true some payload
   acked-many y payload = record { one = λ e. absurd (subst T e tt); all = λ e. absurd (subst T e tt) }
 
   pub acked-end : {g payload : ℕ} {some : Bool} → g ≡ n → AckedTo g some payload → AckedOf W ids G n false some payload
-  acked-end e c = record { one = λ q. c .one; all = λ q h l. c .all h (omega arith) }
+  acked-end e c = record { one = λ q. c .sole .one; all = λ q h l. c .sole .all h (omega arith) }
 
   -- the first vote of group g stands at f
   module _ {g payload : ℕ} {some : Bool} (c : AckedTo g some payload) (f : ℕ) (p : f ≡ placeOf (getD G g 0)) where
@@ -97,19 +97,19 @@ module _ (W ids G : List ℕ) (n : ℕ) where
     payload-at e = e ∙ ap (λ i. entry W ids i .payload) p
 
     pub acked-not : (k : ℕ) → k ≡ entry W ids f .kind → (k ≡ 7 → ⊥) → AckedTo (g + 1) some payload
-    acked-not k e d = sole-step c (λ q. absurd (d (kind-at e ∙ q)))
+    acked-not k e d = record { sole = sole-step (c .sole) (λ q. absurd (d (kind-at e ∙ q))) }
 
     pub acked-same : (m : ℕ) → m ≡ entry W ids f .payload → some ≡ true → m ≡ payload → AckedTo (g + 1) some payload
-    acked-same m is t e = sole-step c (λ q. (t, sym (payload-at is) ∙ e))
+    acked-same m is t e = record { sole = sole-step (c .sole) (λ q. (t, sym (payload-at is) ∙ e)) }
 
     pub acked-start : (k m : ℕ) → g < n → k ≡ entry W ids f .kind → k ≡ 7 → m ≡ entry W ids f .payload → some ≡ false → AckedTo (g + 1) true m
-    acked-start k m l e s is z = sole-start c l (sym (kind-at e) ∙ s) (payload-at is) z
+    acked-start k m l e s is z = record { sole = sole-start (c .sole) l (sym (kind-at e) ∙ s) (payload-at is) z }
 
 -- ---- how far the groups were asked
 
 -- the groups before g have certificates for the payload alone
 abbrev pub Gathered : List ℕ → List ℕ → ℕ → ℕ → List ℕ → ℕ → ℕ → Bool → ℕ → Type 0
-Gathered W ids len sender G n g some payload = Sole (λ h. T (certifies sender (recordUpTo W ids len) (voteAt W ids G h))) (paid W ids G n) n g some payload
+Gathered W ids len sender G n g y payload = Sole (λ h. T (certifies sender (recordUpTo W ids len) (voteAt W ids G h))) (paid W ids G n) n g y payload
 
 -- no group before g is of stores of m
 pub record Unstored (W ids G : List ℕ) (m g : ℕ) : Type 0 where

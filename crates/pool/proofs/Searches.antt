@@ -163,17 +163,18 @@ cleared W l =
     let z : poolLen (set W lastWord 0) ≡ 0 = counted W 0 (omega arith) (omega arith) in
     record { is = refl; long = length-set W lastWord 0 ∙ l; len = z; none = ap (λ n. table n (stmtAt (set W lastWord 0))) z }
 
--- memory that is all 0 is an empty pool
+-- memory that is all 0
+pub zeros : (w i : ℕ) → getD (replicate {A = ℕ} w 0) i 0 ≡ 0
+zeros zero i = refl
+zeros (suc w) zero = refl
+zeros (suc w) (suc i) = zeros w i
+
+-- it is an empty pool
 pub fresh : (w : ℕ) → (poolLen (replicate {A = ℕ} w 0) ≡ 0) × (poolOf (replicate {A = ℕ} w 0) ≡ [])
 unfolding poolLen poolOf table
 fresh w =
     let z : min (getD (replicate {A = ℕ} w 0) lastWord 0) 512 ≡ 0 = ap (λ x. min x 512) (zeros w lastWord) in
     (z, ap (λ n. table n (stmtAt (replicate {A = ℕ} w 0))) z)
-  where
-    zeros : (w i : ℕ) → getD (replicate {A = ℕ} w 0) i 0 ≡ 0
-    zeros zero i = refl
-    zeros (suc w) zero = refl
-    zeros (suc w) (suc i) = zeros w i
 
 -- ---- one statement more
 

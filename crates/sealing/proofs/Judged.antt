@@ -4,14 +4,15 @@ use mathlib.Core.Path.{_≡_, sym, ap, _∙_, subst}
 use mathlib.Core.Bool.{Bool, true, false}
 use mathlib.Core.List.{List}
 use Prim.Native.Nat.{ℕ, _+_, _≤_, _<_}
-use native.Mathlib.Decide.{decLt, ℕ-discrete}
+use native.Mathlib.Decide.{ℕ-discrete}
 use native.Mathlib.Omega.{arith}
 use lib.Dec.{eqb}
-use lib.ListN.{length, getD, set, replicate, getD-replicate, length-replicate, List·getD-eq-default}
+use lib.ListN.{length, getD, set, replicate}
 use lib.Seq.{getD-set-same, getD-set-other}
 use borrow.Author.Tests.{eq-eqb, ne-eqb}
 use Rattle.protocol.specs.Statement.{Stmt}
 use Rattle.views.specs.View.{viewOf}
+use Rattle.pool.proofs.Searches.{zeros}
 use Rattle.tables.specs.Index.{keyAt}
 use Rattle.votes.specs.Tables.{sealsAt, Tables, Verdicts}
 use Rattle.sealing.specs.Memos.{Memos, Later, Known, Blank}
@@ -39,11 +40,7 @@ known-all w l = record { known = λ k h i. w .known k h (omega arith) }
 
 -- an array that was just made
 pub blank-made : (n : ℕ) → Blank (replicate n 0)
-blank-made n = record { none = λ i. go i (decLt i n) }
-  where
-    go : (i : ℕ) → Dec (i < n) → _≡_ {A = ℕ} (getD (replicate n 0) i 0) 0
-    go i (yes l) = getD-replicate n i 0 0 l
-    go i (no l) = List·getD-eq-default (replicate n 0) 0 (omega (arith, length-replicate {A = ℕ} n 0))
+blank-made n = record { none = zeros n }
 
 pub memos-first : {W : List ℕ} {X : List Stmt} {init : ℕ} {K R M : List ℕ} → Blank M → Memos W X init K R M
 memos-first b = record { right = λ k d. absurd (d (b .none k)) }

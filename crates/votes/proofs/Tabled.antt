@@ -180,7 +180,7 @@ module _ (W ids : List ℕ) (init : ℕ) (G : List ℕ) (n : ℕ) (groups : Grou
     row-agrees : (a : ℕ) → a < agreementCount → (i : ℕ) × Agrees a i
     row-agrees a l =
         let (g, m, t, w) = rows .picked .sound a l in
-        (placeOf (getD G g 0), record { here = groups .place g m; at = ap (λ z. stmtAt W z .at) (w .statement); top = w .top; small = w .word; names = ap (λ z. stmtAt W z .views) (w .statement); agreement = t })
+        (placeOf (getD G g 0), record { here = groups .place g m; at = ap (λ z. stmtAt W z .at) (w .statement); top = w .view; small = w .word; names = ap (λ z. stmtAt W z .views) (w .statement); agreement = t })
 
     agrees-row : (i : ℕ) → i < recordLen ids → T (isAgreement (ringOfWord init) X (entry W ids i)) → (a : ℕ) × (a < agreementCount) × Agrees a i
     agrees-row i l t =
@@ -188,7 +188,7 @@ module _ (W ids : List ℕ) (init : ℕ) (G : List ℕ) (n : ℕ) (groups : Grou
         let (g, m, al) = covered i l (says-vote (entry W ids i) .complete (inl (inl (inr k)))) in
         let (a, o, w) = rows .picked .complete g m (agreement-like (ringOfWord init) X (voteAt W ids G g) (entry W ids i) al t) in
         let e : entry W ids i .views ≡ voteAt W ids G g .views = al .views (sym (al .kind) ∙ k) in
-        (a, o, record { here = l; at = ap (λ z. stmtAt W z .at) (w .statement) ∙ sym (al .at); top = w .top ∙ ap (top (ringOfWord init)) (sym e); small = w .word; names = ap (λ z. stmtAt W z .views) (w .statement) ∙ sym e; agreement = t })
+        (a, o, record { here = l; at = ap (λ z. stmtAt W z .at) (w .statement) ∙ sym (al .at); top = w .view ∙ ap (top (ringOfWord init)) (sym e); small = w .word; names = ap (λ z. stmtAt W z .views) (w .statement) ∙ sym e; agreement = t })
 
     -- an agreement seals H
     abbrev SealedAt : ℕ → Type 0
