@@ -58,9 +58,10 @@ pub const POOL_WORDS: usize = LAST + 1;
 // A record in memory: the numbers of its statements, and after them how many count. A count above the most counts as the most.
 pub const RECORD: usize = CAPACITY + 1;
 
-// A head has the kind of a statement in its lowest byte, and the other fields of it at these places, each a byte.
+// A field of a head is a byte.
 const BYTE: u64 = 256;
 
+// Where the fields of a head stand: the kind is its lowest byte.
 const ORIGIN: u64 = 256;
 
 const COUNT: u64 = 16777216;

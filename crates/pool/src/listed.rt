@@ -58,7 +58,7 @@ pub fn record_room(ids: &[u16; RECORD]) -> usize
     s.len()
 }
 
-// The number id at the end of a record in memory. A record of 512 stays as it is.
+// The number id at the end of a record in memory. A full record stays as it is.
 pub fn record_push(ids: &mut [u16; RECORD], id: u16)
     ensures { λ _. ⌜ PushedTo (now (ids .entry)) id (now (ids .exit)) ⌝ }
 {

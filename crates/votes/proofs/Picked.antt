@@ -24,7 +24,7 @@ use Rattle.tables.proofs.Chains.{indexed-first, indexed-kept}
 use Rattle.votes.specs.Votes.{alike, entry, placeOf, tagOf, signersOf, voteAt, GroupsIn}
 use Rattle.votes.specs.Tables.{IsWord}
 use Rattle.votes.specs.Chosen.{choiceBy, agreementBy, isChoice, isAgreement, Picked, RowOf, RowsOf}
-use Rattle.votes.proofs.Gathering.{yes-T, no-T}
+use Rattle.votes.proofs.Alike.{yes-T, no-T}
 
 -- ---- five tests in a row
 
@@ -53,9 +53,6 @@ unfolding isKind
 kind-not s k n e d = ne-eqb (s .kind) n (λ q. d (e ∙ q))
 
 -- a test of views in words
-
-pub test-of : (p : View → Bool) {u x : View} (b r : Bool) → b ≡ p u → b ≡ r → u ≡ x → p x ≡ r
-test-of p b r e f g = sym (ap p g) ∙ sym e ∙ f
 
 pub top-is : (r t : ℕ) (u v : View) → viewOf t ≡ u → viewOf r ≡ v → r ≡ t → not (sameView u v) ≡ false
 top-is r t u v e f g = ap not (same-yes u v (sym e ∙ ap viewOf (sym g) ∙ f))
