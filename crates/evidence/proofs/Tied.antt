@@ -47,7 +47,7 @@ word-for v f = (wordOf v, omega (arith, f .joined, f .left), λ i. record { join
     high : wordOf v / 4294967296 % 4294967296 ≡ v .left
     high = omega (arith, f .joined, f .left)
 
-module _ (W ids : List ℕ) (init : ℕ) (K R : List ℕ) (nc na : ℕ) (M : List ℕ) (tables : Tables W (recordIn W ids) init K R nc na) (verdicts : Verdicts W (recordIn W ids) init K R nc na M) where
+module _ (W ids : List ℕ) (init : ℕ) (K R : List ℕ) (choiceCount agreementCount : ℕ) (M : List ℕ) (tables : Tables W (recordIn W ids) init K R choiceCount agreementCount) (verdicts : Verdicts W (recordIn W ids) init K R choiceCount agreementCount M) where
   abbrev X : List Stmt
   X = recordIn W ids
 
@@ -73,7 +73,7 @@ module _ (W ids : List ℕ) (init : ℕ) (K R : List ℕ) (nc na : ℕ) (M : Lis
   unfolding gives
   says-gives w c = says-and says-eqb (says-self (isTop (ringOfWord init) X (choiceAt W R c .at)))
 
-  pub choices-marked : MarkedChoices init X K M nc
+  pub choices-marked : MarkedChoices init X K M choiceCount
   choices-marked = record {
     sound = λ c l e. says-shown (ringOfWord init) X (candidate (viewOf (keyAt K 0 c))) .sound (subst T (verdicts .candidate c l) (says-eqb .complete e));
     complete = λ v k. elim (word-of k) [ inl e ↦ inl e | inr (w, l, e) ↦ go v k w l e ];
@@ -81,12 +81,12 @@ module _ (W ids : List ℕ) (init : ℕ) (K R : List ℕ) (nc na : ℕ) (M : Lis
   }
     where
       go : (v : View) → Candidate (ringOfWord init) X v → (w : ℕ) → IsWord w → viewOf w ≡ v
-          → (v ≡ viewOf init) ⊎ ((c : ℕ) × (c < nc) × (choiceMark M c ≡ 1) × (viewOf (keyAt K 0 c) ≡ v))
+          → (v ≡ viewOf init) ⊎ ((c : ℕ) × (c < choiceCount) × (choiceMark M c ≡ 1) × (viewOf (keyAt K 0 c) ≡ v))
       go v k w l e =
           let shown : (u : View) → u ≡ v → T (isCandidate (ringOfWord init) X u) = λ u q. subst (λ u. T (isCandidate (ringOfWord init) X u)) (sym q) (says-shown (ringOfWord init) X (candidate v) .complete k) in
-          elim (says-or (says-eqb {m = w} {n = init}) (says-self (any (gives W X init K R w) (upTo nc))) .sound (subst T (tables .candidates w l) (shown (viewOf w) e))) [
+          elim (says-or (says-eqb {m = w} {n = init}) (says-self (any (gives W X init K R w) (upTo choiceCount))) .sound (subst T (tables .candidates w l) (shown (viewOf w) e))) [
             | inl q ↦ inl (sym e ∙ ap viewOf q)
-            | inr t ↦ (let (c, h, g) = some-of (gives W X init K R w) nc t in
+            | inr t ↦ (let (c, h, g) = some-of (gives W X init K R w) choiceCount t in
                 let is : viewOf (keyAt K 0 c) ≡ v = ap viewOf (says-gives w c .sound g .0) ∙ e in
                 inr (c, h, eqb→eq _ _ (subst T (sym (verdicts .candidate c h)) (shown _ is)), is))
           ]
@@ -95,19 +95,19 @@ module _ (W ids : List ℕ) (init : ℕ) (K R : List ℕ) (nc na : ℕ) (M : Lis
   unfolding sealsAs
   says-seals H a = says-and (says-sames (agreementAt W R a .views) H) (says-self (sealsAt W X init K R a))
 
-  says-listed : (H : List View) → Says (sameViews H (viewOf init ∷ []) || any (sealsAs W X init K R H) (upTo na)) ((H ≡ viewOf init ∷ []) ⊎ T (any (sealsAs W X init K R H) (upTo na)))
-  says-listed H = says-or (says-sames H (viewOf init ∷ [])) (says-self (any (sealsAs W X init K R H) (upTo na)))
+  says-listed : (H : List View) → Says (sameViews H (viewOf init ∷ []) || any (sealsAs W X init K R H) (upTo agreementCount)) ((H ≡ viewOf init ∷ []) ⊎ T (any (sealsAs W X init K R H) (upTo agreementCount)))
+  says-listed H = says-or (says-sames H (viewOf init ∷ [])) (says-self (any (sealsAs W X init K R H) (upTo agreementCount)))
 
-  pub agreements-marked : MarkedAgreements init X W R M na
+  pub agreements-marked : MarkedAgreements init X W R M agreementCount
   agreements-marked = record {
     sound = λ a l e.
         let H = agreementAt W R a .views in
         says-shown (ringOfWord init) X (sealed H) .sound (subst T (sym (tables .histories H))
-        (says-listed H .complete (inr (of-some (sealsAs W X init K R H) na a l (says-seals H a .complete (refl, subst T (verdicts .sealed a l) (says-eqb .complete e)))))));
+        (says-listed H .complete (inr (of-some (sealsAs W X init K R H) agreementCount a l (says-seals H a .complete (refl, subst T (verdicts .sealed a l) (says-eqb .complete e)))))));
     complete = λ H k.
         elim (says-listed H .sound (subst T (tables .histories H) (says-shown (ringOfWord init) X (sealed H) .complete k))) [
           | inl e ↦ inl e
-          | inr t ↦ (let (a, l, g) = some-of (sealsAs W X init K R H) na t in
+          | inr t ↦ (let (a, l, g) = some-of (sealsAs W X init K R H) agreementCount t in
               let (e, h) = says-seals H a .sound g in
               inr (a, l, eqb→eq _ _ (subst T (sym (verdicts .sealed a l)) h), e))
         ];

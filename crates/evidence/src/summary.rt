@@ -25,6 +25,7 @@ use sealing::MEMO;
 use tables::KEYS;
 use tables::ROWS;
 use views::View;
+use votes::GROUPS;
 
 // Whether one of the three is true.
 fn one_of(a: bool, b: bool, c: bool) -> bool
@@ -60,16 +61,16 @@ fn tie(wish: u64, r: Ranked, h: Summit, c: Certified, stored: bool) -> Evidence
 fn of_votes(
     words: &[u64; POOL_WORDS],
     ids: &[u16; RECORD],
-    ringOfWord: Ring,
+    ring: Ring,
     candidates: &mut [u64; View::LIMIT],
     greatest: &mut [u64; View::LIMIT],
 ) -> Evidence
-    ensures { λ e. ⌜ EvidenceOf (ringIs ringOfWord) (ringOfWord .sender) (recordIn (now (words .entry)) (now (ids .entry))) (now (candidates .exit)) (now (greatest .exit)) e ⌝ }
+    ensures { λ e. ⌜ EvidenceOf (ringIs ring) (ring .sender) (recordIn (now (words .entry)) (now (ids .entry))) (now (candidates .exit)) (now (greatest .exit)) e ⌝ }
 {
-    let init = ringOfWord.init;
+    let init = ring.init;
     let mut keys = [0u64; KEYS];
     let mut rows = [0u16; ROWS];
-    let mut groups = [0u64; 512];
+    let mut groups = [0u64; GROUPS];
     let found = votes::gather(words, ids, init, &mut keys, &mut rows, &mut groups);
     let counts = votes::tabulate(words, ids, init, found, &groups, &mut keys, &mut rows);
     let mut memo = [0u8; MEMO];
@@ -78,24 +79,16 @@ fn of_votes(
     let h = ranking::climb(words, &rows, &memo, counts.agreements, init, greatest);
     certificates::end(&mut groups, found.groups);
     let n = certificates::keep_backed(words, ids, init, &keys, &rows, &memo, &mut groups);
-    let c = certificates::certificate(words, ids, init, ringOfWord.sender, &groups, n);
+    let c = certificates::certificate(words, ids, init, ring.sender, &groups, n);
     let stored = certificates::is_stored(words, ids, init, &groups, n, c.payload);
     tie(found.wished, r, h, c, stored)
-}
-
-// How many views there is room for: a proof that one was written asks for it.
-fn room(list: &[u64; View::LIMIT]) -> usize
-    ensures { λ r. ⌜ length (now (list .entry)) ≡ 16 ⌝ }
-{
-    let s = &list[..];
-    s.len()
 }
 
 // Puts the initial view at the front of a list.
 fn start(list: &mut [u64; View::LIMIT], init: u64)
     ensures { λ _. ⌜ (length (now (list .entry)) ≡ 16) × (now (list .exit) ≡ set (now (list .entry)) 0 init) ⌝ }
 {
-    room(list);
+    views::list_room(list);
     list[0] = init;
 }
 
@@ -127,18 +120,18 @@ fn unvoted(
 pub fn of_record(
     words: &[u64; POOL_WORDS],
     ids: &[u16; RECORD],
-    ringOfWord: Ring,
+    ring: Ring,
     candidates: &mut [u64; View::LIMIT],
     greatest: &mut [u64; View::LIMIT],
 ) -> Evidence
-    ensures { λ e. ⌜ EvidenceOf (ringIs ringOfWord) (ringOfWord .sender) (recordIn (now (words .entry)) (now (ids .entry))) (now (candidates .exit)) (now (greatest .exit)) e ⌝ }
+    ensures { λ e. ⌜ EvidenceOf (ringIs ring) (ring .sender) (recordIn (now (words .entry)) (now (ids .entry))) (now (candidates .exit)) (now (greatest .exit)) e ⌝ }
 {
     if votes::has_votes(words, ids) {
-        return of_votes(words, ids, ringOfWord, candidates, greatest);
+        return of_votes(words, ids, ring, candidates, greatest);
     }
     unvoted(
-        votes::wished_by(words, ids, ringOfWord.init),
-        ringOfWord.init,
+        votes::wished_by(words, ids, ring.init),
+        ring.init,
         candidates,
         greatest,
     )

@@ -27,11 +27,10 @@ use Rattle.statements.specs.declared.Statement.{Statement}
 use Rattle.statements.specs.Meaning.{stmtOf}
 use Rattle.pool.specs.declared.Found.the-variants as found
 use Rattle.pool.specs.declared.Placed.the-variants as placed
-use Rattle.pool.specs.Pool.{viewsFrom, lastWord, poolWords, headAt, word, viewWord, countOf, viewAt, stmtAt, poolLen, poolOf, recordUpTo}
+use Rattle.pool.specs.Pool.{viewsFrom, lastWord, poolWords, headAt, word, viewWord, countOf, viewAt, stmtAt, poolLen, poolOf}
 use Rattle.pool.specs.Steps.{isOther, Put, foundOf}
-use Rattle.pool.specs.Changes.{headOf, owner, Beside, putAt, poolNumber, placedAt, pooledIn, Grown, Appended, Cleared}
+use Rattle.pool.specs.Changes.{headOf, owner, Beside, putAt, poolNumber, placedAt, pooledIn, Appended, Cleared}
 use Rattle.pool.proofs.Parts.{low-parts}
-use Rattle.pool.proofs.Records.{entry}
 use Rattle.pool.proofs.Writes.{stmts, owner-low, owner-high, beside-put, beside-count, beside-same}
 
 -- ---- two statements
@@ -164,17 +163,18 @@ cleared W l =
     let z : poolLen (set W lastWord 0) ≡ 0 = counted W 0 (omega arith) (omega arith) in
     record { is = refl; long = length-set W lastWord 0 ∙ l; len = z; none = ap (λ n. table n (stmtAt (set W lastWord 0))) z }
 
--- memory that is all 0 is an empty pool
+-- memory that is all 0
+pub zeros : (w i : ℕ) → getD (replicate {A = ℕ} w 0) i 0 ≡ 0
+zeros zero i = refl
+zeros (suc w) zero = refl
+zeros (suc w) (suc i) = zeros w i
+
+-- it is an empty pool
 pub fresh : (w : ℕ) → (poolLen (replicate {A = ℕ} w 0) ≡ 0) × (poolOf (replicate {A = ℕ} w 0) ≡ [])
 unfolding poolLen poolOf table
 fresh w =
     let z : min (getD (replicate {A = ℕ} w 0) lastWord 0) 512 ≡ 0 = ap (λ x. min x 512) (zeros w lastWord) in
     (z, ap (λ n. table n (stmtAt (replicate {A = ℕ} w 0))) z)
-  where
-    zeros : (w i : ℕ) → getD (replicate {A = ℕ} w 0) i 0 ≡ 0
-    zeros zero i = refl
-    zeros (suc w) zero = refl
-    zeros (suc w) (suc i) = zeros w i
 
 -- ---- one statement more
 
@@ -238,16 +238,3 @@ pooled-beside W s = go (isSome (poolNumber W s)) (leb 512 (poolLen W)) refl
     go true y e = beside-same W (poolLen W)
     go false true e = beside-same W (poolLen W)
     go false false e = beside-count W (putAt W (poolLen W) s) (poolLen W) (poolLen W + 1) (beside-put W (poolLen W) s (omega (arith, leb-false 512 (poolLen W) e)))
-
--- ---- for callers: the pool and the records after an addition
-
-pub pool-grown : (W W′ : List ℕ) (st : Statement) → Grown W W′ st → poolLen W < 512 → st .history .len ≤ 16 → poolOf W′ ≡ poolOf W ++ (stmtOf st ∷ [])
-unfolding poolOf table
-pool-grown W W′ st g l h =
-    ap (λ n. table n (stmtAt W′)) (g .len ∙ add-one (poolLen W))
-    ∙ ap₂ (λ k s. k ++ (s ∷ [])) (table-cong (poolLen W) (stmtAt W′) (stmtAt W) (λ i m. g .others i (λ e. omega arith))) (g .there h)
-
--- a record whose numbers are all in the pool
-pub record-grown : (W W′ ids : List ℕ) (len : ℕ) (st : Statement) → Grown W W′ st → poolLen W < 512 → ((i : ℕ) → i < min len 512 → getD ids i 0 < poolLen W) → recordUpTo W′ ids len ≡ recordUpTo W ids len
-unfolding recordUpTo
-record-grown W W′ ids len st g l all = table-cong (min len 512) (entry W′ ids) (entry W ids) (λ i m. g .others (getD ids i 0) (λ e. omega (arith, all i m)))

@@ -12,10 +12,13 @@ ghost use Rattle.pool.specs.Pool.{lastWord, poolWords, stmtAt};
 ghost use Rattle.pool.specs.Steps.{IsHead, Put};
 ghost use Rattle.pool.specs.Changes.{headWord, Cleared};
 use crate::AT;
+use crate::BINDING;
+use crate::COUNT;
 use crate::KEPT;
 use crate::LAST;
 use crate::PAYLOAD;
 use crate::POOL_WORDS;
+use crate::STORED;
 use crate::VIEW;
 use crate::VIEWS;
 use crate::read;
@@ -49,7 +52,7 @@ fn head_word(st: Statement) -> u64
     let c = h.count() as u64;
     let b = statements::binding_number(st);
     let f = read::flag(st.stored);
-    key + c * 16777216 + b * 4294967296 + f * 1099511627776
+    key + c * COUNT + b * BINDING + f * STORED
 }
 
 // Statement n is st from now on. Where st has more than 16 views, only 16 are kept.

@@ -1,4 +1,4 @@
--- Laws of the slots: each is what one step of a function of candidates needs.
+-- Laws of the slots, by any scale: each is what one step of a function of candidates or of histories needs.
 -- Assumes nothing.
 use mathlib.Core.Path.{_≡_, refl, sym, ap, ap₂, subst, _∙_}
 use mathlib.Core.Logic.{_≢_, _⊎_, inl, inr}

@@ -111,9 +111,6 @@ module _ (init : ℕ) (X : List Stmt) where
   says-held : (H K : List View) → Says (holds H K || holds K H) (Holds H K ⊎ Holds K H)
   says-held H K = says-or (says-holds H K) (says-holds K H)
 
-  abbrev allHeld : Bool
-  allHeld = pairwise (λ H K. holds H K || holds K H) (sealedHistories (ringOfWord init) X)
-
   -- two sealed ones are apart
   conflict : {H K : List View} → Sealed (ringOfWord init) X H → Sealed (ringOfWord init) X K → (Holds H K → ⊥) → (Holds K H → ⊥) → (length : ℕ) (out : List ℕ)
       → HistoriesOf init X out (record { conflict = true; length = length })

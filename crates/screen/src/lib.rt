@@ -3,7 +3,7 @@ ghost use mathlib.Core.Path.{_≡_};
 ghost use mathlib.Core.Bool.{false};
 ghost use mathlib.Core.List.{[], _∷_, _++_};
 ghost use Prim.Native.Nat.{_+_, _*_, _≤_, _<_};
-ghost use lib.ListN.{length, getD};
+ghost use lib.ListN.{length};
 ghost use Rattle.text.specs.Text.{decText};
 ghost use Rattle.text.specs.Written.{Wrote};
 ghost use Rattle.statements.specs.Parts.{tailText};
@@ -21,14 +21,6 @@ use views::View;
 // No text is longer: 16 bytes of the wished view, 158 of sixteen candidates, 156 of sixteen views of a history and 40 of a certificate.
 pub const SHOWN_BYTES: usize = 512;
 
-// View i of a list.
-fn view_in(list: &[u64; View::LIMIT], i: usize) -> u64
-    requires { ⌜ i < 16 ⌝ }
-    ensures { λ r. ⌜ r ≡ getD (now (list .entry)) i 0 ⌝ }
-{
-    list[i]
-}
-
 // A comma and a view for each of the first `n` of a list.
 fn put_list(out: &mut [u8], from: usize, list: &[u64; View::LIMIT], n: usize) -> usize
     requires { ⌜ (n ≤ 16) × (from + 9 * n ≤ length (now out)) ⌝ }
@@ -37,7 +29,7 @@ fn put_list(out: &mut [u8], from: usize, list: &[u64; View::LIMIT], n: usize) ->
     let mut at = from;
     let mut i = 0usize;
     while i < n {
-        let v = View::of_word(view_in(list, i));
+        let v = View::of_word(views::list_at(list, i));
         at = statements::put_view(out, at, v);
         i += 1;
     }

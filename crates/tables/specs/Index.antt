@@ -79,6 +79,12 @@ pub record Chained (at : ℕ → ℕ) (R : List ℕ) (t n : ℕ) : Type 0 where
   pub slots : (s : ℕ) → s < 256 → Newest at n s (newestAt R t s)
   pub links : (i : ℕ) → i < n → Newest at i (at i) (olderAt R t i)
 
+-- Of the rows below n that have P, r is the newest plus one, or 0 where there is none.
+pub record LatestOf (P : ℕ → Type 0) (n r : ℕ) : Type 0 where
+  pub most : r ≤ n
+  pub here : 0 < r → P (r - 1)
+  pub none : (i : ℕ) → r ≤ i → i < n → P i → ⊥
+
 -- ---- the index by keys
 
 -- The slot of a word: both halves go into it.
@@ -104,11 +110,13 @@ pub record RowAdded (K R : List ℕ) (t i w x : ℕ) (K′ R′ : List ℕ) : Ty
   pub rows : (u : ℕ) → u < 2 → (u ≡ t → ⊥) → SameRows R R′ u
   pub others : (u : ℕ) → u < 2 → (u ≡ t → ⊥) → SameKeys K K′ u
 
+-- Row i has the key w.
+abbrev pub HasKey : List ℕ → ℕ → ℕ → ℕ → Type 0
+HasKey K t w i = keyAt K t i ≡ w
+
 -- Of the rows below n with the key w, r is the newest plus one, or 0 where there is none.
-pub record Latest (K : List ℕ) (t w n r : ℕ) : Type 0 where
-  pub most : r ≤ n
-  pub here : 0 < r → keyAt K t (r - 1) ≡ w
-  pub none : (i : ℕ) → r ≤ i → i < n → keyAt K t i ≡ w → ⊥
+abbrev pub Latest : List ℕ → ℕ → ℕ → ℕ → ℕ → Type 0
+Latest K t w n r = LatestOf (HasKey K t w) n r
 
 -- A search from row n down has come to r, a row with the key w plus one or 0, and no row from r on has p.
 pub record Passed (p : ℕ → Bool) (K : List ℕ) (t w n r : ℕ) : Type 0 where

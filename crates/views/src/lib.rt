@@ -12,8 +12,11 @@ ghost use Rattle.views.specs.Table.{table};
 ghost use Rattle.views.specs.View.{viewOf, viewIn};
 ghost use Rattle.views.specs.Held.{viewIs, heldAt, viewsIs};
 
+mod lists;
 mod words;
 
+pub use lists::list_at;
+pub use lists::list_room;
 pub use words::below_view;
 pub use words::has_members;
 pub use words::narrow;

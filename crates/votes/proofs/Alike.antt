@@ -27,6 +27,14 @@ use Rattle.votes.specs.Votes.{isVote, alike}
 use Rattle.votes.specs.Tables.{IsWord}
 use Rattle.votes.specs.Keys.{keyOf, folded, weightOf, mixFrom, whatOf, sameNames, slotBy}
 
+-- a test and what it says
+
+pub yes-T : {b : Bool} → b ≡ true → T b
+yes-T e = rw e tt
+
+pub no-T : {b : Bool} → b ≡ false → T b → ⊥
+no-T e t = rw e at t
+
 -- ---- votes
 
 abbrev pub Vote : Stmt → Type 0
@@ -184,10 +192,7 @@ pub other-tag : (a s : Stmt) (x y : ℕ) → x ≡ a .kind → y ≡ s .kind →
 other-tag a s x y e f d = fails (says-alike a s) (λ al. d (e ∙ sym (al .kind) ∙ sym f))
 
 pub other-names : (a s : Stmt) (b : Bool) → b ≡ sameNames a s → b ≡ false → alike a s ≡ false
-other-names a s b e f = fails (says-alike a s) (λ al. away (sym e ∙ f) (says-names a s .complete (λ k. sym (al .views (sym (al .kind) ∙ k)))))
-  where
-    away : {c : Bool} → c ≡ false → T c → ⊥
-    away z t = rw z at t
+other-names a s b e f = fails (says-alike a s) (λ al. no-T (sym e ∙ f) (says-names a s .complete (λ k. sym (al .views (sym (al .kind) ∙ k)))))
 
 -- the three words x of a and y of s
 pub record Words (a s : Stmt) (x y x′ y′ x″ y″ : ℕ) : Type 0 where

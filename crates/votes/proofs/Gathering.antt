@@ -22,13 +22,7 @@ use Rattle.tables.proofs.Chains.{chained-first, chained-same, chained-new, empt
 use Rattle.votes.specs.declared.keys.Vote.{Vote}
 use Rattle.votes.specs.Votes.{isVote, alike, entry, placeOf, tagOf, signersOf, voteAt, Groups}
 use Rattle.votes.specs.Keys.{keyOf, whatOf, slotBy, groupSlot, Key, Place, Sofar}
-use Rattle.votes.proofs.Alike.{Alike, says-vote, says-alike, alike-vote, alike-self, alike-both, alike-turned}
-
-pub yes-T : {b : Bool} → b ≡ true → T b
-yes-T e = rw e tt
-
-pub no-T : {b : Bool} → b ≡ false → T b → ⊥
-no-T e t = rw e at t
+use Rattle.votes.proofs.Alike.{Alike, says-vote, says-alike, alike-vote, alike-self, alike-both, alike-turned, yes-T, no-T}
 
 -- the word y of a group is like x, with the signers r
 pub record Resigned (x r y : ℕ) : Type 0 where

@@ -100,7 +100,7 @@ module _ (W ids : List ℕ) (init : ℕ) (G : List ℕ) (n : ℕ) (groups : Grou
 
   -- ---- choices
 
-  module _ (K R : List ℕ) (nc : ℕ) (rows : Choices W ids init G n K R nc) where
+  module _ (K R : List ℕ) (choiceCount : ℕ) (rows : Choices W ids init G n K R choiceCount) where
     -- row c is the choice of entry i
     record Chose (c i : ℕ) : Type 0 where
       here : i < recordLen ids
@@ -109,10 +109,10 @@ module _ (W ids : List ℕ) (init : ℕ) (G : List ℕ) (n : ℕ) (groups : Grou
       small : IsWord (keyAt K 0 c)
       choice : T (isChoice (ringOfWord init) X (entry W ids i))
 
-    row-chose : (c : ℕ) → c < nc → (i : ℕ) × Chose c i
+    row-chose : (c : ℕ) → c < choiceCount → (i : ℕ) × Chose c i
     row-chose c l = let (g, m, t, w) = rows .picked .sound c l in (placeOf (getD G g 0), record { here = groups .place g m; at = ap (λ z. stmtAt W z .at) (w .statement); view = w .view; small = w .word; choice = t })
 
-    chose-row : (i : ℕ) → i < recordLen ids → T (isChoice (ringOfWord init) X (entry W ids i)) → (c : ℕ) × (c < nc) × Chose c i
+    chose-row : (i : ℕ) → i < recordLen ids → T (isChoice (ringOfWord init) X (entry W ids i)) → (c : ℕ) × (c < choiceCount) × Chose c i
     chose-row i l t =
         let ((((k, _), _), _), _) = says-choice (ringOfWord init) X (entry W ids i) (entry W ids i .view) refl .sound t in
         let (g, m, al) = covered i l (says-vote (entry W ids i) .complete (inl (inl (inl k)))) in
@@ -121,7 +121,7 @@ module _ (W ids : List ℕ) (init : ℕ) (G : List ℕ) (n : ℕ) (groups : Grou
 
     -- choice c gives the candidate v
     abbrev Given : ℕ → Type 0
-    Given v = (c : ℕ) × (c < nc) × ((keyAt K 0 c ≡ v) × T (isTop (ringOfWord init) X (choiceAt W R c .at)))
+    Given v = (c : ℕ) × (c < choiceCount) × ((keyAt K 0 c ≡ v) × T (isTop (ringOfWord init) X (choiceAt W R c .at)))
 
     abbrev Shows : View → Type 0
     Shows v = (T (hasMembers 16 v) × T (within 16 v (wished (ringOfWord init) X)))
@@ -129,9 +129,9 @@ module _ (W ids : List ℕ) (init : ℕ) (G : List ℕ) (n : ℕ) (groups : Grou
         × (((((entry W ids i .kind ≡ 3) × (entry W ids i .view ≡ v)) × T (below 16 (entry W ids i .at) v))
         × T (signedByQuorum 16 X (entry W ids i .at) (agreesView (entry W ids i .at) v))) × T (isTop (ringOfWord init) X (entry W ids i .at))))
 
-    says-given : (v : ℕ) → Says (any (gives W X init K R v) (upTo nc)) (Given v)
+    says-given : (v : ℕ) → Says (any (gives W X init K R v) (upTo choiceCount)) (Given v)
     unfolding gives
-    says-given v = says-table (λ c. says-and says-eqb (says-self (isTop (ringOfWord init) X (choiceAt W R c .at)))) (λ i. i) nc
+    says-given v = says-table (λ c. says-and says-eqb (says-self (isTop (ringOfWord init) X (choiceAt W R c .at)))) (λ i. i) choiceCount
 
     says-candidate : (v : View) → Says (isCandidate (ringOfWord init) X v) ((v ≡ viewOf init) ⊎ Shows v)
     unfolding candidateBy chooses
@@ -139,7 +139,7 @@ module _ (W ids : List ℕ) (init : ℕ) (G : List ℕ) (n : ℕ) (groups : Grou
         (says-or says-same (says-and (says-and (says-self (hasMembers 16 v)) (says-self (within 16 v (wished (ringOfWord init) X))))
         (says-record (λ s. says-and (says-and (says-and (says-and (says-kind 3 s) says-same) (says-self (below 16 (s .at) v))) (says-self (signedByQuorum 16 X (s .at) (agreesView (s .at) v)))) (says-self (isTop (ringOfWord init) X (s .at)))) W ids (getD ids 512 0))))
 
-    candidates : IsWord init → (v : ℕ) → IsWord v → isCandidate (ringOfWord init) X (viewOf v) ≡ (eqb v init || any (gives W X init K R v) (upTo nc))
+    candidates : IsWord init → (v : ℕ) → IsWord v → isCandidate (ringOfWord init) X (viewOf v) ≡ (eqb v init || any (gives W X init K R v) (upTo choiceCount))
     candidates small v l = says-unique (says-map to from (says-candidate (viewOf v))) (says-or says-eqb (says-given v))
       where
         to : (viewOf v ≡ viewOf init) ⊎ Shows (viewOf v) → (v ≡ init) ⊎ Given v
@@ -156,10 +156,10 @@ module _ (W ids : List ℕ) (init : ℕ) (G : List ℕ) (n : ℕ) (groups : Grou
             let ((((k, b), m), w), q) = says-choice (ringOfWord init) X (entry W ids i) (viewOf v) f .sound (r .choice) in
             inr ((m, w), (i, r .here, ((((k, f), b), q), rw (r .at) at t)))
 
-    choices-narrow : (c : ℕ) → c < nc → viewIn (keyAt K 0 c) ≡ viewOf (keyAt K 0 c)
+    choices-narrow : (c : ℕ) → c < choiceCount → viewIn (keyAt K 0 c) ≡ viewOf (keyAt K 0 c)
     choices-narrow c l = let (i, r) = row-chose c l in view-whole (keyAt K 0 c) (r .view) (view-fits W (getD ids i 0)) ∙ sym (r .view)
 
-    choices-rise : (c : ℕ) → c < nc → size 16 (choiceAt W R c .at) < size 16 (viewOf (keyAt K 0 c))
+    choices-rise : (c : ℕ) → c < choiceCount → size 16 (choiceAt W R c .at) < size 16 (viewOf (keyAt K 0 c))
     choices-rise c l =
         let (i, r) = row-chose c l in
         let ((((k, b), m), w), q) = says-choice (ringOfWord init) X (entry W ids i) (entry W ids i .view) refl .sound (r .choice) in
@@ -167,7 +167,7 @@ module _ (W ids : List ℕ) (init : ℕ) (G : List ℕ) (n : ℕ) (groups : Grou
 
   -- ---- agreements
 
-  module _ (K R : List ℕ) (na : ℕ) (rows : Agreements W ids init G n K R na) where
+  module _ (K R : List ℕ) (agreementCount : ℕ) (rows : Agreements W ids init G n K R agreementCount) where
     -- row a is the agreement of entry i
     record Agrees (a i : ℕ) : Type 0 where
       here : i < recordLen ids
@@ -177,18 +177,18 @@ module _ (W ids : List ℕ) (init : ℕ) (G : List ℕ) (n : ℕ) (groups : Grou
       names : agreementAt W R a .views ≡ entry W ids i .views
       agreement : T (isAgreement (ringOfWord init) X (entry W ids i))
 
-    row-agrees : (a : ℕ) → a < na → (i : ℕ) × Agrees a i
+    row-agrees : (a : ℕ) → a < agreementCount → (i : ℕ) × Agrees a i
     row-agrees a l =
         let (g, m, t, w) = rows .picked .sound a l in
-        (placeOf (getD G g 0), record { here = groups .place g m; at = ap (λ z. stmtAt W z .at) (w .statement); top = w .top; small = w .word; names = ap (λ z. stmtAt W z .views) (w .statement); agreement = t })
+        (placeOf (getD G g 0), record { here = groups .place g m; at = ap (λ z. stmtAt W z .at) (w .statement); top = w .view; small = w .word; names = ap (λ z. stmtAt W z .views) (w .statement); agreement = t })
 
-    agrees-row : (i : ℕ) → i < recordLen ids → T (isAgreement (ringOfWord init) X (entry W ids i)) → (a : ℕ) × (a < na) × Agrees a i
+    agrees-row : (i : ℕ) → i < recordLen ids → T (isAgreement (ringOfWord init) X (entry W ids i)) → (a : ℕ) × (a < agreementCount) × Agrees a i
     agrees-row i l t =
         let ((((k, _), _), _), _) = says-agreement (ringOfWord init) X (entry W ids i) (entry W ids i .views) refl .sound t in
         let (g, m, al) = covered i l (says-vote (entry W ids i) .complete (inl (inl (inr k)))) in
         let (a, o, w) = rows .picked .complete g m (agreement-like (ringOfWord init) X (voteAt W ids G g) (entry W ids i) al t) in
         let e : entry W ids i .views ≡ voteAt W ids G g .views = al .views (sym (al .kind) ∙ k) in
-        (a, o, record { here = l; at = ap (λ z. stmtAt W z .at) (w .statement) ∙ sym (al .at); top = w .top ∙ ap (top (ringOfWord init)) (sym e); small = w .word; names = ap (λ z. stmtAt W z .views) (w .statement) ∙ sym e; agreement = t })
+        (a, o, record { here = l; at = ap (λ z. stmtAt W z .at) (w .statement) ∙ sym (al .at); top = w .view ∙ ap (top (ringOfWord init)) (sym e); small = w .word; names = ap (λ z. stmtAt W z .views) (w .statement) ∙ sym e; agreement = t })
 
     -- an agreement seals H
     abbrev SealedAt : ℕ → Type 0
@@ -199,18 +199,18 @@ module _ (W ids : List ℕ) (init : ℕ) (G : List ℕ) (n : ℕ) (groups : Grou
     says-seals a = says-and (says-self (isTop (ringOfWord init) X (agreementAt W R a .at))) (says-self (all (isCandidate (ringOfWord init) X) (agreementAt W R a .views)))
 
     abbrev Sealing : List View → Type 0
-    Sealing H = (a : ℕ) × (a < na) × ((agreementAt W R a .views ≡ H) × SealedAt a)
+    Sealing H = (a : ℕ) × (a < agreementCount) × ((agreementAt W R a .views ≡ H) × SealedAt a)
 
-    says-sealing : (H : List View) → Says (any (sealsAs W X init K R H) (upTo na)) (Sealing H)
+    says-sealing : (H : List View) → Says (any (sealsAs W X init K R H) (upTo agreementCount)) (Sealing H)
     unfolding sealsAs
-    says-sealing H = says-table (λ a. says-and (says-sames (agreementAt W R a .views) H) (says-seals a)) (λ i. i) na
+    says-sealing H = says-table (λ a. says-and (says-sames (agreementAt W R a .views) H) (says-seals a)) (λ i. i) agreementCount
 
     abbrev Ending : ℕ → Type 0
-    Ending t = (a : ℕ) × (a < na) × ((keyAt K 1 a ≡ t) × SealedAt a)
+    Ending t = (a : ℕ) × (a < agreementCount) × ((keyAt K 1 a ≡ t) × SealedAt a)
 
-    says-ending : (t : ℕ) → Says (any (ends W X init K R t) (upTo na)) (Ending t)
+    says-ending : (t : ℕ) → Says (any (ends W X init K R t) (upTo agreementCount)) (Ending t)
     unfolding ends
-    says-ending t = says-table (λ a. says-and says-eqb (says-seals a)) (λ i. i) na
+    says-ending t = says-table (λ a. says-and says-eqb (says-seals a)) (λ i. i) agreementCount
 
     abbrev Seals : List View → Type 0
     Seals H = (T (isHistory (ringOfWord init) H) × T (all (isCandidate (ringOfWord init) X) H))
@@ -245,7 +245,7 @@ module _ (W ids : List ℕ) (init : ℕ) (G : List ℕ) (n : ℕ) (groups : Grou
     unfolding top last
     top-start = refl
 
-    tops : IsWord init → (t : ℕ) → IsWord t → isTop (ringOfWord init) X (viewOf t) ≡ (eqb t init || any (ends W X init K R t) (upTo na))
+    tops : IsWord init → (t : ℕ) → IsWord t → isTop (ringOfWord init) X (viewOf t) ≡ (eqb t init || any (ends W X init K R t) (upTo agreementCount))
     tops small t l = says-unique (says-map to from (says-top (ringOfWord init) X (viewOf t))) (says-or says-eqb (says-ending t))
       where
         end : (G : List View) → top (ringOfWord init) G ≡ viewOf t → (G ≡ viewOf init ∷ []) ⊎ Sealing G → (t ≡ init) ⊎ Ending t
@@ -264,13 +264,13 @@ module _ (W ids : List ℕ) (init : ℕ) (G : List ℕ) (n : ℕ) (groups : Grou
             (agreementAt W R a .views, says-shown (ringOfWord init) X (sealed (agreementAt W R a .views)) .sound (says-histories (agreementAt W R a .views) .complete (inr (a, o, (refl, s)))), ap (top (ringOfWord init)) (r .names) ∙ sym (r .top) ∙ ap viewOf e)
 
     -- what a row says of the order of its views
-    ordered : (a : ℕ) → a < na → (v : View) → v ∈ agreementAt W R a .views → (v ≡ viewOf (keyAt K 1 a)) ⊎ Below 16 v (viewOf (keyAt K 1 a))
+    ordered : (a : ℕ) → a < agreementCount → (v : View) → v ∈ agreementAt W R a .views → (v ≡ viewOf (keyAt K 1 a)) ⊎ Below 16 v (viewOf (keyAt K 1 a))
     ordered a l v m =
         let (i, r) = row-agrees a l in
         let (_, h) = says-agreement (ringOfWord init) X (entry W ids i) (entry W ids i .views) refl .sound (r .agreement) in
         rw (r .top) (history-top (says-history (ringOfWord init) (entry W ids i .views) .sound h) (rw (r .names) at m))
 
-    agreements-climb : (a : ℕ) → a < na → size 16 (agreementAt W R a .at) < size 16 (viewOf (keyAt K 1 a))
+    agreements-climb : (a : ℕ) → a < agreementCount → size 16 (agreementAt W R a .at) < size 16 (viewOf (keyAt K 1 a))
     agreements-climb a l =
         let (i, r) = row-agrees a l in
         let ((((k, q), m), d), h) = says-agreement (ringOfWord init) X (entry W ids i) (entry W ids i .views) refl .sound (r .agreement) in
@@ -279,18 +279,18 @@ module _ (W ids : List ℕ) (init : ℕ) (G : List ℕ) (n : ℕ) (groups : Grou
           | inr b ↦ omega (arith, b .less, ap (size 16) (r .at))
         ]
 
-    agreements-within : (a : ℕ) → a < na → (v : View) → v ∈ agreementAt W R a .views → size 16 v ≤ size 16 (viewOf (keyAt K 1 a))
+    agreements-within : (a : ℕ) → a < agreementCount → (v : View) → v ∈ agreementAt W R a .views → size 16 v ≤ size 16 (viewOf (keyAt K 1 a))
     agreements-within a l v m = elim (ordered a l v m) [ inl e ↦ omega (arith, ap (size 16) e) | inr b ↦ omega (arith, b .less) ]
 
-  pub tables-are : (K R : List ℕ) (nc na : ℕ) → IsWord init → Choices W ids init G n K R nc → Agreements W ids init G n K R na → Tables W (recordIn W ids) init K R nc na
-  tables-are K R nc na small choices agreements = record {
+  pub tables-are : (K R : List ℕ) (choiceCount agreementCount : ℕ) → IsWord init → Choices W ids init G n K R choiceCount → Agreements W ids init G n K R agreementCount → Tables W (recordIn W ids) init K R choiceCount agreementCount
+  tables-are K R choiceCount agreementCount small choices agreements = record {
     chosen = choices .index;
     agreed = agreements .index;
-    candidates = candidates K R nc choices small;
-    tops = tops K R na agreements small;
-    histories = λ H. says-unique (says-histories K R na agreements H) (says-or (says-sames H (viewOf init ∷ [])) (says-sealing K R na agreements H));
-    narrow = choices-narrow K R nc choices;
-    rises = choices-rise K R nc choices;
-    climbs = agreements-climb K R na agreements;
-    within = agreements-within K R na agreements;
+    candidates = candidates K R choiceCount choices small;
+    tops = tops K R agreementCount agreements small;
+    histories = λ H. says-unique (says-histories K R agreementCount agreements H) (says-or (says-sames H (viewOf init ∷ [])) (says-sealing K R agreementCount agreements H));
+    narrow = choices-narrow K R choiceCount choices;
+    rises = choices-rise K R choiceCount choices;
+    climbs = agreements-climb K R agreementCount agreements;
+    within = agreements-within K R agreementCount agreements;
   }

@@ -59,11 +59,9 @@ pub record Worded (W ids K G : List ℕ) (n : ℕ) : Type 0 where
 unfoldable pub hasWords : List ℕ → List ℕ → Vote → ℕ → Bool
 hasWords K G v g = eqb (keyAt K 1 g) (v .what) && eqb (keyAt K 0 g) (v .at) && eqb (tagOf (getD G g 0)) (v .tag)
 
--- Of the groups below `from`, r is the newest with the words of v, plus one, or 0 where there is none.
-pub record LatestGroup (K G : List ℕ) (v : Vote) (from r : ℕ) : Type 0 where
-  pub most : r ≤ from
-  pub here : 0 < r → hasWords K G v (r - 1) ≡ true
-  pub none : (g : ℕ) → r ≤ g → g < from → hasWords K G v g ≡ true → ⊥
+-- Group g has them.
+abbrev pub Matches : List ℕ → List ℕ → Vote → ℕ → Type 0
+Matches K G v g = hasWords K G v g ≡ true
 
 -- r is the group of statement s, or n.
 pub record Place (W ids G : List ℕ) (n s r : ℕ) : Type 0 where

@@ -6,7 +6,10 @@ ghost use Rattle.tables.specs.Index.{SameRows, SameKeys};
 ghost use Rattle.votes.specs.Votes.{tagOf, signersOf, GatheredOf};
 ghost use Rattle.votes.specs.Tables.{Tables};
 ghost use Rattle.votes.specs.Chosen.{choiceBy, agreementBy, Choices, Agreements};
+use crate::AGREEMENTS;
+use crate::CHOICES;
 use crate::Counts;
+use crate::GROUPS;
 use crate::Gathered;
 use crate::group;
 use pool::POOL_WORDS;
@@ -63,14 +66,14 @@ fn choices(
     ids: &[u16; RECORD],
     init: u64,
     found: Gathered,
-    groups: &[u64; 512],
+    groups: &[u64; GROUPS],
     keys: &mut [u64; KEYS],
     rows: &mut [u16; ROWS],
 ) -> usize
     requires { ⌜ GatheredOf (now words) (now ids) init (now groups) (now rows) found ⌝ }
     ensures { λ r. ⌜ Choices (now (words .entry)) (now (ids .entry)) init (now (groups .entry)) (found .groups) (now (keys .exit)) (now (rows .exit)) r × SameRows (now (rows .entry)) (now (rows .exit)) 1 ⌝ }
 {
-    tables::clear(rows, 0);
+    tables::clear(rows, CHOICES);
     let n = found.groups;
     let mut c = 0usize;
     let mut g = 0usize;
@@ -82,7 +85,7 @@ fn choices(
             g += 1;
             continue;
         }
-        tables::add(keys, rows, 0, c, pool::view(words, s), s);
+        tables::add(keys, rows, CHOICES, c, pool::view(words, s), s);
         c += 1;
         g += 1;
     }
@@ -95,7 +98,7 @@ fn agreements(
     ids: &[u16; RECORD],
     init: u64,
     found: Gathered,
-    groups: &[u64; 512],
+    groups: &[u64; GROUPS],
     keys: &mut [u64; KEYS],
     rows: &mut [u16; ROWS],
 ) -> usize
@@ -113,7 +116,7 @@ fn agreements(
             g += 1;
             continue;
         }
-        tables::add(keys, rows, 1, a, pool::top_view(words, s, init), s);
+        tables::add(keys, rows, AGREEMENTS, a, pool::top_view(words, s, init), s);
         a += 1;
         g += 1;
     }
@@ -126,17 +129,17 @@ pub fn tabulate(
     ids: &[u16; RECORD],
     init: u64,
     found: Gathered,
-    groups: &[u64; 512],
+    groups: &[u64; GROUPS],
     keys: &mut [u64; KEYS],
     rows: &mut [u16; ROWS],
 ) -> Counts
     requires { ⌜ GatheredOf (now words) (now ids) init (now groups) (now rows) found ⌝ }
     ensures { λ r. ⌜ Tables (now (words .entry)) (recordIn (now (words .entry)) (now (ids .entry))) init (now (keys .exit)) (now (rows .exit)) (r .choices) (r .agreements) ⌝ }
 {
-    let nc = choices(words, ids, init, found, groups, keys, rows);
-    let na = agreements(words, ids, init, found, groups, keys, rows);
+    let choice_count = choices(words, ids, init, found, groups, keys, rows);
+    let agreement_count = agreements(words, ids, init, found, groups, keys, rows);
     Counts {
-        choices: nc,
-        agreements: na,
+        choices: choice_count,
+        agreements: agreement_count,
     }
 }

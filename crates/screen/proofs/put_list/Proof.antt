@@ -27,6 +27,6 @@ put-list-spec =
     (λ c κs. search needs) (λ c κs. search needs)
     (λ c κs. omega (arith, c .before .before .before .before .before .before .pre .0, c .before .before .before .before .before .before .pre .1, c .before .before .before .loop-test .taken, c .before .before .before .before .loop .inv .1, ap length (c .before .before .before .before .loop .inv .2 .is) ∙ length-sets (c .before .before .before .before .before .before .args .out .now) (c .before .before .before .before .before .before .args .from) (tailText (viewsOf (c .before .before .before .before .before .before .args .list .now) (c .before .before .before .before .loop .i)))))
     (λ c. search needs) (λ c. search needs)
-    (λ c. (omega arith, omega (arith, c .before .before .put-view .ensures .0), words-next (c .before .before .before .before .before .before .before .before .before .args .list .now) (c .before .before .before .before .before .before .before .loop .i) _ (word-text _ _ _ (c .before .before .before .before .of-word .ensures) (c .before .before .before .before .before .view-in .ensures)) (c .before .before .before .before .before .before .before .loop .inv .2) (c .before .before .put-view .ensures .1)))
+    (λ c. (omega arith, omega (arith, c .before .before .put-view .ensures .0), words-next (c .before .before .before .before .before .before .before .before .before .args .list .now) (c .before .before .before .before .before .before .before .loop .i) _ (word-text _ _ _ (c .before .before .before .before .of-word .ensures) (c .before .before .before .before .before .list-at .ensures)) (c .before .before .before .before .before .before .before .loop .inv .2) (c .before .before .put-view .ensures .1)))
     (λ c. ap length (c .before .loop .inv .2 .is) ∙ simp length-sets)
     (λ c. let e : c .before .loop .i ≡ c .before .before .before .args .n = omega arith in rw (← e) (c .before .loop .inv .2)))

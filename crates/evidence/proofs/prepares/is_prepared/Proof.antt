@@ -33,11 +33,8 @@ is-prepared-spec =
     μ-loop
     (λ c κs. search needs)
     (λ c. (omega arith, records.none-first _ _ _))
-    (λ c. search needs)
-    (λ c. search needs)
-    (λ c κs. search needs)
+    (λ c. search needs) (λ c. search needs) (λ c κs. search needs)
     returns
-    (λ c. search needs)
-    (λ c. search needs)
+    (λ c. search needs) (λ c. search needs)
     (λ c. (omega arith, records.none-next _ _ _ _ (omega (arith, c .before .before .before .before .before .record-length .ensures .1)) (c .before .before .before .before .loop .inv .1) (sym (c .before .prepares-it .ensures) ∙ c .if1 .left)))
     returns-2)

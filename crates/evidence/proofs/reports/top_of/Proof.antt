@@ -11,7 +11,7 @@ returns c = top-none _ (ringOfWord (c .before .args .init)) _ (c .if1 .taken)
 
 returns-2 : tie.Need-returns-2
 unfolding viewsOf
-returns-2 c = ap viewOf (c .view-in .ensures) ∙ top-some _ (ringOfWord (c .before .before .args .init)) _ (c .before .if1 .left)
+returns-2 c = ap viewOf (c .list-at .ensures) ∙ top-some _ (ringOfWord (c .before .before .args .init)) _ (c .before .if1 .left)
 
 pub top-of-spec : {M : Type 1} → statement M
 top-of-spec = tie.close (tie.spec returns (λ c. search needs) (λ c κs. search needs) returns-2)

@@ -7,9 +7,5 @@ pub of-record-spec : {M : Type 1} → statement M
 of-record-spec =
     tie.close
     (tie.spec
-    (λ c κs. search needs)
-    (λ c κs. search needs)
-    (λ c. search needs)
-    (λ c κs. search needs)
-    (λ c κs. search needs)
+    (λ c κs. search needs) (λ c κs. search needs) (λ c. search needs) (λ c κs. search needs) (λ c κs. search needs)
     (λ c. c .unvoted .ensures _ _ (sym (c .before .before .before .before .before .has-votes .ensures) ∙ c .before .before .before .before .if1 .left) (c .before .before .before .wished-by .ensures)))

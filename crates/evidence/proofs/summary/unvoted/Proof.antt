@@ -7,6 +7,5 @@ pub unvoted-spec : {M : Type 1} → statement M
 unvoted-spec =
     tie.close
     (tie.spec
-    (λ c κs. search needs)
-    (λ c κs. search needs)
+    (λ c κs. search needs) (λ c κs. search needs)
     (λ c. λ sender X none w. laws.unvoted _ X none _ sender (c .before .before .before .before .args .candidates .now) (c .before .before .before .before .args .greatest .now) (c .before .before .start .ensures) (c .start2 .ensures) w))

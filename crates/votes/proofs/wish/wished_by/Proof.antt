@@ -24,12 +24,7 @@ wished-by-spec =
     μ-loop
     (λ c κs. search needs)
     (λ c. (omega arith, set-first _ _ _, set-first _ _ _))
-    (λ c. search needs)
-    (λ c. search needs)
-    (λ c κs. search needs)
-    (λ c κs. search needs)
-    (λ c. search needs)
-    (λ c. search needs)
+    (λ c. search needs) (λ c. search needs) (λ c κs. search needs) (λ c κs. search needs) (λ c. search needs) (λ c. search needs)
     (λ c. (omega arith, set-next _ _ _ _ _ _ _ _ (omega (arith, c .before .before .before .before .before .record-length .ensures .1)) (c .before .before .before .before .loop .inv .1) (c .before .note-kind .ensures) refl refl, set-next _ _ _ _ _ _ _ _ (omega (arith, c .before .before .before .before .before .record-length .ensures .1)) (c .before .before .before .before .loop .inv .2) (c .note-kind2 .ensures) refl refl))
     (λ c κs. search needs)
     (λ c. let e : c .before .before .loop .i ≡ c .before .before .before .record-length .result = omega arith in c .wished-view .ensures _ (set-whole _ _ _ _ _ _ _ e (c .before .before .before .record-length .ensures .0) (c .before .before .loop .inv .1)) (set-whole _ _ _ _ _ _ _ e (c .before .before .before .record-length .ensures .0) (c .before .before .loop .inv .2))))
