@@ -12,10 +12,6 @@ use Rattle.views.proofs.Tables.{all-zero, all-more, all-miss}
 use Rattle.views.proofs.Held.{of-history}
 use Rattle.views.proofs.History.each_has_members.Statement.{statement}
 use Rattle.views.proofs.History.each_has_members.Tie as tie
-use Rattle.views.proofs.History.each_has_members.Reads as reads
-use Rattle.views.proofs.History.each_has_members.Lts as lts
-use Rattle.views.proofs.History.count.Reads as count-reads
-use Rattle.views.proofs.View.has_members.Reads as has-members-reads
 
 abbrev Inv-loop : tie.InvT-loop
 Inv-loop n views p₀ p = (p ≤ n) × (all (hasMembers 16) (table p (heldAt views)) ≡ true)

@@ -12,10 +12,6 @@ use Rattle.views.proofs.Tables.{all-zero, all-more, all-miss}
 use Rattle.views.proofs.Held.{of-history}
 use Rattle.views.proofs.History.each_is_view.Statement.{statement}
 use Rattle.views.proofs.History.each_is_view.Tie as tie
-use Rattle.views.proofs.History.each_is_view.Reads as reads
-use Rattle.views.proofs.History.each_is_view.Lts as lts
-use Rattle.views.proofs.History.count.Reads as count-reads
-use Rattle.views.proofs.View.is_view.Reads as is-view-reads
 
 abbrev Inv-loop : tie.InvT-loop
 Inv-loop n views p₀ p = (p ≤ n) × (all (isView 16) (table p (heldAt views)) ≡ true)

@@ -11,10 +11,6 @@ use Rattle.views.proofs.Tables.{any-zero, any-more, any-at}
 use Rattle.views.proofs.Held.{of-history}
 use Rattle.views.proofs.History.has.Statement.{statement}
 use Rattle.views.proofs.History.has.Tie as tie
-use Rattle.views.proofs.History.has.Reads as reads
-use Rattle.views.proofs.History.has.Lts as lts
-use Rattle.views.proofs.History.count.Reads as count-reads
-use Rattle.views.proofs.View.same.Reads as same-reads
 
 abbrev Inv-loop : tie.InvT-loop
 Inv-loop v n views p₀ p = (p ≤ n) × (any (sameView (viewIs v)) (table p (heldAt views)) ≡ false)

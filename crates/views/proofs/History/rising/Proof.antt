@@ -11,10 +11,6 @@ use Rattle.views.proofs.Histories.{rising-none, rising-one, rising-brea
 use Rattle.views.proofs.Held.{of-history}
 use Rattle.views.proofs.History.rising.Statement.{statement}
 use Rattle.views.proofs.History.rising.Tie as tie
-use Rattle.views.proofs.History.rising.Reads as reads
-use Rattle.views.proofs.History.rising.Lts as lts
-use Rattle.views.proofs.History.count.Reads as count-reads
-use Rattle.views.proofs.View.below.Reads as below-reads
 
 abbrev Inv-loop : tie.InvT-loop
 Inv-loop n views p₀ p = (1 ≤ p) × (p ≤ n) × (isRising 16 (table p (heldAt views)) ≡ true)
