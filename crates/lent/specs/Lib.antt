@@ -1,1 +1,2 @@
+-- ---- what is promised
 pub mod Lent

@@ -6,7 +6,6 @@ use Rattle.bench.proofs.lines.value_of.Statement.{statement}
 use Rattle.bench.proofs.lines.value_of.Tie as tie
 use Rattle.bench.proofs.lines.value_of.Reads as reads
 use Rattle.bench.proofs.lines.value_of.Lts as lts
-use Rattle.bench.proofs.lines.refusal_number.Reads as refusal-number-reads
 
 enum-told : tie.Need-enum-told
 enum-told c = search needs
