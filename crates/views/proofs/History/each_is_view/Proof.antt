@@ -23,15 +23,10 @@ pub each-is-view-spec : {M : Type 1} → statement M
 each-is-view-spec =
     tie.close
     (tie.spec
-    Inv-loop
-    μ-loop
-    (λ c κs. search needs)
+    Inv-loop μ-loop (λ c κs. search needs)
     (λ c. (omega arith, all-zero _ _))
-    (λ c. search needs)
-    (λ c. search needs)
-    (λ c κs. search needs)
+    (λ c. search needs) (λ c. search needs) (λ c κs. search needs)
     (λ c. of-history (all (isView 16)) _ _ (c .before .before .before .before .before .before .count .ensures .0) (sym (all-miss _ _ _ (c .before .before .before .loop-test .taken) (sym (c .before .is-view .ensures) ∙ not-true _ (c .if1 .taken)))))
-    (λ c. search needs)
-    (λ c. search needs)
+    (λ c. search needs) (λ c. search needs)
     (λ c. (omega arith, all-more _ _ _ (c .before .before .before .before .loop .inv .1) (sym (c .before .is-view .ensures) ∙ not-false _ (c .if1 .left))))
     (λ c. of-history (all (isView 16)) _ _ (omega (arith, c .before .before .before .count .ensures .0)) (sym (c .before .loop .inv .1))))
