@@ -24,8 +24,12 @@ use Rattle.host.specs.Memory.{heldNoView, heldIn, says, bindingIn, sendI
 use Rattle.host.specs.Stored.{sendNumber, sendPayload, EnteredWords}
 
 -- a view is its word's, by the halves
-pub word-back : (v : View) {w : ℕ} → (w % 4294967296 ≡ v .joined) × (w / 4294967296 % 4294967296 ≡ v .left) → heldIn w ≡ v
-word-back v p i = record { joined = p .0 i; left = p .1 i }
+
+pub word-back : (v : View) (w : ℕ) → (w % 4294967296 ≡ v .joined) × (w / 4294967296 % 4294967296 ≡ v .left) → heldIn w ≡ v
+word-back v w p i = record { joined = p .0 i; left = p .1 i }
+
+pub word-held : (w : ℕ) {j l : ℕ} → j ≡ w % 4294967296 → l ≡ w / 4294967296 % 4294967296 → record { joined = j; left = l } ≡ heldIn w
+word-held w p q i = record { joined = p i; left = q i }
 
 -- View i of the words from word 16 on.
 abbrev storedAt : List ℕ → ℕ → View
