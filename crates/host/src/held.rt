@@ -11,9 +11,10 @@ use statements::Binding;
 use views::History;
 use views::View;
 
-// The words of a controller: how many there are, and what each holds.
+// How many words a controller is kept in.
 pub const FIELDS: usize = 32;
 
+// Where each field is.
 const READY: usize = 0;
 
 const NUMBER: usize = 1;
@@ -35,9 +36,11 @@ const LEAVING: usize = 8;
 const SENDING: usize = 9;
 
 const SEND_PAYLOAD: usize = 10;
-// How many views were entered, and the first of their words.
+
+// How many views were entered.
 const ENTERED: usize = 12;
 
+// Where their words start.
 const VIEWS: usize = 16;
 
 // The view that a word holds, whatever its bits.
