@@ -3,10 +3,8 @@ ghost use mathlib.Core.Path.{_≡_};
 ghost use mathlib.Core.Bool.{true, false};
 ghost use Prim.Native.Nat.{_+_, _<_, _≤_};
 ghost use lib.ListN.{length};
-ghost use Rattle.protocol.specs.Controller.{refusalNumber};
 ghost use Rattle.protocol.specs.Call.{setupAllowed};
 ghost use Rattle.text.specs.Written.{Wrote};
-ghost use Rattle.engine.specs.Meaning.{refusalIs};
 ghost use Rattle.schedule.specs.declared.line.Parsed.the-variants.{Readable};
 ghost use Rattle.bench.specs.Rows.{refusedRow, Answered};
 ghost use Rattle.bench.specs.Seats.{Sound, Full, ReadFrom, seatOf, isCall, wordOfAnswer, valueOfAnswer};
@@ -21,7 +19,6 @@ use crate::state::NOBODY;
 use crate::state::Setting;
 use engine::Answer;
 use engine::Controller;
-use engine::Refusal;
 use pool::POOL_WORDS;
 use pool::RECORD;
 use schedule::line;
@@ -55,21 +52,6 @@ fn word_of(a: Answer) -> Word
     }
 }
 
-fn refusal_number(r: Refusal) -> u64
-    ensures { λ n. ⌜ n ≡ refusalNumber (refusalIs r) ⌝ }
-{
-    match r {
-        Refusal::BadSetup => 1,
-        Refusal::BadStatement => 2,
-        Refusal::Repeated => 3,
-        Refusal::Full => 4,
-        Refusal::BadRequest => 5,
-        Refusal::ManyCandidates => 6,
-        Refusal::Conflict => 7,
-        Refusal::OutOfPlace => 8,
-    }
-}
-
 fn value_of(a: Answer, n: u64) -> Value
     ensures { λ r. ⌜ r ≡ valueOfAnswer a n ⌝ }
 {
@@ -80,7 +62,7 @@ fn value_of(a: Answer, n: u64) -> Value
         Answer::Delivered(m) => Value::Number(m),
         Answer::Left => Value::Number(0),
         Answer::Quiet => Value::Number(0),
-        Answer::Refused(r) => Value::Number(refusal_number(r)),
+        Answer::Refused(r) => Value::Number(engine::refusal_number(r)),
     }
 }
 

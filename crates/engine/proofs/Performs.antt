@@ -1,13 +1,12 @@
--- What the ways in which a turn ends come to.
+-- What the ways in which a turn or an addition ends come to.
 -- Assumes nothing.
-use mathlib.Core.Path.{_≡_, refl, sym, ap, ap₂, subst, _∙_}
+use mathlib.Core.Path.{_≡_, refl, sym, ap, subst, _∙_}
 use mathlib.Core.Bool.{Bool, true, false}
 use mathlib.Core.List.{List, [], _∷_, _++_}
 use mathlib.Core.Option.{some}
 use Prim.Native.Nat.{ℕ, _≤_}
 use native.Mathlib.Omega.{arith}
 use lib.Dec.{T}
-use Rattle.protocol.specs.Sets.{bit}
 use Rattle.protocol.specs.Lists.{if_then_else_, any}
 use Rattle.protocol.specs.View.{View}
 use Rattle.protocol.specs.Statement.{Stmt, sameStmt, fieldRules}
@@ -47,14 +46,14 @@ use Rattle.engine.proofs.Keeps.{is-full, not-full, all-in, record-more}
 
 -- ---- a statement is signed
 
--- the controller with another binding
-abbrev pub boundTo : Controller → Binding → Controller
-boundTo c b = record {
+-- the controller with other views entered and another binding
+abbrev pub changed : Controller → History → Binding → Controller
+changed c h b = record {
   ready = c .ready;
   number = c .number;
   init = c .init;
   sender = c .sender;
-  entered = c .entered;
+  entered = h;
   binding = b;
   delivered = c .delivered;
   joining = c .joining;
@@ -80,7 +79,7 @@ module _ (W R W′ : List ℕ) (c : Controller) (s : Stmt) (x : Answered) (n : �
   room-is = not-full W R s (numbered .short) (numbered .room)
 
   pub sign-kept : (b : Binding) (R′ : List ℕ) → PushedTo R n R′
-      → Turns W R c (turn.signing (controllerIs c) (recordIn W R) (hasRoom (poolOf W)) (controller.withBinding (bindingIs b) (controllerIs c)) s) (record { answer = Signed n; controller = boundTo c b }) W′ R′
+      → Turns W R c (turn.signing (controllerIs c) (recordIn W R) (hasRoom (poolOf W)) (controller.withBinding (bindingIs b) (controllerIs c)) s) (record { answer = Signed n; controller = changed c (c .entered) b }) W′ R′
   unfolding turn.signing answerIs controllerIs
   sign-kept b R′ q = rw room-is (record {
     answer = ap controller.signed (numbered .is);
@@ -94,35 +93,21 @@ module _ (W R W′ : List ℕ) (c : Controller) (s : Stmt) (x : Answered) (n : �
 
 -- ---- a view is entered, a payload delivered
 
-pub entering : (c : Controller) (b : Binding) (h : History) (d : List View) → viewsIs h ≡ d
-    → controllerIs (record {
-      ready = c .ready;
-      number = c .number;
-      init = c .init;
-      sender = c .sender;
-      entered = h;
-      binding = b;
-      delivered = c .delivered;
-      joining = c .joining;
-      leaving = c .leaving;
-      sending = c .sending;
-    }) ≡ controller.withEntered d (controller.withBinding (bindingIs b) (controllerIs c))
+pub entering : (c : Controller) (b : Binding) (h : History) (d : List View) → viewsIs h ≡ d → controllerIs (changed c h b) ≡ controller.withEntered d (controller.withBinding (bindingIs b) (controllerIs c))
 unfolding controllerIs
 entering c b h d e = rw e
 
 -- ---- each action
 
 module _ (W R : List ℕ) (c : Controller) (s : Situation) (H : List View) (a : Action) (r : Outcome) where
-  pub rest-is : (gone : Bool) → SituationOf (controllerIs c) (recordIn W R) s → a ≡ Rest → gone ≡ bit (viewIs (s .top) .left) (s .number) → r .answer ≡ restIs gone → r .controller ≡ c
+  pub rest-is : SituationOf (controllerIs c) (recordIn W R) s → a ≡ Rest → r .answer ≡ restIs (s .left) → r .controller ≡ c
       → Turns W R c (turn.perform (controllerIs c) (recordIn W R) (hasRoom (poolOf W)) (actionIs s H a)) r W R
   unfolding turn.perform actionIs answerIs
-  rest-is gone k d g e h = rw d (go gone _ (g ∙ sym (ap₂ (λ v n. bit (v .left) n) (k .top) (k .number))) e)
+  rest-is k d e h = rw (d, k .left) (go (s .left) e)
     where
-      go : (b x : Bool) → b ≡ x → r .answer ≡ restIs b → Turns W R c (record { answer = if x then controller.left else controller.quiet; controller = controllerIs c; statements = recordIn W R }) r W R
-      go true true g e = settled W R c r (controllerIs c) controller.left (ap (answerIs W) e) (ap controllerIs h) (λ s p. let z : _≡_ {A = ℕ} 0 1 = cc in omega arith) (λ t. absurd t)
-      go false false g e = settled W R c r (controllerIs c) controller.quiet (ap (answerIs W) e) (ap controllerIs h) (λ s p. let z : _≡_ {A = ℕ} 0 1 = cc in omega arith) (λ t. absurd t)
-      go true false g e = absurd (subst T g tt)
-      go false true g e = absurd (subst T (sym g) tt)
+      go : (b : Bool) → r .answer ≡ restIs b → Turns W R c (record { answer = if b then controller.left else controller.quiet; controller = controllerIs c; statements = recordIn W R }) r W R
+      go true e = settled W R c r (controllerIs c) controller.left (ap (answerIs W) e) (ap controllerIs h) (λ s p. let z : _≡_ {A = ℕ} 0 1 = cc in omega arith) (λ t. absurd t)
+      go false e = settled W R c r (controllerIs c) controller.quiet (ap (answerIs W) e) (ap controllerIs h) (λ s p. let z : _≡_ {A = ℕ} 0 1 = cc in omega arith) (λ t. absurd t)
 
   pub enter-is : (v : held.View) (b : Binding) → a ≡ Enter v b → r .answer ≡ Entered v
       → controllerIs (r .controller) ≡ controller.withEntered (turn.enteredAfter (viewIs v) (viewsIs (c .entered))) (controller.withBinding (bindingIs b) (controllerIs c))

@@ -21,10 +21,6 @@ use Rattle.statements.specs.Meaning.{stmtOf}
 use Rattle.pool.specs.Pool.{stmtAt, poolLen, poolOf}
 use Rattle.pool.specs.Changes as memory
 
-or-yes : (a : Bool) → (a || true) ≡ true
-or-yes true = refl
-or-yes false = refl
-
 -- ---- lists: where the first s stands
 
 module _ (s : Stmt) where

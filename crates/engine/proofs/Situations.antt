@@ -1,12 +1,13 @@
 -- What the rules look at is what the record shows.
 -- Assumes nothing.
 use mathlib.Core.Path.{_≡_, refl, sym, ap, ap₂, subst, _∙_}
-use mathlib.Core.Bool.{Bool, true, false, not, _&&_}
+use mathlib.Core.Bool.{Bool, not, _&&_}
 use mathlib.Core.List.{List}
 use Prim.Native.Nat.{ℕ, _-_, _<_, min}
 use native.Mathlib.Omega.{arith}
 use lib.Dec.{ltb}
 use lib.ListN.{length, getD}
+use Rattle.protocol.specs.Sets.{bit}
 use Rattle.protocol.specs.Lists.{any, all}
 use Rattle.protocol.specs.View.{View, Ring, sameView, below}
 use Rattle.protocol.specs.History.{top}
@@ -45,6 +46,7 @@ pub record Looking (c : Controller) (G : List ℕ) (e : Evidence) (s : Situation
   pub top : viewIs (s .top) ≡ viewIn (getD G (e .length - 1) 0)
   pub entered : s .entered ≡ any (sameView (viewIs (s .top))) (viewsIs (c .entered))
   pub stands : s .stands ≡ (s .entered && all (notAbove (viewIs (s .top))) (viewsIs (c .entered)))
+  pub left : s .left ≡ bit (viewIs (s .top) .left) (c .number)
   pub active : s .active ≡ ltb 0 (min (c .entered .len) 16)
 
 -- the evidence in a ring is that of its controller
@@ -97,6 +99,9 @@ module _ (X : List Stmt) (C G : List ℕ) (c : Controller) (e : Evidence) (k : S
       ap (λ t. turn.hasEntered d X t && all (λ u. not (below (d .ring .width) t u)) (d .entered)) the-top
       ∙ ap₂ _&&_ the-entered (at-the-top (viewIs (s .top))) ∙ sym (l .stands)
 
+  has-left : bit (turn.T d X .left) (c .number) ≡ s .left
+  has-left = ap (λ t. bit (t .left) (c .number)) the-top ∙ sym (l .left)
+
   the-certificate : turn.certificate d X ≡ certificateOf e
   unfolding turn.certificate controllerIs
   the-certificate = sym (shown .certificate (k .agree))
@@ -105,9 +110,9 @@ module _ (X : List Stmt) (C G : List ℕ) (c : Controller) (e : Evidence) (k : S
   unfolding controllerIs
   some-entered = ap (ltb 0) (views-count (c .entered)) ∙ sym (l .active)
 
--- what `look` makes of the controller and the evidence
-abbrev pub lookedAt : Controller → declared.Ring → Evidence → held.View → Bool → Bool → Bool → Situation
-lookedAt c r e t active entered stands = record {
+-- what `of_controller` makes of the controller and the evidence
+abbrev pub lookedAt : Controller → declared.Ring → Evidence → held.View → Bool → Bool → Bool → Bool → Situation
+lookedAt c r e t active entered stands left = record {
   number = c .number;
   ring = r;
   binding = c .binding;
@@ -118,12 +123,13 @@ lookedAt c r e t active entered stands = record {
   active = active;
   entered = entered;
   stands = stands;
+  left = left;
   top = t;
   shown = e;
 }
 
-module _ (c : Controller) (r : declared.Ring) (G : List ℕ) (e : Evidence) (t : held.View) (active entered stands : Bool) (q : RingOf c r) (l : Looking c G e (lookedAt c r e t active entered stands)) where
-  seen : (X : List Stmt) (C : List ℕ) → Settled (controllerIs c .ring) (c .sender) X C G e → Narrow G (e .length) → viewIn (e .wished) ≡ viewOf (e .wished) → SituationOf (controllerIs c) X (lookedAt c r e t active entered stands)
+module _ (c : Controller) (r : declared.Ring) (G : List ℕ) (e : Evidence) (t : held.View) (active entered stands left : Bool) (q : RingOf c r) (l : Looking c G e (lookedAt c r e t active entered stands left)) where
+  seen : (X : List Stmt) (C : List ℕ) → Settled (controllerIs c .ring) (c .sender) X C G e → Narrow G (e .length) → viewIn (e .wished) ≡ viewOf (e .wished) → SituationOf (controllerIs c) X (lookedAt c r e t active entered stands left)
   unfolding controllerIs
   seen X C k narrow w = record {
     number = refl;
@@ -137,13 +143,14 @@ module _ (c : Controller) (r : declared.Ring) (G : List ℕ) (e : Evidence) (t :
     active = some-entered X C G c e k narrow _ l;
     entered = the-entered X C G c e k narrow _ l;
     stands = it-stands X C G c e k narrow _ l;
+    left = has-left X C G c e k narrow _ l;
     top = the-top X C G c e k narrow _ l;
     wished = sym (w ∙ k .of .wished);
     certificate = the-certificate X C G c e k narrow _ l;
     stored = λ h. sym (k .of .stored (k .agree) h);
   }
 
-  pub looked : SituationFrom c r G e (lookedAt c r e t active entered stands)
+  pub looked : SituationFrom c r G e (lookedAt c r e t active entered stands left)
   looked = record {
     situation = λ W R C k.
         seen (recordIn W R) C (record { of = of-controller q (k .of); agree = k .agree; few = k .few })
@@ -152,12 +159,7 @@ module _ (c : Controller) (r : declared.Ring) (G : List ℕ) (e : Evidence) (t :
     shown = refl;
   }
 
--- a view that t is below, and one that it is not
-module _ (t u : View) (b : Bool) (e : b ≡ below 16 t u) where
-  pub above : b ≡ true → notAbove t u ≡ false
-  unfolding notAbove
-  above f = ap not (sym e ∙ f)
-
-  pub level : b ≡ false → notAbove t u ≡ true
-  unfolding notAbove
-  level f = ap not (sym e ∙ f)
+-- whether t is below a view
+pub above : (t u : View) (b : Bool) {r : Bool} → b ≡ below 16 t u → b ≡ r → notAbove t u ≡ not r
+unfolding notAbove
+above t u b e f = ap not (sym e ∙ f)

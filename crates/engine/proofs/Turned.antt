@@ -97,7 +97,7 @@ module _ (W R : List ℕ) (c : Controller) (r : Ring) (q : RingOf c r) (C G : Li
     settled : Settled (ringIs r) (r .sender) X C G e
     settled = record { of = o; agree = h; few = k }
 
-    -- what `look` asks
+    -- what `of_controller` asks
     pub looking : RingOf c r × (0 < e .length) × (e .length ≤ 16)
     looking = (q, some-view _ _ _ _ _ e settled, length-most _ _ _ _ _ e settled)
 

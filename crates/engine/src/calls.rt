@@ -54,17 +54,14 @@ fn start(number: u8, members: u16, sender: u8) -> Controller
         left: 0,
     };
     let entered = entered_first(init, number);
+    let blank = Controller::new();
     Controller {
         ready: true,
         number: number,
         init: init,
         sender: sender,
         entered: entered,
-        binding: Binding::Unbound,
-        delivered: false,
-        joining: false,
-        leaving: false,
-        sending: OptionalPayload::Nothing,
+        ..blank
     }
 }
 

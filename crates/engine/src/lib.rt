@@ -1,4 +1,8 @@
 // The engine of one controller: setup, requests, additions and turns, each a value in and a value out, over a record and a pool that are lent.
+ghost use mathlib.Core.Path.{_≡_};
+ghost use Rattle.protocol.specs.Controller.{refusalNumber};
+ghost use Rattle.engine.specs.Meaning.{refusalIs};
+
 mod add;
 mod calls;
 mod keep;
@@ -51,4 +55,20 @@ pub enum Answer {
 pub struct Outcome {
     pub answer: Answer,
     pub controller: Controller,
+}
+
+// A refusal's number in the table of refusals.
+pub fn refusal_number(r: Refusal) -> u64
+    ensures { λ n. ⌜ n ≡ refusalNumber (refusalIs r) ⌝ }
+{
+    match r {
+        Refusal::BadSetup => 1,
+        Refusal::BadStatement => 2,
+        Refusal::Repeated => 3,
+        Refusal::Full => 4,
+        Refusal::BadRequest => 5,
+        Refusal::ManyCandidates => 6,
+        Refusal::Conflict => 7,
+        Refusal::OutOfPlace => 8,
+    }
 }

@@ -106,10 +106,7 @@ pub fn perform(
     ensures { λ r. ⌜ Turns (now (words .entry)) (now (ids .entry)) c (protocol.perform (controllerIs c) (recordIn (now (words .entry)) (now (ids .entry))) (hasRoom (poolOf (now (words .entry)))) (actionIs s (viewsIn (now (candidates .entry)) (s .shown .count)) a)) r (now (words .exit)) (now (ids .exit)) ⌝ }
 {
     match a {
-        Action::Rest => {
-            let t = s.top;
-            rest(c, rules::has_left(t, s.number))
-        }
+        Action::Rest => rest(c, s.left),
         Action::Enter(v, b) => enter(c, v, b),
         Action::Deliver(m) => deliver(c, m),
         Action::Ack(m) => {

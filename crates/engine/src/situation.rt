@@ -54,6 +54,7 @@ pub fn of_controller(
         active: h.count() > 0,
         entered: entered,
         stands: entered & none_above(h, t),
+        left: t.has_left(c.number),
         top: t,
         shown: e,
     }

@@ -96,10 +96,6 @@ module _ {A B : Type 0} (f : A → B) where
   at-map (x ∷ l) zero e = (x, refl, some-injective e)
   at-map (x ∷ l) (suc i) e = at-map l i e
 
-  pub map-twice : {C : Type 0} (g : B → C) (l : List A) → map g (map f l) ≡ map (λ a. g (f a)) l
-  map-twice g [] = refl
-  map-twice g (a ∷ l) = ap (λ t. g (f a) ∷ t) (map-twice g l)
-
 -- ---- refusals by their numbers
 
 pub refusal-at : (r : Refusal) → refusalOf (refusalNumber r) ≡ r

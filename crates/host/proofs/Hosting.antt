@@ -27,7 +27,8 @@ use Rattle.engine.proofs.Requests.{refused}
 use Rattle.host.specs.Statement.{IsStatement}
 use Rattle.host.proofs.Written.{not-read, is-statement}
 use Rattle.host.specs.Memory.{controllerAt}
-use Rattle.host.specs.Host.{answerNumber, valueNumber, Finished, Hosted, Fresh, SetUpOn, SetsUp, CallOn, TurnOn, TakesTurn, AddOn, NoneOn, noStatement, AddsText}
+use Rattle.host.specs.Host.{answerNumber, valueNumber, Hosted, Fresh, SetUpOn, SetsUp, CallOn, TurnOn, TakesTurn, AddOn, NoneOn, noStatement, AddsText}
+use Rattle.host.specs.Stored.{Finished}
 
 -- ---- a refusal
 

@@ -1,6 +1,6 @@
 -- Laws of loading a controller and of storing it.
 -- Assumes nothing.
-use Prim.Native.Nat.{ℕ, _+_, _*_, _/_, _%_, _≤_, _<_}
+use Prim.Native.Nat.{ℕ, _+_, _/_, _%_, _≤_, _<_}
 use native.Mathlib.Numerals.{add-one}
 use native.Mathlib.Omega.{arith}
 use mathlib.Core.Path.{_≡_, refl, sym, ap, ap₂, _∙_}
@@ -20,14 +20,16 @@ use Rattle.statements.specs.Meaning.{bindingIs}
 use Rattle.rules.specs.declared.OptionalPayload.{OptionalPayload}
 use Rattle.rules.specs.declared.OptionalPayload.the-variants.{Nothing, Payload}
 use Rattle.engine.specs.declared.Controller.{Controller}
-use Rattle.host.specs.Memory.{heldNoView, heldIn, says, bindingIn, sendIn, sendNumber, sendPayload, enteredIn, controllerAt, EnteredWords}
+use Rattle.host.specs.Memory.{heldNoView, heldIn, says, bindingIn, sendIn, enteredIn, controllerAt}
+use Rattle.host.specs.Stored.{sendNumber, sendPayload, EnteredWords}
 
--- a view is its word's
-pub word-back : (v : View) (a b : ℕ) → a ≡ v .joined → a < 4294967296 → b ≡ v .left → b < 4294967296 → heldIn (a + b * 4294967296) ≡ v
-word-back v a b e k f l = same (a + b * 4294967296) (omega arith) (omega arith)
-  where
-    same : (w : ℕ) → w % 4294967296 ≡ v .joined → w / 4294967296 % 4294967296 ≡ v .left → heldIn w ≡ v
-    same w p q i = record { joined = p i; left = q i }
+-- a view is its word's, by the halves
+
+pub word-back : (v : View) (w : ℕ) → (w % 4294967296 ≡ v .joined) × (w / 4294967296 % 4294967296 ≡ v .left) → heldIn w ≡ v
+word-back v w p i = record { joined = p .0 i; left = p .1 i }
+
+pub word-held : (w : ℕ) {j l : ℕ} → j ≡ w % 4294967296 → l ≡ w / 4294967296 % 4294967296 → record { joined = j; left = l } ≡ heldIn w
+word-held w p q i = record { joined = p i; left = q i }
 
 -- View i of the words from word 16 on.
 abbrev storedAt : List ℕ → ℕ → View

@@ -46,13 +46,6 @@ valueNumber a = valueWord (controller.answerValue (signedNumber a) (answerIs [] 
 
 -- ---- calls
 
--- The engine returned o on the controller of the words F: its answer and value were told, and the words mean its controller, or are as they were after a refusal.
-pub record Finished (o : Outcome) (F : List ℕ) (answer : ℕ) (F′ value : List ℕ) : Type 0 where
-  pub answered : answer ≡ answerNumber (o .answer)
-  pub valued : value ≡ valueNumber (o .answer) ∷ []
-  pub held : (answer ≡ 6 → ⊥) → controllerAt F′ ≡ o .controller
-  pub refused : answer ≡ 6 → F′ ≡ F
-
 -- A call on the controller of F with the record R has the answer and the value, and leaves F′ and R′: they are those of an outcome that the engine's promise `Met` allows.
 pub record Hosted (Met : Outcome → Type 0) (F R : List ℕ) (answer : ℕ) (F′ R′ value : List ℕ) : Type 0 where
   pub outcome : Outcome

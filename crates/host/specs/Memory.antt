@@ -4,12 +4,11 @@
 -- others mean nothing.
 -- Every memory means some controller: each word is read as the value that it can stand for, and nothing has to hold of it.
 -- Assumes nothing.
-use mathlib.Core.Path.{_≡_}
 use mathlib.Core.Bool.{Bool, not}
 use mathlib.Core.List.{List}
 use Prim.Native.Nat.{ℕ, _+_, _/_, _%_}
 use lib.Dec.{eqb}
-use lib.ListN.{getD, length}
+use lib.ListN.{getD}
 use Rattle.protocol.specs.Lists.{if_then_else_}
 use Rattle.views.specs.Table.{table}
 use Rattle.views.specs.declared.View.{View}
@@ -55,19 +54,3 @@ controllerAt F = record {
   leaving = says (getD F 8 0);
   sending = sendIn (getD F 9 0) (getD F 10 0);
 }
-
--- ---- what is stored
-
-abbrev pub sendNumber : OptionalPayload → ℕ
-sendNumber Nothing = 0
-sendNumber (Payload m) = 1
-
-abbrev pub sendPayload : OptionalPayload → ℕ
-sendPayload Nothing = 0
-sendPayload (Payload m) = m
-
--- r has the words of the views that were entered.
-pub record EnteredWords (h : History) (r : List ℕ) : Type 0 where
-  pub long : length r ≡ 32
-  pub count : getD r 12 0 ≡ h .len
-  pub back : table 16 (λ i. heldIn (getD r (16 + i) 0)) ≡ h .views

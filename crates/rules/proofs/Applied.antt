@@ -195,16 +195,27 @@ pub reporting-made : (s : Situation) {H K : List View} (u : held.View) {w : View
 unfolding statementOf
 reporting-made s u q e m = made-as (ap₂ (λ v H. report (s .number) (viewIs u) v (bindingIs (s .binding)) (certificateOf (s .shown)) H) q e) m
 
+-- ---- what is asked
+
+-- a test of x, which y is, that was answered by b
+not-asked : {A : Type 0} (p : A → Bool) {x y : A} {b r : Bool} → b ≡ p x → x ≡ y → b ≡ r → not (p y) ≡ not r
+not-asked p e q f = ap not (sym (ap p q) ∙ sym e ∙ f)
+
 -- whether the record has what st means
-module _ {a : Stmt} {st : Statement} (X : List Stmt) (b : Bool) (m : Made a st) (e : b ≡ any (sameStmt (stmtOf st)) X) where
-  asked : any (sameStmt a) X ≡ b
-  asked = ap (λ x. any (sameStmt x) X) (sym (m .means)) ∙ sym e
+pub holds-asked : {a : Stmt} {st : Statement} (X : List Stmt) (b : Bool) {r : Bool} → Made a st → b ≡ any (sameStmt (stmtOf st)) X → b ≡ r → not (any (sameStmt a) X) ≡ not r
+holds-asked X b m e = not-asked (λ x. any (sameStmt x) X) e (m .means)
 
-  pub signed-before : b ≡ true → not (any (sameStmt a) X) ≡ false
-  signed-before t = ap not (asked ∙ t)
+-- whether it has a statement of k, of this kind, at the view of a word
+pub own-asked : (X : List Stmt) (b : Bool) (k kind u : ℕ) {v : View} {r : Bool} → viewOf u ≡ v → b ≡ any (ownAt k kind (viewOf u)) X → b ≡ r → not (any (ownAt k kind v) X) ≡ not r
+own-asked X b k kind u q e = not-asked (λ x. any (ownAt k kind x) X) e q
 
-  pub not-signed : b ≡ false → not (any (sameStmt a) X) ≡ true
-  not-signed f = ap not (asked ∙ f)
+-- whether the view u, which v is, is the top
+pub top-asked : (b : Bool) (t : View) {u v : View} {r : Bool} → v ≡ u → b ≡ sameView v t → b ≡ r → not (sameView u t) ≡ not r
+top-asked b t q e = not-asked (λ x. sameView x t) e q
+
+-- whether the view u, which v is, has members
+pub members-asked : (b c : Bool) {u v : View} → v ≡ u → b ≡ hasMembers 16 v → b ≡ c → hasMembers 16 u ≡ c
+members-asked b c q e f = ap (hasMembers 16) (sym q) ∙ sym e ∙ f
 
 -- ---- the rules
 
@@ -320,11 +331,11 @@ module _ (Y : List Stmt) (s : Situation) where
 module _ (s : Situation) where
   delivering : (d : Controller) (X : List Stmt) → SituationOf d X s → s .shown .certified ≡ true
       → when (ltb 0 (length (d .entered)) && not (bit (turn.T d X .left) (d .number)) && not (d .delivered) && isStored (d .ring) X (s .shown .payload)) (turn.deliver (s .shown .payload))
-      ≡ actionIs s (candidates (d .ring) X) (each (s .active ∷ not (bit (viewIs (s .top) .left) (s .number)) ∷ not (s .delivered) ∷ s .shown .stored ∷ []) (Deliver (s .shown .payload)))
+      ≡ actionIs s (candidates (d .ring) X) (each (s .active ∷ not (s .left) ∷ not (s .delivered) ∷ s .shown .stored ∷ []) (Deliver (s .shown .payload)))
   unfolding actionIs
-  delivering d X k c = rw (k .top, k .stored c, k .active, k .number, k .delivered) (all4 s (candidates (d .ring) X) (Deliver (s .shown .payload)) refl _ _ _ _)
+  delivering d X k c = rw (k .left, k .stored c, k .active, k .delivered) (all4 s (candidates (d .ring) X) (Deliver (s .shown .payload)) refl _ _ _ _)
 
-  pub seventh : Is [] s turn.rule7 (each (s .shown .certified ∷ s .active ∷ not (bit (viewIs (s .top) .left) (s .number)) ∷ not (s .delivered) ∷ s .shown .stored ∷ []) (Deliver (s .shown .payload)))
+  pub seventh : Is [] s turn.rule7 (each (s .shown .certified ∷ s .active ∷ not (s .left) ∷ not (s .delivered) ∷ s .shown .stored ∷ []) (Deliver (s .shown .payload)))
   unfolding turn.rule7
   seventh d X k h =
       ap (λ o. given o (λ m. when (ltb 0 (length (d .entered)) && not (bit (turn.T d X .left) (d .number)) && not (d .delivered) && isStored (d .ring) X m) (turn.deliver m))) (k .certificate)
@@ -389,32 +400,6 @@ module _ (X : List Stmt) (s : Situation) where
     ack-first r f q = acks-by Unbound r e (λ d k.
         given-cong (find (prepares (d .sender)) X) (λ x. when (member (turn.T d X) (d .sender)) (x .payload)) (λ x. some (x .payload)) (the-payload f d k)
         ∙ ap (λ x. given (find (prepares x) X) (λ y. some (y .payload))) (k .sender) ∙ sym q)
-
--- a statement of its own at the view of a word
-module _ (X : List Stmt) (b : Bool) (k kind u : ℕ) {v : View} (is : viewOf u ≡ v) (e : b ≡ any (ownAt k kind (viewOf u)) X) where
-  own-asked : any (ownAt k kind v) X ≡ b
-  own-asked = ap (λ x. any (ownAt k kind x) X) (sym is) ∙ sym e
-
-  pub own-yes : b ≡ true → not (any (ownAt k kind v) X) ≡ false
-  own-yes f = ap not (own-asked ∙ f)
-
-  pub own-no : b ≡ false → not (any (ownAt k kind v) X) ≡ true
-  own-no f = ap not (own-asked ∙ f)
-
--- whether the view u, which v is, is the top
-module _ (b : Bool) (t : View) {u v : View} (is : v ≡ u) (e : b ≡ sameView v t) where
-  top-asked : sameView u t ≡ b
-  top-asked = ap (λ x. sameView x t) (sym is) ∙ sym e
-
-  pub is-top : b ≡ true → not (sameView u t) ≡ false
-  is-top f = ap not (top-asked ∙ f)
-
-  pub not-top : b ≡ false → not (sameView u t) ≡ true
-  not-top f = ap not (top-asked ∙ f)
-
--- whether the view u, which v is, has members
-pub members-asked : (b c : Bool) {u v : View} → v ≡ u → b ≡ hasMembers 16 v → b ≡ c → hasMembers 16 u ≡ c
-members-asked b c is e f = ap (hasMembers 16) (sym is) ∙ sym e ∙ f
 
 -- ---- rule 2
 

@@ -1,4 +1,4 @@
--- What the rules' values mean: a payload that is to be sent, words that are lent as views, and the protocol's actions.
+-- What the actions of the rules mean: the protocol's actions, and the statements that they sign.
 -- Assumes nothing.
 use mathlib.Core.Bool.{Bool, true, false}
 use mathlib.Core.List.{List}

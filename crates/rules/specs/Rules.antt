@@ -7,6 +7,7 @@ use mathlib.Core.Option.{Option, some}
 use Prim.Native.Nat.{ℕ}
 use lib.Dec.{eqb, ltb}
 use lib.ListN.{length}
+use Rattle.protocol.specs.Sets.{bit}
 use Rattle.protocol.specs.Lists.{any, find, given, firstOf}
 use Rattle.protocol.specs.View.{View, sameView, member, below}
 use Rattle.protocol.specs.Statement.{Stmt}
@@ -60,6 +61,7 @@ pub record SituationOf (d : Controller) (X : List Stmt) (s : Situation) : Type 0
   pub active : ltb 0 (length (d .entered)) ≡ s .active
   pub entered : turn.hasEntered d X (viewIs (s .top)) ≡ s .entered
   pub stands : turn.stands d X ≡ s .stands
+  pub left : bit (turn.T d X .left) (d .number) ≡ s .left
   pub top : turn.T d X ≡ viewIs (s .top)
   pub wished : wished (d .ring) X ≡ viewIn (s .shown .wished)
   pub certificate : turn.certificate d X ≡ certificateOf (s .shown)

@@ -13,7 +13,6 @@ pub use membership::rule1;
 pub use membership::rule2;
 pub use membership::rule3;
 pub use membership::rule4;
-pub use notice::has_left;
 pub use notice::rule5;
 pub use notice::rule6;
 pub use notice::rule7;
@@ -58,6 +57,8 @@ pub struct Situation {
     pub active: bool,
     pub entered: bool,
     pub stands: bool,
+    // It is in the top's left set.
+    pub left: bool,
     pub top: View,
     pub shown: Evidence,
 }

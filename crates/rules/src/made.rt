@@ -40,7 +40,7 @@ pub fn history_of(list: &[u64; View::LIMIT], n: usize) -> History
 }
 
 // The report on u.
-pub fn report(candidates: &[u64; View::LIMIT], s: Situation, u: View) -> Statement
+fn report(candidates: &[u64; View::LIMIT], s: Situation, u: View) -> Statement
     requires { ⌜ s .shown .count ≤ 16 ⌝ }
     ensures { λ r. ⌜ Made (statementOf s (viewsIn (now (candidates .entry)) (s .shown .count)) (Action.Report u)) r ⌝ }
 {

@@ -18,7 +18,7 @@ use pool::RECORD;
 use views::View;
 
 // Whether a report on the view of the word u is due.
-pub fn is_due(words: &[u64; POOL_WORDS], own: &[u16; RECORD], number: u8, t: View, u: u64) -> bool
+fn is_due(words: &[u64; POOL_WORDS], own: &[u16; RECORD], number: u8, t: View, u: u64) -> bool
     ensures { λ r. ⌜ r ≡ reportDue (recordIn (now (words .entry)) (now (own .entry))) number (viewIs t) (viewIn u) ⌝ }
 {
     let v = View::of_word(u);

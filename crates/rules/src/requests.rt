@@ -28,7 +28,7 @@ pub fn rule8(words: &[u64; POOL_WORDS], own: &[u16; RECORD], s: Situation) -> Ac
 }
 
 // Whether a leave need not wait for delivery.
-pub fn may_leave(words: &[u64; POOL_WORDS], own: &[u16; RECORD], s: Situation) -> bool
+fn may_leave(words: &[u64; POOL_WORDS], own: &[u16; RECORD], s: Situation) -> bool
     ensures { λ r. ⌜ r ≡ (s .delivered || not (s .shown .certified || any (ownKind (s .number) 6) (recordIn (now (words .entry)) (now (own .entry))))) ⌝ }
 {
     if s.delivered {

@@ -10,7 +10,7 @@ use pool::POOL_WORDS;
 use pool::RECORD;
 
 // Whether statement n is one of controller k, of this kind.
-pub fn is_own(words: &[u64; POOL_WORDS], n: u16, k: u8, kind: u64) -> bool
+fn is_own(words: &[u64; POOL_WORDS], n: u16, k: u8, kind: u64) -> bool
     ensures { λ r. ⌜ r ≡ ownKind k kind (stmtAt (now (words .entry)) n) ⌝ }
 {
     if pool::origin(words, n) != k as u64 {
@@ -20,7 +20,7 @@ pub fn is_own(words: &[u64; POOL_WORDS], n: u16, k: u8, kind: u64) -> bool
 }
 
 // Whether it is at t too.
-pub fn is_own_at(words: &[u64; POOL_WORDS], n: u16, k: u8, kind: u64, t: u64) -> bool
+fn is_own_at(words: &[u64; POOL_WORDS], n: u16, k: u8, kind: u64, t: u64) -> bool
     ensures { λ r. ⌜ r ≡ ownAt k kind (viewOf t) (stmtAt (now (words .entry)) n) ⌝ }
 {
     if !is_own(words, n, k, kind) {

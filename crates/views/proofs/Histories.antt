@@ -93,15 +93,6 @@ module _ (f : ℕ → View) where
   pub last-some : (c : ℕ) (u : View) → (c ≡ 0 → ⊥) → f (c - 1) ≡ last u (table c f)
   last-some c u z = sym (table-last c u (omega arith))
 
-  -- the one view u
-
-  pub start-not : (c : ℕ) (u : View) → (c ≡ 1 → ⊥) → false ≡ sameViews (table c f) (u ∷ [])
-  start-not c u d = sym (fails (says-sames (table c f) (u ∷ [])) (λ q. d (sym (table-length c f) ∙ ap length q)))
-
-  pub start-one : (c : ℕ) (u : View) → c ≡ 1 → sameView (f 0) u ≡ sameViews (table c f) (u ∷ [])
-  unfolding table sameViews
-  start-one c u o = rw o (sym (and-true (sameView (f 0) u)))
-
   -- ---- rising
 
   module _ (w : ℕ) where

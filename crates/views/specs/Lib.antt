@@ -1,4 +1,8 @@
+-- Views, histories and quorums, as structs and as words.
+
+-- ---- what is promised
 pub mod Held
-pub mod Sets
 pub mod Table
 pub mod View
+-- ---- inside: what functions tell each other, and what loops keep
+pub mod Sets

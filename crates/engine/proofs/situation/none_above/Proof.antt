@@ -9,13 +9,9 @@ use Rattle.views.specs.Held.{viewIs, heldAt}
 use Rattle.views.proofs.Tables.{all-zero, all-more, all-miss}
 use Rattle.views.proofs.Held.{of-history}
 use Rattle.engine.specs.Situation.{notAbove}
-use Rattle.engine.proofs.Situations.{above, level}
+use Rattle.engine.proofs.Situations.{above}
 use Rattle.engine.proofs.situation.none_above.Statement.{statement}
 use Rattle.engine.proofs.situation.none_above.Tie as tie
-use Rattle.engine.proofs.situation.none_above.Reads as reads
-use Rattle.engine.proofs.situation.none_above.Lts as lts
-use Rattle.views.proofs.History.count.Reads as count-reads
-use Rattle.views.proofs.View.below.Reads as below-reads
 
 abbrev Inv-loop : tie.InvT-loop
 Inv-loop t n views p₀ p = (p ≤ n) × (all (notAbove (viewIs t)) (table p (heldAt views)) ≡ true)
@@ -30,7 +26,7 @@ returns : tie.Need-returns Inv-loop μ-loop
 returns c = of-history (all (notAbove (viewIs (c .before .before .before .before .before .before .before .args .t)))) _ _ (c .before .before .before .before .before .before .count .ensures .0) (sym (all-miss _ _ _ (c .before .before .before .loop-test .taken) (above _ _ _ (c .before .below .ensures) (c .if1 .taken))))
 
 loop-again : tie.Need-loop-again Inv-loop μ-loop
-loop-again c = (omega arith, all-more _ _ _ (c .before .before .before .before .loop .inv .1) (level _ _ _ (c .before .below .ensures) (c .if1 .left)))
+loop-again c = (omega arith, all-more _ _ _ (c .before .before .before .before .loop .inv .1) (above _ _ _ (c .before .below .ensures) (c .if1 .left)))
 
 returns-2 : tie.Need-returns-2 Inv-loop μ-loop
 returns-2 c = of-history (all (notAbove (viewIs (c .before .before .before .before .args .t)))) _ _ (omega (arith, c .before .before .before .count .ensures .0)) (sym (c .before .loop .inv .1))
@@ -39,15 +35,10 @@ pub none-above-spec : {M : Type 1} → statement M
 none-above-spec =
     tie.close
     (tie.spec
-    Inv-loop
-    μ-loop
-    (λ c κs. search needs)
+    Inv-loop μ-loop (λ c κs. search needs)
     loop-holds
-    (λ c. search needs)
-    (λ c. search needs)
-    (λ c κs. search needs)
+    (λ c. search needs) (λ c. search needs) (λ c κs. search needs)
     returns
-    (λ c. search needs)
-    (λ c. search needs)
+    (λ c. search needs) (λ c. search needs)
     loop-again
     returns-2)

@@ -10,11 +10,6 @@ pub of-controller-spec : {M : Type 1} → statement M
 of-controller-spec =
     tie.close
     (tie.spec
-    (λ c. search needs)
-    (λ c. search needs)
-    (λ c. search needs)
-    (λ c κs. search needs)
-    (λ c κs. search needs)
-    (λ c κs. search needs)
-    (λ c κs. search needs)
-    (λ c. looked _ _ _ _ _ _ _ _ (c .before .before .before .before .before .before .before .pre .0) (record { top = c .before .before .before .before .of-word .ensures; entered = c .before .before .has .ensures; stands = ap (λ b. c .before .before .has .result && b) (c .none-above .ensures); active = ap (ltb 0) (c .before .count .ensures .0) })))
+    (λ c. search needs) (λ c. search needs) (λ c. search needs) (λ c κs. search needs) (λ c κs. search needs) (λ c κs. search needs)
+    (λ c κs. search needs) (λ c κs. search needs)
+    (λ c. looked _ _ _ _ _ _ _ _ _ (c .before .before .before .before .before .before .before .before .pre .0) (record { top = c .before .before .before .before .before .of-word .ensures; entered = c .before .before .before .has .ensures; stands = ap (λ b. c .before .before .before .has .result && b) (c .before .none-above .ensures); left = c .has-left .ensures; active = ap (ltb 0) (c .before .before .count .ensures .0) })))

@@ -21,16 +21,10 @@ pub first-prepare-spec : {M : Type 1} → statement M
 first-prepare-spec =
     tie.close
     (tie.spec
-    Inv-loop
-    μ-loop
-    (λ c κs. search needs)
+    Inv-loop μ-loop (λ c κs. search needs)
     (λ c. (omega arith, records.none-first _ _ _))
-    (λ c. search needs)
-    (λ c. search needs)
-    (λ c κs. search needs)
-    (λ c κs. search needs)
+    (λ c. search needs) (λ c. search needs) (λ c κs. search needs) (λ c κs. search needs)
     (λ c. prepare-first _ _ _ _ _ (c .before .before .before .before .before .loop .inv .1) _ (omega (arith, c .before .before .before .before .before .before .record-length .ensures .0)) (prepare-own _ _ _ _ (c .before .before .is-own .ensures) (c .before .if1 .taken)) (c .payload .ensures))
-    (λ c. search needs)
-    (λ c. search needs)
+    (λ c. search needs) (λ c. search needs)
     (λ c. (omega arith, records.none-next _ _ _ _ (omega (arith, c .before .before .before .before .before .record-length .ensures .1)) (c .before .before .before .before .loop .inv .1) (prepare-own _ _ _ _ (c .before .is-own .ensures) (c .if1 .left))))
     (λ c. prepare-none _ _ _ _ _ (c .before .loop .inv .1) (omega (arith, c .before .before .record-length .ensures .0))))

@@ -17,10 +17,7 @@ pub own-of-spec : {M : Type 1} → statement M
 own-of-spec =
     tie.close
     (tie.spec
-    Inv-loop
-    μ-loop
-    (λ c κs. search needs)
-    (λ c κs. search needs)
+    Inv-loop μ-loop (λ c κs. search needs) (λ c κs. search needs)
     (λ c. (omega arith, sifted-none (c .before .record-clear .ensures .long)))
     (λ c. omega (arith, c .before .before .record-length .ensures .1))
     (λ c. omega (arith, c .before .before .record-length .ensures .1))
@@ -29,8 +26,7 @@ own-of-spec =
     (λ c. omega (arith, c .before .before .before .before .record-length .ensures .1, c .before .before .before .loop .inv .1 .most))
     (λ c. search needs)
     (λ c. record { fits = more-fits _ (eqb (c .origin .result) (c .before .before .before .before .before .before .before .args .k)) (omega (arith, c .before .before .before .loop .inv .1 .most, c .before .before .before .before .record-length .ensures .1)) })
-    (λ c. search needs)
-    (λ c. search needs)
+    (λ c. search needs) (λ c. search needs)
     (λ c. (omega arith, sifted-next (omega (arith, c .before .before .before .before .record-length .ensures .1)) (c .before .before .before .loop .inv .1) _ (of-is _ _ _ (c .origin .ensures .0))))
     (λ c. omega (arith, c .before .loop .inv .1 .most, c .before .before .record-length .ensures .1))
     (λ c. search needs)
