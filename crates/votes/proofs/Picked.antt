@@ -23,7 +23,7 @@ use Rattle.tables.specs.Index.{keyAt, numberAt, SameRows, SameKeys, Empty, RowA
 use Rattle.tables.proofs.Chains.{indexed-first, indexed-kept}
 use Rattle.votes.specs.Votes.{alike, entry, placeOf, tagOf, signersOf, voteAt, GroupsIn}
 use Rattle.votes.specs.Tables.{IsWord}
-use Rattle.votes.specs.Chosen.{choiceBy, agreementBy, isChoice, isAgreement, Picked, RowOf, RowsOf}
+use Rattle.votes.specs.Chosen.{choiceBy, agreementBy, isChoice, isAgreement, Picked, GroupRow, GroupRows}
 use Rattle.votes.proofs.Alike.{yes-T, no-T}
 
 -- ---- five tests in a row
@@ -157,29 +157,29 @@ other-key put l h = put .keys _ (omega arith) (λ d. omega arith)
 other-number : {K R K′ R′ : List ℕ} {t m w x c : ℕ} → RowAdded K R t m w x K′ R′ → m < 512 → c < m → numberAt R′ t c ≡ numberAt R t c
 other-number put l h = put .numbers _ (omega arith) (λ d. omega arith)
 
-row-keeps : {W ids G : List ℕ} {t : ℕ} {of : Stmt → View} {K R K′ R′ : List ℕ} {m w x : ℕ} → RowAdded K R t m w x K′ R′ → m < 512 → (c g : ℕ) → c < m → RowOf W ids G t of K R c g → RowOf W ids G t of K′ R′ c g
+row-keeps : {W ids G : List ℕ} {t : ℕ} {of : Stmt → View} {K R K′ R′ : List ℕ} {m w x : ℕ} → RowAdded K R t m w x K′ R′ → m < 512 → (c g : ℕ) → c < m → GroupRow W ids G t of K R c g → GroupRow W ids G t of K′ R′ c g
 row-keeps put l c g h r =
     let e = other-key put l h in
     record { view = rw e (r .view); word = rw e (r .word); statement = other-number put l h ∙ r .statement }
 
 -- the first vote of group g stands at place p
 row-new : {W ids G : List ℕ} {t : ℕ} {of : Stmt → View} {K R K′ R′ : List ℕ} {m w x g p : ℕ} → RowAdded K R t m w x K′ R′ → p ≡ placeOf (getD G g 0) → viewOf w ≡ of (entry W ids p) → IsWord w → x ≡ getD ids p 0
-    → RowOf W ids G t of K′ R′ m g
+    → GroupRow W ids G t of K′ R′ m g
 row-new {W} {ids} {of = of} put at e h q = record { view = ap viewOf (put .key) ∙ e ∙ ap (λ z. of (entry W ids z)) at; word = rw (put .key) h; statement = put .number ∙ q ∙ ap (λ z. getD ids z 0) at }
 
 module _ {W ids G : List ℕ} {t : ℕ} {of : Stmt → View} {test : Stmt → Bool} where
-  pub rows-first : {K R : List ℕ} → Empty R t → RowsOf W ids G t of test 0 K R 0
+  pub rows-first : {K R : List ℕ} → Empty R t → GroupRows W ids G t of test 0 K R 0
   rows-first e = record { index = indexed-first e; picked = picked-first _ _ }
 
   module _ {K R : List ℕ} {g m : ℕ} (r : Bool) (is : r ≡ test (voteAt W ids G g)) where
-    pub rows-skip : r ≡ false → RowsOf W ids G t of test g K R m → RowsOf W ids G t of test (g + 1) K R m
+    pub rows-skip : r ≡ false → GroupRows W ids G t of test g K R m → GroupRows W ids G t of test (g + 1) K R m
     rows-skip f w = record { index = w .index; picked = picked-skip _ r is f (w .picked) }
 
     pub rows-take : {K′ R′ : List ℕ} {p w x : ℕ} → r ≡ true → m < 512 → RowAdded K R t m w x K′ R′ → p ≡ placeOf (getD G g 0) → viewOf w ≡ of (entry W ids p) → IsWord w → x ≡ getD ids p 0
-        → RowsOf W ids G t of test g K R m → RowsOf W ids G t of test (g + 1) K′ R′ (m + 1)
+        → GroupRows W ids G t of test g K R m → GroupRows W ids G t of test (g + 1) K′ R′ (m + 1)
     rows-take f l put at e h q w = record { index = put .indexed (w .index); picked = picked-take _ r is f (row-keeps put l) (row-new put at e h q) (w .picked) }
 
-  pub rows-kept : {K R K′ R′ : List ℕ} {n m : ℕ} → SameKeys K K′ t → SameRows R R′ t → RowsOf W ids G t of test n K R m → RowsOf W ids G t of test n K′ R′ m
+  pub rows-kept : {K R K′ R′ : List ℕ} {n m : ℕ} → SameKeys K K′ t → SameRows R R′ t → GroupRows W ids G t of test n K R m → GroupRows W ids G t of test n K′ R′ m
   rows-kept {K} {R} {K′} {R′} {n} {m} keys rows w = record {
     index = indexed-kept keys rows (w .index);
     picked = record {
@@ -189,12 +189,12 @@ module _ {W ids G : List ℕ} {t : ℕ} {of : Stmt → View} {test : Stmt → Bo
     };
   }
     where
-      row : (i : ℕ) → i < m → (g : ℕ) → RowOf W ids G t of K R i g → RowOf W ids G t of K′ R′ i g
+      row : (i : ℕ) → i < m → (g : ℕ) → GroupRow W ids G t of K R i g → GroupRow W ids G t of K′ R′ i g
       row i l g r =
           let h : i < 512 = omega (arith, w .index .few) in
           let e = keys .key i h in
           record { view = rw e (r .view); word = rw e (r .word); statement = rows .number i h ∙ r .statement }
 
   -- all groups
-  pub rows-all : {K R : List ℕ} {g n m : ℕ} → g ≡ n → RowsOf W ids G t of test g K R m → RowsOf W ids G t of test n K R m
-  rows-all {K} {R} {m = m} e w = subst (λ k. RowsOf W ids G t of test k K R m) e w
+  pub rows-all : {K R : List ℕ} {g n m : ℕ} → g ≡ n → GroupRows W ids G t of test g K R m → GroupRows W ids G t of test n K R m
+  rows-all {K} {R} {m = m} e w = subst (λ k. GroupRows W ids G t of test k K R m) e w

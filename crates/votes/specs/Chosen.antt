@@ -44,20 +44,20 @@ pub record Picked (P : ℕ → Bool) (Row : ℕ → ℕ → Type 0) (n m : ℕ) 
 
 module _ (W ids G : List ℕ) (t : ℕ) (of : Stmt → View) where
   -- Row c of table t is that of group g: its key is the word of the view `of` the group's votes.
-  pub record RowOf (K R : List ℕ) (c g : ℕ) : Type 0 where
+  pub record GroupRow (K R : List ℕ) (c g : ℕ) : Type 0 where
     pub view : viewOf (keyAt K t c) ≡ of (voteAt W ids G g)
     pub word : IsWord (keyAt K t c)
     pub statement : numberAt R t c ≡ getD ids (placeOf (getD G g 0)) 0
 
   -- Those of the groups below n whose votes have `test` are the m rows of table t.
-  pub record RowsOf (test : Stmt → Bool) (n : ℕ) (K R : List ℕ) (m : ℕ) : Type 0 where
+  pub record GroupRows (test : Stmt → Bool) (n : ℕ) (K R : List ℕ) (m : ℕ) : Type 0 where
     pub index : Indexed K R t m
-    pub picked : Picked (λ g. test (voteAt W ids G g)) (RowOf K R) n m
+    pub picked : Picked (λ g. test (voteAt W ids G g)) (GroupRow K R) n m
 
 -- The choices are in the first table, by the views that they are for; the agreements in the second, by the tops of their histories.
 
 abbrev pub Choices : List ℕ → List ℕ → ℕ → List ℕ → ℕ → List ℕ → List ℕ → ℕ → Type 0
-Choices W ids init G n K R choiceCount = RowsOf W ids G 0 (λ s. s .view) (isChoice (ringOfWord init) (recordIn W ids)) n K R choiceCount
+Choices W ids init G n K R choiceCount = GroupRows W ids G 0 (λ s. s .view) (isChoice (ringOfWord init) (recordIn W ids)) n K R choiceCount
 
 abbrev pub Agreements : List ℕ → List ℕ → ℕ → List ℕ → ℕ → List ℕ → List ℕ → ℕ → Type 0
-Agreements W ids init G n K R agreementCount = RowsOf W ids G 1 (λ s. top (ringOfWord init) (s .views)) (isAgreement (ringOfWord init) (recordIn W ids)) n K R agreementCount
+Agreements W ids init G n K R agreementCount = GroupRows W ids G 1 (λ s. top (ringOfWord init) (s .views)) (isAgreement (ringOfWord init) (recordIn W ids)) n K R agreementCount
