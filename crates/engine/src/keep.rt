@@ -2,6 +2,7 @@
 ghost use Prim.Native.Nat.{_≤_};
 ghost use Rattle.statements.specs.Meaning.{stmtOf};
 ghost use Rattle.engine.specs.Steps.{PlacedFor};
+use pool::CAPACITY;
 use pool::POOL_WORDS;
 use pool::RECORD;
 use statements::Statement;
@@ -11,7 +12,7 @@ pub fn place(words: &mut [u64; POOL_WORDS], ids: &[u16; RECORD], st: Statement) 
     requires { ⌜ st .history .len ≤ 16 ⌝ }
     ensures { λ r. ⌜ PlacedFor (now (words .entry)) (now (ids .entry)) (stmtOf st) r (now (words .exit)) ⌝ }
 {
-    if pool::record_length(ids) >= 512 {
+    if pool::record_length(ids) >= CAPACITY {
         return pool::Placed::Full;
     }
     pool::append(words, st)

@@ -2,13 +2,14 @@
 ghost use mathlib.Core.Path.{_≡_};
 ghost use Rattle.pool.specs.Changes.{Cleared};
 ghost use Rattle.pekdrav.specs.Pooled.{placeNumber, AppendedText, Texted};
+use pool::CAPACITY;
 use pool::POOL_WORDS;
 use pool::Placed;
 
 // What is answered for a statement that has no room, and for a line that is none.
-const POOL_FULL: u16 = 512;
+const POOL_FULL: u16 = CAPACITY as u16;
 
-const NO_STATEMENT: u16 = 513;
+const NO_STATEMENT: u16 = POOL_FULL + 1;
 
 fn place_number(p: Placed) -> u16
     ensures { λ r. ⌜ r ≡ placeNumber p ⌝ }

@@ -6,6 +6,7 @@ ghost use Rattle.pool.specs.Pool.{stmtAt, recordIn};
 ghost use Rattle.rules.specs.Payloads.{payloadIs};
 ghost use Rattle.rules.specs.Rules.{ownKind, ownAt, firstPrepare, Owns};
 use crate::OptionalPayload;
+use pool::CAPACITY;
 use pool::POOL_WORDS;
 use pool::RECORD;
 
@@ -91,5 +92,5 @@ pub fn own_of(words: &[u64; POOL_WORDS], ids: &[u16; RECORD], k: u8, own: &mut [
         count += mine as usize;
         i += 1;
     }
-    own[512] = count as u16;
+    own[CAPACITY] = count as u16;
 }
