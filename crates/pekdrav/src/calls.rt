@@ -9,11 +9,9 @@ ghost use Rattle.host.specs.Host.{noStatement, Fresh, SetsUp, Joins, Leaves, Se
 use engine::Controller;
 use engine::Outcome;
 use engine::Refusal;
+use host::FIELDS;
 use pool::POOL_WORDS;
 use pool::RECORD;
-
-// The words of a controller; its record is beside them.
-const FIELDS: usize = 32;
 
 // The memory means a controller before setup.
 #[no_mangle]
