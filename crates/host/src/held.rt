@@ -1,7 +1,7 @@
 // A controller that is kept in lent memory: specs/Memory.antt says what each word stands for.
 ghost use mathlib.Core.Path.{_≡_};
 ghost use Prim.Native.Nat.{_<_};
-ghost use Rattle.protocol.specs.Statement.{bindingNumber, bindingPayload};
+ghost use Rattle.protocol.specs.Statement.{bindingPayload};
 ghost use Rattle.statements.specs.Meaning.{bindingIs};
 ghost use Rattle.host.specs.Memory.{heldIn, bindingIn, sendIn, enteredIn, controllerAt};
 ghost use Rattle.host.specs.Stored.{sendNumber, sendPayload, EnteredWords};
@@ -140,16 +140,6 @@ fn words_of(entered: History) -> [u64; FIELDS]
     words
 }
 
-fn binding_number(b: Binding) -> u64
-    ensures { λ r. ⌜ r ≡ bindingNumber (bindingIs b) ⌝ }
-{
-    match b {
-        Binding::Unbound => 0,
-        Binding::Bound(_) => 1,
-        Binding::Barred => 2,
-    }
-}
-
 fn binding_payload(b: Binding) -> u64
     ensures { λ r. ⌜ r ≡ bindingPayload (bindingIs b) ⌝ }
 {
@@ -191,7 +181,7 @@ fn fields_of(c: Controller) -> [u64; FIELDS]
     words[NUMBER] = wide_number(c.number);
     words[INITIAL] = word_of(init);
     words[SENDER] = wide_number(c.sender);
-    words[BINDING] = binding_number(binding);
+    words[BINDING] = statements::number_of(binding);
     words[BOUND] = binding_payload(binding);
     words[DELIVERED] = c.delivered as u64;
     words[JOINING] = c.joining as u64;

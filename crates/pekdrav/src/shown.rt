@@ -90,8 +90,8 @@ pub extern "C" fn pekdrav_record_evidence(
     room(out);
     let mut candidates = [0u64; View::LIMIT];
     let mut greatest = [0u64; View::LIMIT];
-    let ringOfWord = Ring { init, sender };
-    let e = evidence::of_record(words, ids, ringOfWord, &mut candidates, &mut greatest);
+    let ring = Ring { init, sender };
+    let e = evidence::of_record(words, ids, ring, &mut candidates, &mut greatest);
     let agreed = !e.conflict;
     let certified = agreed & e.certified;
     let count = when(agreed & !e.many, e.count as u64);
