@@ -13,7 +13,6 @@ use lib.Dec.{eqb, ltb}
 use lib.ListN.{length, getD, set, take, drop, replicate, length-replicate, getD-replicate, length-set, length-take, length-drop, length-append, drop-of-length-le}
 use lib.Seq.{sets, length-sets, getD-set-same, getD-set-other, set-getD, ext-getD, drop-drop, take-all}
 use borrow.Author.Tests.{lt-ltb, le-ltb, eq-eqb, ne-eqb}
-use Rattle.protocol.specs.Lists.{if_then_else_}
 use Rattle.protocol.specs.View.{controllers}
 use Rattle.protocol.specs.Controller as controller
 use Rattle.protocol.specs.Call.{setupAllowed, started}
@@ -30,6 +29,7 @@ use Rattle.engine.specs.Meaning.{controllerIs, answerIs}
 use Rattle.schedule.specs.declared.line.Line.{Line as Held}
 use Rattle.schedule.specs.declared.line.Parsed.the-variants.{Readable, Unreadable}
 use Rattle.schedule.specs.declared.line.ReadLine.{ReadLine}
+use Rattle.protocol.proofs.Found.{if-true, if-false}
 use Rattle.bench.specs.declared.row.Word.the-variants as word
 use Rattle.bench.specs.declared.row.Value.the-variants as value
 use Rattle.bench.specs.declared.state.Setting.{Setting}
@@ -158,12 +158,6 @@ fulls-none Rs m e = record {
   each = λ k l. subst (Full (getD Rs k [])) (sym (getD-replicate m k 0 0 (omega arith))) (full-none (getD Rs k []));
 }
 
-pick-false : {A : Type 0} (b : Bool) (x y : A) → b ≡ false → (if b then x else y) ≡ y
-pick-false b x y e = rw e
-
-pick-true : {A : Type 0} (b : Bool) (x y : A) → b ≡ true → (if b then x else y) ≡ x
-pick-true b x y e = rw e
-
 -- ---- a line that calls a controller
 
 -- the controller is stored where it changed
@@ -209,7 +203,7 @@ module _ (g : Setting) (W W′ : List ℕ) (cs : List Controller) (Rs : List (Li
 
   line-left : fresh ≡ false → step (benchIs g W cs Rs) (some l) ≡ record { reply = y; bench = benchIs n W′ cs (set Rs k R′) }
   line-left e = went ∙ ap (λ X. record { reply = y; bench = benchOf (n .ready) (n .faulty) X W′ })
-      (pick-false fresh begins (set X₀ k (record { controller = getD X₀ k emptySeat .controller; statements = recordIn W′ R′ })) e
+      (if-false fresh begins (set X₀ k (record { controller = getD X₀ k emptySeat .controller; statements = recordIn W′ R′ })) e
       ∙ ap (λ (s : Seat). set X₀ k (record { controller = s .controller; statements = recordIn W′ R′ })) (seat-there W cs Rs k h)
       ∙ seats-set W W′ cs cs Rs R′ k h m (a .grows e) (others-none cs k))
 
@@ -224,7 +218,7 @@ module _ (g : Setting) (W W′ : List ℕ) (cs : List Controller) (Rs : List (Li
     fresh-left : fresh ≡ true → step (benchIs g W cs Rs) (some l) ≡ record { reply = y; bench = benchIs n W′ cs″ Rs″ }
     unfolding seatsIs
     fresh-left e = went ∙ ap (λ X. record { reply = y; bench = benchOf (n .ready) (n .faulty) X W′ })
-        (pick-true fresh begins (set X₀ k (record { controller = getD X₀ k emptySeat .controller; statements = recordIn W′ R′ })) e
+        (if-true fresh begins (set X₀ k (record { controller = getD X₀ k emptySeat .controller; statements = recordIn W′ R′ })) e
         ∙ table-cong 16 (λ j. record { controller = started j (n .members) (n .sender); statements = [] }) (λ j. seatIs W′ (getD cs″ j blank) (getD Rs″ j []))
         (λ j b. ap₂ (λ x z. record { controller = x; statements = z }) (sym (s .each j b .0)) (sym (empty-record j b))))
 
@@ -516,18 +510,18 @@ module _ (S R R′ R″ : List ℕ) (r : ℕ) (e : R′ ≡ sets R 0 headerText)
   refusal p = headed S R R′ R″ refusedRow r p e (put .0) (omega (arith, put .1))
 
   pub printed-empty : length S ≡ 0 → PrintedInto S R r R″
-  printed-empty z = refusal (record { reading = []; reads = λ h. empty-reads S z; prints = ap (λ t. headerText ++ t) (sym (pick-true (eqb (length S) 0 || ltb 65536 (length S)) refusedRow (rowsFrom 1 newBench []) (ap (λ b. b || ltb 65536 (length S)) (eq-eqb (length S) 0 z)))) })
+  printed-empty z = refusal (record { reading = []; reads = λ h. empty-reads S z; prints = ap (λ t. headerText ++ t) (sym (if-true (eqb (length S) 0 || ltb 65536 (length S)) refusedRow (rowsFrom 1 newBench []) (ap (λ b. b || ltb 65536 (length S)) (eq-eqb (length S) 0 z)))) })
 
   or-yes : (b : Bool) → (b || true) ≡ true
   or-yes true = refl
   or-yes false = refl
 
   pub printed-long : 65536 < length S → PrintedInto S R r R″
-  printed-long z = refusal (record { reading = []; reads = λ h. absurd (omega arith); prints = ap (λ t. headerText ++ t) (sym (pick-true (eqb (length S) 0 || ltb 65536 (length S)) refusedRow (rowsFrom 1 newBench []) (ap (λ b. eqb (length S) 0 || b) (lt-ltb 65536 (length S) z) ∙ or-yes (eqb (length S) 0)))) })
+  printed-long z = refusal (record { reading = []; reads = λ h. absurd (omega arith); prints = ap (λ t. headerText ++ t) (sym (if-true (eqb (length S) 0 || ltb 65536 (length S)) refusedRow (rowsFrom 1 newBench []) (ap (λ b. eqb (length S) 0 || b) (lt-ltb 65536 (length S) z) ∙ or-yes (eqb (length S) 0)))) })
 
 pub printed-run : (S R R′ R″ : List ℕ) (r : ℕ) → R′ ≡ sets R 0 headerText → Ran S R′ R″ r → (length S ≡ 0 → ⊥) → length S ≤ 65536 → PrintedInto S R r R″
 printed-run S R R′ R″ r e m a b = headed S R R′ R″ (m .printed) r (record {
   reading = m .ran .reading;
   reads = λ h. m .ran .reads;
-  prints = ap (λ t. headerText ++ t) (sym (m .ran .rows ∙ append-nil (m .printed)) ∙ sym (pick-false (eqb (length S) 0 || ltb 65536 (length S)) refusedRow (rowsFrom 1 newBench (m .ran .reading)) (ap₂ _||_ (ne-eqb (length S) 0 a) (le-ltb 65536 (length S) b))));
+  prints = ap (λ t. headerText ++ t) (sym (m .ran .rows ∙ append-nil (m .printed)) ∙ sym (if-false (eqb (length S) 0 || ltb 65536 (length S)) refusedRow (rowsFrom 1 newBench (m .ran .reading)) (ap₂ _||_ (ne-eqb (length S) 0 a) (le-ltb 65536 (length S) b))));
 }) e (m .wrote) (m .small)

@@ -19,7 +19,7 @@ use Rattle.protocol.specs.Pool.{numberOf, pooled, hasRoom}
 use Rattle.protocol.specs.Turn.{turn as turnOf}
 use Rattle.protocol.proofs.Asked.{says-same-stmt}
 use Rattle.views.specs.Table.{table}
-use Rattle.views.proofs.Tables.{table-length, table-at, any-zero, any-suc, any-at}
+use Rattle.views.proofs.Tables.{table-at, any-zero, any-suc, any-at, map-table}
 use Rattle.views.proofs.Views.{passes}
 use Rattle.pool.specs.Pool.{stmtAt, poolLen, recordUpTo, recordLen, recordIn, poolOf, AllIn, Grows}
 use Rattle.pool.specs.Changes.{PushedTo}
@@ -34,6 +34,7 @@ use Rattle.engine.specs.Promise.{Change, unchanged, Meets, Calls, Turns, PoolAf
 use Rattle.schedule.specs.Line.{Line, join, leave, send, give, all, turn}
 use Rattle.schedule.specs.declared.line.Line.{Line as Held}
 use Rattle.schedule.specs.declared.line.Line.the-variants as is
+use Rattle.pool.proofs.Records.{pool-length, record-length}
 use Rattle.bench.specs.declared.seat.Given.{Given}
 use Rattle.bench.specs.Bench as bench
 use Rattle.bench.specs.Bench.{Seat, emptySeat, Bench, Stepped, step}
@@ -52,22 +53,12 @@ module _ (W : List ℕ) (d : Distinct W) (R : List ℕ) (w : AllIn W R) where
   unfolding recordUpTo hasNumber numbersIn AllIn
   by-number n l = any-alike (sameStmt (stmtAt W n)) (eqb n) (λ i. stmtAt W (getD R i 0)) (ids R) (recordLen R) (λ i h. d .tells n (getD R i 0) l (w i h))
 
--- a record's statements are those of its numbers
-map-table : {A B : Type 0} (g : A → B) (n : ℕ) (f : ℕ → A) → map g (table n f) ≡ table n (λ i. g (f i))
-unfolding table
-map-table g zero f = refl
-map-table g (suc n) f = map-append g (table n f) (f n ∷ []) ∙ ap (λ l. l ++ (g (f n) ∷ [])) (map-table g n f)
-
 by-numbers : (W R : List ℕ) → recordIn W R ≡ map (stmtAt W) (numbersIn R)
 unfolding recordUpTo numbersIn
 by-numbers W R = sym (map-table (stmtAt W) (recordLen R) (ids R))
 
 record-more : (W R R′ L : List ℕ) → numbersIn R′ ≡ numbersIn R ++ L → recordIn W R′ ≡ recordIn W R ++ map (stmtAt W) L
 record-more W R R′ L e = by-numbers W R′ ∙ ap (map (stmtAt W)) e ∙ map-append (stmtAt W) (numbersIn R) L ∙ ap (λ t. t ++ map (stmtAt W) L) (sym (by-numbers W R))
-
-record-size : (W R : List ℕ) → length (recordIn W R) ≡ recordLen R
-unfolding recordUpTo
-record-size W R = table-length (recordLen R) (λ i. stmtAt W (getD R i 0))
 
 -- what passes a test, by number
 filter-numbers : {A : Type 0} (p : A → Bool) (q : ℕ → Bool) (f : ℕ → A) (n : ℕ) → ((i : ℕ) → i < n → p (f i) ≡ q i) → filter p (table n f) ≡ map f (filter q (table n (λ i. i)))
@@ -87,10 +78,6 @@ length-map f [] = refl
 length-map f (x ∷ l) = ap suc (length-map f l)
 
 -- ---- the pool
-
-pub pool-size : (W : List ℕ) → length (poolOf W) ≡ poolLen W
-unfolding poolOf
-pool-size W = table-length (poolLen W) (stmtAt W)
 
 pool-at : (W : List ℕ) (n : ℕ) → n < poolLen W → getD (poolOf W) n noStmt ≡ stmtAt W n
 unfolding poolOf
@@ -169,24 +156,24 @@ module _ (W R : List ℕ) (ready : Bool) (n : ℕ) (r : Given) (s : Sound W R) w
         ∙ ap (λ t. gift (benchOf ready faulty X W) k X₀ true u a t x₀) ef
 
     known : n < poolLen W → leb (length (poolOf W)) n ≡ false
-    known l = lt-leb (length (poolOf W)) n (omega (arith, pool-size W))
+    known l = lt-leb (length (poolOf W)) n (omega (arith, pool-length W))
 
     in-record : (b : Bool) → n < poolLen W → hasNumber R n ≡ b → any (sameStmt x₀) X₀ ≡ b
     in-record b l e = ap (λ x. any (sameStmt x) X₀) (pool-at W n l) ∙ by-number W (s .distinct) R (s .whole) n l ∙ e
 
     pub give-unknown : r ≡ refusedFor refusal.OutOfPlace → poolLen W ≤ n → Gives W R ready n r R
-    give-unknown e l = record { to = λ k. seat-refused W R ready k (give k n) r refusal.OutOfPlace e (s .whole) (λ faulty X x. opened k faulty X x (le-leb (length (poolOf W)) n (omega (arith, pool-size W))) refl refl) }
+    give-unknown e l = record { to = λ k. seat-refused W R ready k (give k n) r refusal.OutOfPlace e (s .whole) (λ faulty X x. opened k faulty X x (le-leb (length (poolOf W)) n (omega (arith, pool-length W))) refl refl) }
 
     pub give-again : r ≡ refusedFor refusal.Repeated → n < poolLen W → hasNumber R n ≡ true → Gives W R ready n r R
     give-again e l h = record { to = λ k. seat-refused W R ready k (give k n) r refusal.Repeated e (s .whole) (λ faulty X x. opened k faulty X x (known l) (in-record true l h) refl) }
 
     pub give-full : r ≡ refusedFor refusal.Full → n < poolLen W → hasNumber R n ≡ false → 512 ≤ recordLen R → Gives W R ready n r R
-    give-full e l h f = record { to = λ k. seat-refused W R ready k (give k n) r refusal.Full e (s .whole) (λ faulty X x. opened k faulty X x (known l) (in-record false l h) (le-leb 512 (length X₀) (omega (arith, record-size W R)))) }
+    give-full e l h f = record { to = λ k. seat-refused W R ready k (give k n) r refusal.Full e (s .whole) (λ faulty X x. opened k faulty X x (known l) (in-record false l h) (le-leb 512 (length X₀) (omega (arith, record-length W R)))) }
 
     pub give-taken : (R′ : List ℕ) → r ≡ takenAs 0 false → n < poolLen W → hasNumber R n ≡ false → recordLen R < 512 → PushedTo R n R′ → Gives W R ready n r R′
     give-taken R′ e l h f p = record {
       to = λ k. seat-taken W R ready k (give k n) r 0 false R′ e (pool-within W R′ (below-pushed R R′ n (poolLen W) p l (within-pool W R (s .whole)))) (keeps-pushed R R′ n p) (λ t. absurd (true≢false (sym t)))
-          (λ faulty X x. opened k faulty X x (known l) (in-record false l h) (lt-leb 512 (length X₀) (omega (arith, record-size W R)))
+          (λ faulty X x. opened k faulty X x (known l) (in-record false l h) (lt-leb 512 (length X₀) (omega (arith, record-length W R)))
           ∙ replied k ready faulty refl refl (ap (λ t. set X k (record { controller = getD X k emptySeat .controller; statements = t }))
           (ap (λ t. X₀ ++ (t ∷ [])) (pool-at W n l) ∙ sym (record-more W R R′ (n ∷ []) (numbers-pushed R R′ n p f)))) refl);
     }
@@ -231,7 +218,7 @@ module _ (W R : List ℕ) (ready : Bool) (r : Given) (s : Sound W R) where
         → step (benchOf ready faulty X W) (some (all k)) ≡ spread (benchOf ready faulty X W) k Y₀ true o (lack (poolOf W) Y₀)
     spreads k faulty X x {o} eo = all-is (benchOf ready faulty X W) k Y₀ x
         ∙ ap (λ u. spread (benchOf ready faulty X W) k Y₀ u (ltb 512 (length Y₀ + length (lack (poolOf W) Y₀))) (lack (poolOf W) Y₀)) q
-        ∙ ap (λ u. spread (benchOf ready faulty X W) k Y₀ true u (lack (poolOf W) Y₀)) (ap₂ (λ i j. ltb 512 (i + j)) (record-size W R) lack-long ∙ eo)
+        ∙ ap (λ u. spread (benchOf ready faulty X W) k Y₀ true u (lack (poolOf W) Y₀)) (ap₂ (λ i j. ltb 512 (i + j)) (record-length W R) lack-long ∙ eo)
 
     pub all-full : r ≡ refusedFor refusal.Full → 512 < recordLen R + length (unmarked marks n) → GivesAll W R ready r R
     all-full e l = record { to = λ k. seat-refused W R ready k (all k) r refusal.Full e (s .whole) (λ faulty X x. spreads k faulty X x (lt-ltb 512 (recordLen R + length (unmarked marks n)) l)) }
@@ -259,7 +246,7 @@ module _ (W R : List ℕ) (ready : Bool) (s : Sound W R) (q : ready ≡ true) (f
   all-needless k faulty X x = all-is (benchOf ready faulty X W) k (recordIn W R) x
       ∙ ap (λ u. spread (benchOf ready faulty X W) k (recordIn W R) u (ltb 512 (length (recordIn W R) + length (lack (poolOf W) (recordIn W R)))) (lack (poolOf W) (recordIn W R))) q
       ∙ ap (λ u. spread (benchOf ready faulty X W) k (recordIn W R) true (ltb 512 (length (recordIn W R) + length u)) u) (nothing (poolLen W) (omega arith))
-      ∙ ap (λ u. spread (benchOf ready faulty X W) k (recordIn W R) true u []) (le-ltb 512 (length (recordIn W R) + 0) (omega (arith, record-size W R)))
+      ∙ ap (λ u. spread (benchOf ready faulty X W) k (recordIn W R) true u []) (le-ltb 512 (length (recordIn W R) + 0) (omega (arith, record-length W R)))
       ∙ replied k ready faulty refl refl (seat-same X k (x ∙ sym (append-nil (recordIn W R)))) refl
 
 -- ---- a pool with one statement more
@@ -270,13 +257,13 @@ getD-append-last (x ∷ P) s = getD-append-last P s
 
 module _ (W W′ : List ℕ) (s : Stmt) (e : poolOf W′ ≡ poolOf W ++ (s ∷ [])) where
   one-longer : poolLen W′ ≡ poolLen W + 1
-  one-longer = sym (pool-size W′) ∙ ap length e ∙ length-append (poolOf W) (s ∷ []) ∙ ap (λ n. n + 1) (pool-size W)
+  one-longer = sym (pool-length W′) ∙ ap length e ∙ length-append (poolOf W) (s ∷ []) ∙ ap (λ n. n + 1) (pool-length W)
 
   as-before : (n : ℕ) → n < poolLen W → stmtAt W′ n ≡ stmtAt W n
-  as-before n l = sym (pool-at W′ n (omega (arith, one-longer))) ∙ ap (λ P. getD P n noStmt) e ∙ List·getD-append (poolOf W) (s ∷ []) noStmt n (omega (arith, pool-size W)) ∙ pool-at W n l
+  as-before n l = sym (pool-at W′ n (omega (arith, one-longer))) ∙ ap (λ P. getD P n noStmt) e ∙ List·getD-append (poolOf W) (s ∷ []) noStmt n (omega (arith, pool-length W)) ∙ pool-at W n l
 
   at-the-end : stmtAt W′ (poolLen W) ≡ s
-  at-the-end = sym (pool-at W′ (poolLen W) (omega (arith, one-longer))) ∙ ap (λ P. getD P (poolLen W) noStmt) e ∙ ap (λ n. getD (poolOf W ++ (s ∷ [])) n noStmt) (sym (pool-size W)) ∙ getD-append-last (poolOf W) s
+  at-the-end = sym (pool-at W′ (poolLen W) (omega (arith, one-longer))) ∙ ap (λ P. getD P (poolLen W) noStmt) e ∙ ap (λ n. getD (poolOf W ++ (s ∷ [])) n noStmt) (sym (pool-length W)) ∙ getD-append-last (poolOf W) s
 
   pub one-grows : Grows W W′
   one-grows = record { more = omega (arith, one-longer); same = as-before }
@@ -315,12 +302,12 @@ module _ (W W′ : List ℕ) (s : Stmt) (e : poolOf W′ ≡ poolOf W ++ (s ∷ 
 
 same-grows : {W W′ : List ℕ} → poolOf W′ ≡ poolOf W → Grows W W′
 same-grows {W} {W′} e =
-    let l : poolLen W′ ≡ poolLen W = sym (pool-size W′) ∙ ap length e ∙ pool-size W in
+    let l : poolLen W′ ≡ poolLen W = sym (pool-length W′) ∙ ap length e ∙ pool-length W in
     record { more = omega arith; same = λ n h. sym (pool-at W′ n (omega arith)) ∙ ap (λ P. getD P n noStmt) e ∙ pool-at W n h }
 
 same-distinct : {W W′ : List ℕ} → poolOf W′ ≡ poolOf W → Distinct W → Distinct W′
 same-distinct {W} {W′} e d =
-    let l : poolLen W′ ≡ poolLen W = sym (pool-size W′) ∙ ap length e ∙ pool-size W in
+    let l : poolLen W′ ≡ poolLen W = sym (pool-length W′) ∙ ap length e ∙ pool-length W in
     record { tells = λ i j a b. ap₂ sameStmt (same-grows e .same i (omega arith)) (same-grows e .same j (omega arith)) ∙ d .tells i j (omega arith) (omega arith) }
 
 abbrev poolThen : controller.Answer → List Stmt → List Stmt

@@ -19,7 +19,7 @@ use Rattle.protocol.specs.Statement.{Stmt, sameStmt}
 use Rattle.protocol.specs.Controller as controller
 use Rattle.protocol.specs.Call.{setupAllowed, started}
 use Rattle.protocol.proofs.Bits.{bit-zero}
-use Rattle.protocol.proofs.Found.{none≢some}
+use Rattle.protocol.proofs.Found.{none≢some, if-true, if-false}
 use Rattle.views.specs.Table.{table}
 use Rattle.views.proofs.Tables.{table-cong}
 use Rattle.statements.specs.declared.Statement.{Statement}
@@ -31,7 +31,7 @@ use Rattle.pool.specs.declared.Placed.the-variants as placed
 use Rattle.pool.specs.Pool.{stmtAt, poolLen, recordUpTo, recordLen, recordIn, poolOf, AllIn, Grows}
 use Rattle.pool.specs.Changes as memory
 use Rattle.pool.specs.Steps.{foundOf}
-use Rattle.pool.proofs.Searches.{found-at}
+use Rattle.pool.proofs.Searches.{found-at, full≢at, at-injective}
 use Rattle.engine.specs.declared.Refusal.{Refusal}
 use Rattle.engine.specs.declared.Refusal.the-variants as refusal
 use Rattle.engine.specs.declared.Answer.the-variants.{Taken}
@@ -41,6 +41,7 @@ use Rattle.schedule.specs.declared.line.Line.{Line as Held}
 use Rattle.schedule.specs.declared.line.Line.the-variants as is
 use Rattle.schedule.specs.declared.line.Parsed.the-variants.{Readable}
 use Rattle.schedule.proofs.line.Line as line
+use Rattle.pool.proofs.Records.{pool-length}
 use Rattle.bench.specs.declared.seat.Given.{Given}
 use Rattle.bench.specs.declared.state.Setting.{Setting}
 use Rattle.bench.specs.declared.state.Effect.{Effect}
@@ -51,19 +52,13 @@ use Rattle.bench.specs.Bench as bench
 use Rattle.bench.specs.Bench.{Seat, emptySeat, Bench, step}
 use Rattle.bench.specs.Seats.{benchOf, Distinct, Sound, Full, Keeps, replyIs, refusedFor, takenAs, GivenAtSeat, Gives, GivesAll, ReadFrom, seatOf, isCall, ToldAs, SteppedAs, SteppedBy, SteppedOnPool, SteppedOnPoolBy, NoStatement, LacksNothing}
 use Rattle.bench.proofs.Records.{keeps-same}
-use Rattle.bench.proofs.Seats.{grows-same, seat-same, one-grows, one-distinct, pool-size, all-needless}
+use Rattle.bench.proofs.Seats.{grows-same, seat-same, one-grows, one-distinct, all-needless}
 
 -- the parts of what a line leaves
 stepped : {w w′ : ℕ} {a a′ : controller.Answer} {n n′ : ℕ} {g g′ : Bool} {f f′ : ℕ} {X X′ : List Seat} {P P′ : List Stmt} → w ≡ w′ → a ≡ a′ → n ≡ n′ → g ≡ g′ → f ≡ f′ → X ≡ X′ → P ≡ P′
     → _≡_ {A = bench.Stepped} (record { reply = record { who = w; answer = a; number = n }; bench = record { isSetUp = g; faulty = f; seats = X; pool = P } })
     (record { reply = record { who = w′; answer = a′; number = n′ }; bench = record { isSetUp = g′; faulty = f′; seats = X′; pool = P′ } })
 stepped e f g h i j k = cc
-
-if-false : {A : Type 0} (b : Bool) (x y : A) → b ≡ false → y ≡ (if b then x else y)
-if-false b x y e = rw e
-
-if-true : {A : Type 0} (b : Bool) (x y : A) → b ≡ true → x ≡ (if b then x else y)
-if-true b x y e = rw e
 
 pub told-as : {g : Setting} {who : ℕ} {r r′ : Given} {s : Effect} → r ≡ r′ → ToldAs g who r s → ToldAs g who r′ s
 told-as {g} {who} {r} {r′} {s} e t = subst (λ x. ToldAs g who x s) e t
@@ -79,7 +74,7 @@ told-on {W} {W′} {R} {R′} {g} {k} {who} {l} {r} {s} b e sound grows keeps fu
   advanced = record {
     steps = λ X x. steps X x
         ∙ stepped (sym (e .who-is)) (sym (ap (answerIs W′) (e .answer))) (sym (e .number)) (sym (ap (λ (t : Setting). t .ready) (e .setting))) (sym (ap (λ (t : Setting). t .faulty) (e .setting)))
-        (if-false (s .fresh) (table controllers (λ j. record { controller = started j (s .setting .members) (s .setting .sender); statements = [] })) (set X k (record { controller = getD X k emptySeat .controller; statements = recordIn W′ R′ })) (e .fresh)) refl;
+        (sym (if-false (s .fresh) (table controllers (λ j. record { controller = started j (s .setting .members) (s .setting .sender); statements = [] })) (set X k (record { controller = getD X k emptySeat .controller; statements = recordIn W′ R′ })) (e .fresh))) refl;
     sound = λ h. sound;
     grows = λ h. grows;
     keeps = λ h. keeps;
@@ -246,12 +241,6 @@ module _ (W : List ℕ) (s : Stmt) where
       go (there j q l h m y) = absurd (none≢some (sym e ∙ q))
       go (absent q y) = y
 
-full≢at : {n : ℕ} → placed.Full ≡ placed.At n → ⊥
-full≢at e = let z : _≡_ {A = ℕ} 0 1 = cc in omega arith
-
-at-injective : {m n : ℕ} → placed.At m ≡ placed.At n → m ≡ n
-at-injective e = cc
-
 module _ (W : List ℕ) (g : Setting) (st : Statement) (s : Effect) (d : Distinct W) (near : st .origin < 16) where
   pub lie-early : ToldAs g (st .origin) (refusedFor refusal.OutOfPlace) s → g .ready ≡ false → SteppedOnPool W g (lie (stmtOf st)) s W
   unfolding stmtOf
@@ -271,9 +260,9 @@ module _ (W : List ℕ) (g : Setting) (st : Statement) (s : Effect) (d : Distinc
         pub lie-full : ToldAs g (st .origin) (refusedFor refusal.Full) s → memory.Appended W W′ st placed.Full → SteppedOnPool W g (lie (stmtOf st)) s W′
         unfolding stmtOf
         lie-full e a = elim (decLt (poolLen W) 512) [
-          | yes l ↦ absurd (full≢at (a .answer ∙ ap (λ o. memory.placedAt o (poolLen W)) n ∙ sym (if-true (ltb (poolLen W) 512) (placed.At (poolLen W)) placed.Full (lt-ltb (poolLen W) 512 l))))
+          | yes l ↦ absurd (full≢at (a .answer ∙ ap (λ o. memory.placedAt o (poolLen W)) n ∙ (if-true (ltb (poolLen W) 512) (placed.At (poolLen W)) placed.Full (lt-ltb (poolLen W) 512 l))))
           | no l ↦ subst (λ U. SteppedOnPool W g (lie (stmtOf st)) s U) (sym (a .full (omega arith)))
-              (pools-refused (st .origin) refusal.Full (omega arith) d e (λ X. lie-is (benchOf (g .ready) (g .faulty) X W) (stmtOf st) q b (absent-in W (stmtOf st) n) (le-leb 512 (length (poolOf W)) (omega (arith, pool-size W)))))
+              (pools-refused (st .origin) refusal.Full (omega arith) d e (λ X. lie-is (benchOf (g .ready) (g .faulty) X W) (stmtOf st) q b (absent-in W (stmtOf st) n) (le-leb 512 (length (poolOf W)) (omega (arith, pool-length W)))))
         ]
 
 module _ (W W′ : List ℕ) (g : Setting) (st : Statement) (d : Distinct W) (near : st .origin < 16) (short : st .history .len ≤ 16) (q : g .ready ≡ true) (b : bit (g .faulty) (st .origin) ≡ true) (n : ℕ)
@@ -281,11 +270,11 @@ module _ (W W′ : List ℕ) (g : Setting) (st : Statement) (d : Distinct W) (ne
   room : poolLen W < 512
   room = elim (decLt (poolLen W) 512) [
     | yes l ↦ l
-    | no l ↦ absurd (full≢at (sym (a .answer ∙ ap (λ o. memory.placedAt o (poolLen W)) z ∙ sym (if-false (ltb (poolLen W) 512) (placed.At (poolLen W)) placed.Full (le-ltb (poolLen W) 512 (omega arith))))))
+    | no l ↦ absurd (full≢at (sym (a .answer ∙ ap (λ o. memory.placedAt o (poolLen W)) z ∙ (if-false (ltb (poolLen W) 512) (placed.At (poolLen W)) placed.Full (le-ltb (poolLen W) 512 (omega arith))))))
   ]
 
   placed-at : n ≡ poolLen W
-  placed-at = at-injective (a .answer ∙ ap (λ o. memory.placedAt o (poolLen W)) z ∙ sym (if-true (ltb (poolLen W) 512) (placed.At (poolLen W)) placed.Full (lt-ltb (poolLen W) 512 room)))
+  placed-at = at-injective (a .answer ∙ ap (λ o. memory.placedAt o (poolLen W)) z ∙ (if-true (ltb (poolLen W) 512) (placed.At (poolLen W)) placed.Full (lt-ltb (poolLen W) 512 room)))
 
   longer : poolOf W′ ≡ poolOf W ++ (stmtOf st ∷ [])
   longer = grown-pool W W′ st short (a .new z room) room
@@ -295,8 +284,8 @@ module _ (W W′ : List ℕ) (g : Setting) (st : Statement) (d : Distinct W) (ne
   lie-taken s e = record {
     over = λ R w. told-on (omega arith) e
         (record { distinct = one-distinct W W′ (stmtOf st) longer (absent-in W (stmtOf st) z) d; whole = whole-kept (one-grows W W′ (stmtOf st) longer) R w }) (one-grows W W′ (stmtOf st) longer) (keeps-same R) (λ t. absurd (true≢false (sym t)))
-        (λ X x. lie-is (benchOf (g .ready) (g .faulty) X W) (stmtOf st) q b (absent-in W (stmtOf st) z) (lt-leb 512 (length (poolOf W)) (omega (arith, pool-size W, room)))
-        ∙ stepped refl refl (pool-size W ∙ sym placed-at) refl refl (sym (seat-same X 0 (x ∙ sym (record-kept (one-grows W W′ (stmtOf st) longer) R w)))) (sym longer));
+        (λ X x. lie-is (benchOf (g .ready) (g .faulty) X W) (stmtOf st) q b (absent-in W (stmtOf st) z) (lt-leb 512 (length (poolOf W)) (omega (arith, pool-length W, room)))
+        ∙ stepped refl refl (pool-length W ∙ sym placed-at) refl refl (sym (seat-same X 0 (x ∙ sym (record-kept (one-grows W W′ (stmtOf st) longer) R w)))) (sym longer));
   }
 
 pub appended : {W W′ : List ℕ} {st : Statement} {p q : Answered} → memory.Appended W W′ st p → p ≡ q → memory.Appended W W′ st q

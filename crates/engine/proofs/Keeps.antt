@@ -11,23 +11,22 @@ use native.Mathlib.Omega.{arith}
 use lib.Dec.{leb, ltb}
 use lib.ListN.{length, getD}
 use borrow.Author.Tests.{le-leb, lt-leb, lt-ltb, le-ltb}
-use Rattle.protocol.specs.Lists.{if_then_else_, any}
+use Rattle.protocol.specs.Lists.{any}
 use Rattle.protocol.specs.Statement.{Stmt, sameStmt}
 use Rattle.protocol.specs.Call.{isFull}
 use Rattle.protocol.specs.Pool.{numberOf, pooled, hasRoom}
-use Rattle.views.proofs.Tables.{table-length, table-cong}
+use Rattle.views.proofs.Tables.{table-cong}
 use Rattle.statements.specs.declared.Statement.{Statement}
 use Rattle.statements.specs.Meaning.{stmtOf}
 use Rattle.pool.specs.declared.Placed.{Placed as Answered}
 use Rattle.pool.specs.declared.Placed.the-variants as placed
 use Rattle.pool.specs.Pool.{stmtAt, poolLen, recordUpTo, recordLen, recordIn, poolOf, AllIn}
 use Rattle.pool.specs.Changes as memory
+use Rattle.protocol.proofs.Found.{if-true, if-false}
+use Rattle.pool.proofs.Records.{pool-length, record-length}
+use Rattle.pool.proofs.Searches.{full≢at, at-injective}
 use Rattle.engine.specs.Steps.{PlacedAs, PlacedFor}
 use Rattle.engine.proofs.Pools.{Located, there, absent, number-none, in-pool, grown-same, grown-pool}
-
-record-length : (W R : List ℕ) → length (recordIn W R) ≡ recordLen R
-unfolding recordUpTo
-record-length W R = table-length (recordLen R) (λ i. stmtAt W (getD R i 0))
 
 -- ---- whether there is room
 
@@ -84,22 +83,6 @@ room-old s P e = rw e
 room-new : (s : Stmt) (P : List Stmt) (b : Bool) → any (sameStmt s) P ≡ false → ltb (length P) 512 ≡ b → hasRoom P s ≡ b
 unfolding hasRoom
 room-new s P b e f = rw (e, f)
-
-full≢at : {n : ℕ} → placed.Full ≡ placed.At n → ⊥
-full≢at e = let z : _≡_ {A = ℕ} 0 1 = cc in omega arith
-
-if-true : {A : Type 0} (b : Bool) (x y : A) → b ≡ true → (if b then x else y) ≡ x
-if-true b x y e = rw e
-
-if-false : {A : Type 0} (b : Bool) (x y : A) → b ≡ false → (if b then x else y) ≡ y
-if-false b x y e = rw e
-
-pool-length : (W : List ℕ) → length (poolOf W) ≡ poolLen W
-unfolding poolOf
-pool-length W = table-length (poolLen W) (stmtAt W)
-
-at-injective : {m n : ℕ} → placed.At m ≡ placed.At n → m ≡ n
-at-injective e = cc
 
 -- the record is full
 pub record-full : {W R : List ℕ} {s : Stmt} → 512 ≤ recordLen R → PlacedFor W R s placed.Full W

@@ -18,8 +18,8 @@ use Rattle.protocol.specs.Promises.{observed, Promises, NoConflict}
 use Rattle.protocol.proofs.Steps.{Next, waits, acts, Start, starts, begun, called, next}
 use Rattle.protocol.proofs.Promises.{promises, no-conflict}
 use Rattle.protocol.proofs.Carried.{carried, carried-no-conflict}
-use Rattle.views.proofs.Tables.{table-length, table-cong}
-use Rattle.pool.specs.Pool.{stmtAt, poolLen, recordUpTo as recordAt, recordLen, recordIn, poolOf, AllIn, Grows}
+use Rattle.views.proofs.Tables.{table-cong}
+use Rattle.pool.specs.Pool.{stmtAt, recordUpTo as recordAt, recordLen, recordIn, poolOf, AllIn, Grows}
 use Rattle.pool.specs.Changes.{Emptied}
 use Rattle.engine.specs.declared.Controller.{Controller}
 use Rattle.engine.specs.declared.Outcome.{Outcome}
@@ -27,6 +27,7 @@ use Rattle.engine.specs.declared.Answer as held
 use Rattle.engine.specs.declared.Answer.the-variants.{Taken, Signed, Entered, Delivered, Left, Quiet, Refused}
 use Rattle.engine.specs.Meaning.{controllerIs, answerIs}
 use Rattle.engine.specs.Promise.{PoolAfter, NumbersAfter, Meets, changeOf, signedOf, startedOf}
+use Rattle.pool.proofs.Records.{pool-length}
 use Rattle.guarantee.specs.Calls.{Engine, EngineRun, EngineRuns, EngineAnswers, engineCalls}
 
 -- ---- pools
@@ -55,10 +56,6 @@ number-within s (x ∷ P) = go (sameStmt s x) (any (sameStmt s) P) refl (number-
     go true d e l = omega arith
     go false true e l = let q : length (pooled s P) ≡ length P = ap (λ b. length (if b then P else P ++ (s ∷ []))) e in omega arith
     go false false e l = let q : length (pooled s P) ≡ length (P ++ (s ∷ [])) = ap (λ b. length (if b then P else P ++ (s ∷ []))) e in omega arith
-
-pub pool-length : (W : List ℕ) → length (poolOf W) ≡ poolLen W
-unfolding poolOf
-pool-length W = table-length (poolLen W) (stmtAt W)
 
 -- what a turn answered means the same over a pool that has grown
 module _ {W R left R′ W′ : List ℕ} {c : Controller} {o : controller.Outcome} {r : Outcome} (m : Meets W R c o (signedOf (o .answer)) r left R′) (g : Grows left W′) where

@@ -21,9 +21,6 @@ use Rattle.guarantee.specs.Hosts.{refusalOf}
 
 -- ---- tests
 
-pub holds : (b : Bool) → T b → b ≡ true
-holds true t = refl
-
 pub fails : (b : Bool) → ¬ T b → b ≡ false
 fails true f = absurd (f tt)
 fails false f = refl

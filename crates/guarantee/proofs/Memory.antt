@@ -29,11 +29,12 @@ use Rattle.pool.specs.Steps.{Put, foundOf}
 use Rattle.pool.specs.Changes.{headOf, headWord, pooledIn, PushedTo, Emptied}
 use Rattle.pool.specs.Changes as memories
 use Rattle.pool.proofs.Parts.{head-back}
-use Rattle.pool.proofs.Writes.{stmts, flag-is, put-is}
+use Rattle.pool.proofs.Writes.{stmts, put-is}
 use Rattle.pool.proofs.Searches.{append-new, pooled-beside, fresh}
 use Rattle.pool.proofs.Lists.{push-room-in, emptied}
 use Rattle.engine.proofs.Pools.{there, absent, in-pool, grown-pool}
-use Rattle.guarantee.proofs.Calls.{pool-length}
+use Rattle.pool.proofs.Records.{pool-length}
+use Rattle.statements.proofs.Statements.{flag-is}
 
 -- ---- lists by place
 

@@ -5,7 +5,6 @@ use native.Mathlib.Omega.{arith}
 use mathlib.Core.Path.{_≡_, refl, sym, ap, _∙_}
 use mathlib.Core.Bool.{Bool, true, false, false≢true}
 use mathlib.Core.List.{List}
-use lib.Dec.{T}
 use lib.ListN.{length}
 use borrow.Author.Tests.{le-leb}
 use Rattle.protocol.specs.Statement.{fieldRules}
@@ -16,14 +15,8 @@ use Rattle.statements.specs.Meaning.{stmtOf}
 use Rattle.statements.specs.Promise.{ReadOf, isWritable, writtenCount, written}
 use Rattle.statements.proofs.Laws.{refused, text-some}
 use Rattle.statements.proofs.Fits.{keeps-fits}
+use Rattle.protocol.proofs.Says.{is-true, from-true}
 use Rattle.host.specs.Statement.{IsStatement, Again}
-
-is-true : (b : Bool) → T b → b ≡ true
-is-true true t = refl
-
-pub from-true : (b : Bool) → b ≡ true → T b
-from-true true e = tt
-from-true false e = absurd (false≢true e)
 
 module _ (S : List ℕ) (r : ReadStatement) (p : ReadOf S r) where
   pub not-read : r .ok ≡ false → IsStatement S → ⊥
@@ -35,7 +28,7 @@ module _ (S : List ℕ) (r : ReadStatement) (p : ReadOf S r) where
       false≢true (sym e ∙ k ∙ ap (fieldRules 16) same ∙ is-true (fieldRules 16 (s .statement)) (s .rules))
 
   unfoldable pub is-statement : r .ok ≡ true → fieldRules 16 (stmtOf (r .statement)) ≡ true → IsStatement S
-  is-statement ok k = record { statement = stmtOf (r .statement); rules = from-true (fieldRules 16 (stmtOf (r .statement))) k; is = p .only ok }
+  is-statement ok k = record { statement = stmtOf (r .statement); rules = from-true k; is = p .only ok }
 
 -- nothing is written for what is the text of no statement
 pub nothing : (S out : List ℕ) → (IsStatement S → ⊥) → Again S out 0 out

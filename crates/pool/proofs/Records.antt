@@ -7,15 +7,15 @@ use Prim.Native.Nat.{ℕ, _+_, _≤_, _<_, min}
 use native.Mathlib.Numerals.{add-one}
 use native.Mathlib.Omega.{arith}
 use lib.Dec.{eqb}
-use lib.ListN.{getD}
+use lib.ListN.{getD, length}
 use Rattle.protocol.specs.Lists.{any}
 use Rattle.protocol.specs.Statement.{Stmt}
 use Rattle.protocol.specs.Evidence.{signs}
 use Rattle.protocol.proofs.Bits.{bit-zero}
 use Rattle.views.specs.Table.{table}
 use Rattle.views.specs.Sets.{IsSet, Noted}
-use Rattle.views.proofs.Tables.{any-zero, any-suc, any-at}
-use Rattle.pool.specs.Pool.{stmtAt, recordUpTo}
+use Rattle.views.proofs.Tables.{any-zero, any-suc, any-at, table-length}
+use Rattle.pool.specs.Pool.{stmtAt, recordUpTo, poolLen, poolOf, recordLen, recordIn}
 
 module _ (W ids : List ℕ) where
   abbrev pub entry : ℕ → Stmt
@@ -64,3 +64,13 @@ module _ (W ids : List ℕ) (p : Stmt → Bool) where
 
   pub set-whole : (len i r end : ℕ) → i ≡ end → end ≡ min len 512 → IsSet r (signs p (recordUpTo W ids i)) → IsSet r (signs p (recordUpTo W ids len))
   set-whole len i r end d e s = rw (whole W ids len i (d ∙ e)) at s
+
+-- ---- how many statements there are
+
+pub pool-length : (W : List ℕ) → length (poolOf W) ≡ poolLen W
+unfolding poolOf
+pool-length W = table-length (poolLen W) (stmtAt W)
+
+pub record-length : (W R : List ℕ) → length (recordIn W R) ≡ recordLen R
+unfolding recordUpTo
+record-length W R = table-length (recordLen R) (λ i. stmtAt W (getD R i 0))

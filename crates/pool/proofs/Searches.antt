@@ -117,6 +117,12 @@ module _ (W : List ℕ) (s : Stmt) where
 
 -- what was found is a number, or none
 
+pub full≢at : {n : ℕ} → placed.Full ≡ placed.At n → ⊥
+full≢at e = let z : _≡_ {A = ℕ} 0 1 = cc in omega arith
+
+pub at-injective : {m n : ℕ} → placed.At m ≡ placed.At n → m ≡ n
+at-injective e = cc
+
 pub found-at : (o : Option ℕ) (i : ℕ) → found.At i ≡ foundOf o → o ≡ some i
 found-at none i e = absurd (let n : _≡_ {A = ℕ} 0 1 = cc in omega arith)
 found-at (some j) i e = cc

@@ -27,6 +27,7 @@ use Rattle.views.proofs.Held.{views-of, cut-is}
 use Rattle.pool.specs.Pool.{recordUpTo}
 use Rattle.pool.proofs.Records as records
 use Rattle.evidence.proofs.Listing.{any-among}
+use Rattle.protocol.proofs.Says.{from-true}
 use Rattle.rules.specs.Rules.{ownKind, ownAt, Owns, firstPrepare}
 
 -- ---- one statement
@@ -65,12 +66,9 @@ at-own s k kind t e = eqb-true (s .origin) k (and-left (eqb (s .origin) k) (eqb 
 
 -- ---- the statements of one controller
 
-to-true : {b : Bool} → b ≡ true → T b
-to-true e = rw e tt
-
 module _ {X Y : List Stmt} {k : ℕ} (y : Owns X Y k) where
   pub owns-same : (a : Stmt) → a .origin ≡ k → any (sameStmt a) Y ≡ any (sameStmt a) X
-  owns-same a e = y .asked (sameStmt a) (λ s t. ap (λ x. x .origin) (sym (says-same-stmt .sound (to-true t))) ∙ e)
+  owns-same a e = y .asked (sameStmt a) (λ s t. ap (λ x. x .origin) (sym (says-same-stmt .sound (from-true t))) ∙ e)
 
   pub owns-kind : (kind : ℕ) → any (ownKind k kind) Y ≡ any (ownKind k kind) X
   owns-kind kind = y .asked (ownKind k kind) (λ s t. kind-own s k kind t)

@@ -6,7 +6,7 @@ use native.Mathlib.Omega.{arith}
 use native.Mathlib.Numerals.{add-one}
 use mathlib.Core.Path.{_≡_, refl, sym, ap, ap₂, subst, _∙_}
 use mathlib.Core.Bool.{Bool, true, false, not}
-use mathlib.Core.List.{List, [], _∷_, _++_, map, append-assoc, append-nil}
+use mathlib.Core.List.{List, [], _∷_, _++_, append-assoc}
 use lib.Dec.{T, ltb}
 use lib.ListN.{length, getD, length-append}
 use borrow.Author.Tests.{ltb-false}
@@ -22,13 +22,14 @@ use Rattle.protocol.proofs.Histories.{sealed-short}
 use Rattle.protocol.proofs.Asked.{greatest-holds}
 use Rattle.views.specs.Table.{table}
 use Rattle.views.specs.View.{viewOf, viewIn, viewsOf}
-use Rattle.views.proofs.Tables.{table-length}
+use Rattle.views.proofs.Tables.{views-count}
 use Rattle.statements.specs.Text.{parted, viewText}
 use Rattle.statements.specs.Parts.{tailText}
 use Rattle.statements.proofs.Fields.{view-long}
 use Rattle.statements.proofs.Views.{tail-long, tail-more}
 use Rattle.evidence.specs.declared.Evidence.{Evidence}
 use Rattle.evidence.specs.Evidence.{EvidenceOf}
+use Rattle.statements.proofs.Statements.{parted-tail}
 use Rattle.screen.specs.Screen.{wishedWord, candidatesWord, greatestWord, certificateWord, storedWord, keptWord, lineText, viewsLine, wishedLine, conflictLine, candidatesLine, certificateLine, agreedText, screenText, ScreenShows}
 use Rattle.screen.specs.ScreenParts.{certifiedLine, agreedLines, linesOf, Few}
 
@@ -54,12 +55,8 @@ pub words-first : (out ws : List ℕ) (from : ℕ) → Wrote out from (tailText 
 unfolding tailText viewsOf table
 words-first out ws from = record { next = omega arith; is = refl }
 
-pub words-count : (ws : List ℕ) (n : ℕ) → length (viewsOf ws n) ≡ n
-unfolding viewsOf
-words-count ws n = table-length n (λ i. viewOf (getD ws i 0))
-
 pub words-long : (ws : List ℕ) (n : ℕ) → length (tailText (viewsOf ws n)) ≡ 9 * n
-words-long ws n = tail-long (viewsOf ws n) ∙ ap (λ k. 9 * k) (words-count ws n)
+words-long ws n = tail-long (viewsOf ws n) ∙ ap (λ k. 9 * k) (views-count ws n)
 
 words-more : (ws : List ℕ) (i : ℕ) → viewsOf ws (i + 1) ≡ viewsOf ws i ++ (viewOf (getD ws i 0) ∷ [])
 unfolding viewsOf table
@@ -70,11 +67,6 @@ pub words-next : {out₀ out₁ out₂ : List ℕ} {from at n : ℕ} (ws : List 
 words-next ws i v e a b = tail-more (viewsOf ws i) (viewsOf ws (i + 1)) (viewOf (getD ws i 0)) (words-more ws i) a (wrote-as (ap (λ (t : List ℕ). 44 ∷ t) e) b)
 
 -- ---- lines in runs
-parted-tail : (a : List ℕ) (l : List View) → parted (a ∷ map viewText l) ≡ a ++ tailText l
-unfolding parted tailText
-parted-tail a [] = sym (append-nil a)
-parted-tail a (v ∷ l) = ap (λ (t : List ℕ). a ++ 44 ∷ t) (parted-tail (viewText v) l)
-
 wished-runs : (v : View) → wishedLine v ≡ wishedWord ++ ((44 ∷ viewText v) ++ (10 ∷ []))
 unfolding wishedLine lineText parted
 wished-runs v = refl
@@ -86,7 +78,7 @@ views-runs name l =
     ∙ append-assoc name (44 ∷ (decText (length l) ++ tailText l)) (10 ∷ []) ∙ ap (λ (t : List ℕ). name ++ 44 ∷ t) (append-assoc (decText (length l)) (tailText l) (10 ∷ []))
 
 held-runs : (name ws : List ℕ) (n : ℕ) → viewsLine name (viewsOf ws n) ≡ name ++ ((44 ∷ decText n) ++ (tailText (viewsOf ws n) ++ (10 ∷ [])))
-held-runs name ws n = views-runs name (viewsOf ws n) ∙ ap (λ (k : ℕ). name ++ ((44 ∷ decText k) ++ (tailText (viewsOf ws n) ++ (10 ∷ [])))) (words-count ws n)
+held-runs name ws n = views-runs name (viewsOf ws n) ∙ ap (λ (k : ℕ). name ++ ((44 ∷ decText k) ++ (tailText (viewsOf ws n) ++ (10 ∷ [])))) (views-count ws n)
 
 -- the last word of a certificate's line
 abbrev pub keptOrStored : Bool → List ℕ
@@ -203,8 +195,8 @@ module _ (R : Ring) (sender : ℕ) (X : List Stmt) (C G : List ℕ) (e : Evidenc
 
   pub few-views : Few e
   few-views = record {
-    candidates = λ p q. omega (arith, words-count C (e .count), ap length (of .candidates p q), ltb-false 16 (length (candidates R X)) (sym (of .many p) ∙ q));
-    greatest = λ p. omega (arith, words-count G (e .length), ap length (of .greatest p), sealed-short (greatest-holds R sender X (subst (λ b. T (not b)) (sym p ∙ of .conflict) tt) .0));
+    candidates = λ p q. omega (arith, views-count C (e .count), ap length (of .candidates p q), ltb-false 16 (length (candidates R X)) (sym (of .many p) ∙ q));
+    greatest = λ p. omega (arith, views-count G (e .length), ap length (of .greatest p), sealed-short (greatest-holds R sender X (subst (λ b. T (not b)) (sym p ∙ of .conflict) tt) .0));
   }
 
   pub shows : (out after : List ℕ) (n : ℕ) → 512 ≤ length out → Wrote out 0 (linesOf e C G) n after × (n ≤ 512) → ScreenShows R sender X out n after

@@ -10,7 +10,7 @@ use lib.Dec.{eqb}
 use lib.ListN.{length, getD, set}
 use lib.Seq.{getD-set-same, getD-set-other, set-out}
 use borrow.Author.Tests.{eq-eqb, ne-eqb, lt-ltb, le-ltb}
-use Rattle.protocol.specs.Lists.{any, all, if_then_else_}
+use Rattle.protocol.specs.Lists.{any, all}
 use Rattle.protocol.specs.View.{View, sameView, size}
 use Rattle.protocol.specs.Statement.{Stmt}
 use Rattle.protocol.specs.Evidence.{isCandidate}
@@ -24,6 +24,7 @@ use Rattle.pool.specs.Pool.{viewAt, countOf, stmtAt}
 use Rattle.tables.specs.Index.{keyAt, numberAt, Indexed, Latest, Passed}
 use Rattle.tables.proofs.Searches.{passed-first, passed-next}
 use Rattle.votes.specs.Tables.{upTo, IsWord, choiceAt, agreementAt, gives, sealsAt, ends, Tables}
+use Rattle.protocol.proofs.Found.{if-true, if-false}
 use Rattle.sealing.specs.Memos.{asked, Memos, Later}
 
 or-none : (a b : Bool) → a ≡ false → b ≡ false → (a || b) ≡ false
@@ -214,12 +215,6 @@ put Q m j x h g i = go (ℕ-discrete i j) (decLt j (length m))
     go (yes e) (no l) = subst (λ (s : List ℕ). Q i (getD s i 0)) (sym (set-out m j x (omega arith))) (h i)
     go (no d) s = subst (λ (y : ℕ). Q i y) (sym (getD-set-other m j i x 0 d)) (h i)
 
-pick : {A : Type 0} (b : Bool) (x y : A) → b ≡ true → (if b then x else y) ≡ x
-pick b x y e = rw e
-
-skip : {A : Type 0} (b : Bool) (x y : A) → b ≡ false → (if b then x else y) ≡ y
-skip b x y e = rw e
-
 module _ (W : List ℕ) (X : List Stmt) (init : ℕ) (K R : List ℕ) where
   -- place k is about b
   pub record About (k : ℕ) (b : Bool) : Type 0 where
@@ -228,11 +223,11 @@ module _ (W : List ℕ) (X : List Stmt) (init : ℕ) (K R : List ℕ) where
 module _ {W : List ℕ} {X : List Stmt} {init : ℕ} {K R : List ℕ} where
   pub about-choice : {c : ℕ} → c < 512 → About W X init K R c (cand X init (viewOf (keyAt K 0 c)))
   unfolding asked
-  about-choice l = record { so = pick _ _ _ (lt-ltb _ _ l) }
+  about-choice l = record { so = if-true _ _ _ (lt-ltb _ _ l) }
 
   pub about-agreement : (a : ℕ) → About W X init K R (512 + a) (sealsAt W X init K R a)
   unfolding asked
-  about-agreement a = record { so = skip _ _ _ (le-ltb (512 + a) 512 (omega arith)) ∙ ap (sealsAt W X init K R) back }
+  about-agreement a = record { so = if-false _ _ _ (le-ltb (512 + a) 512 (omega arith)) ∙ ap (sealsAt W X init K R) back }
     where
       back : (512 + a) - 512 ≡ a
       back = omega arith

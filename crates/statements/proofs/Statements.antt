@@ -51,7 +51,7 @@ fromAt t = 44 ∷ (viewText (t .at) ++ fromView t)
 abbrev pub fromOrigin : Stmt → List ℕ
 fromOrigin t = 44 ∷ (decText (t .origin) ++ fromAt t)
 
-parted-tail : (a : List ℕ) (l : List View) → parted (a ∷ map viewText l) ≡ a ++ tailText l
+pub parted-tail : (a : List ℕ) (l : List View) → parted (a ∷ map viewText l) ≡ a ++ tailText l
 unfolding parted tailText
 parted-tail a [] = sym (append-nil a)
 parted-tail a (v ∷ l) = ap (λ (t : List ℕ). a ++ 44 ∷ t) (parted-tail (viewText v) l)
@@ -161,10 +161,11 @@ payload-back n m = go (eqb n 1) (eqb n 2)
     go false true = refl
     go false false = refl
 
-stored-back : (n : ℕ) → n ≤ 1 → cond (eqb n 1) 1 0 ≡ n
-stored-back zero h = refl
-stored-back (suc zero) h = refl
-stored-back (suc (suc n)) h = absurd (omega arith)
+-- a flag that is read back
+pub flag-is : (n : ℕ) → n ≤ 1 → cond (eqb n 1) 1 0 ≡ n
+flag-is zero h = refl
+flag-is (suc zero) h = refl
+flag-is (suc (suc n)) h = absurd (omega arith)
 
 abbrev pub make : ℕ → ℕ → View → View → ℕ → ℕ → ℕ → ℕ → List View → Stmt
 make k o a v b p s e l = record { kind = k; origin = o; at = a; view = v; binding = b; payload = p; stored = s; kept = e; views = l }
@@ -196,7 +197,7 @@ module _ (S : List ℕ) (first : Read) (kind origin : Part) (at view : ViewPart)
     view-is = refl;
     binding-is = sym (number-back (binding .value) (payload .value) (ch .c5 .low));
     payload-is = sym (payload-back (binding .value) (payload .value));
-    stored-is = sym (stored-back (stored .value) (ch .c7 .low));
+    stored-is = sym (flag-is (stored .value) (ch .c7 .low));
     kept-is = refl;
     views-is = refl;
   }

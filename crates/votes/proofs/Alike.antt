@@ -29,9 +29,6 @@ use Rattle.votes.specs.Keys.{keyOf, folded, weightOf, mixFrom, whatOf, s
 
 -- a test and what it says
 
-pub yes-T : {b : Bool} → b ≡ true → T b
-yes-T e = rw e tt
-
 pub no-T : {b : Bool} → b ≡ false → T b → ⊥
 no-T e t = rw e at t
 

@@ -19,10 +19,11 @@ use Rattle.pool.specs.Pool.{stmtAt, recordUpTo}
 use Rattle.pool.proofs.Records.{whole, set-first, set-next}
 use Rattle.tables.specs.Index.{keyAt, Empty, RowLinked, RowKeyed}
 use Rattle.tables.proofs.Chains.{chained-first, chained-same, chained-new, empty-kept}
+use Rattle.protocol.proofs.Says.{from-true}
 use Rattle.votes.specs.declared.keys.Vote.{Vote}
 use Rattle.votes.specs.Votes.{isVote, alike, entry, placeOf, tagOf, signersOf, voteAt, Groups}
 use Rattle.votes.specs.Keys.{keyOf, whatOf, slotBy, groupSlot, Key, Place, Sofar}
-use Rattle.votes.proofs.Alike.{Alike, says-vote, says-alike, alike-vote, alike-self, alike-both, alike-turned, yes-T, no-T}
+use Rattle.votes.proofs.Alike.{Alike, says-vote, says-alike, alike-vote, alike-self, alike-both, alike-turned, no-T}
 
 -- the word y of a group is like x, with the signers r
 pub record Resigned (x r y : ℕ) : Type 0 where
@@ -123,7 +124,7 @@ module _ (W ids : List ℕ) where
       }
         where
           here : T (alike (group G g) (entry W ids i))
-          here = yes-T (at .here l)
+          here = from-true (at .here l)
 
           word : getD (set G g x) g 0 ≡ x
           word = getD-set-same G g x 0 (omega (arith, so .room, so .fewer))
@@ -181,7 +182,7 @@ module _ (W ids : List ℕ) where
       }
         where
           vote : T (isVote (entry W ids i))
-          vote = yes-T (sym e ∙ f)
+          vote = from-true (sym e ∙ f)
 
           self : T (alike (entry W ids i) (entry W ids i))
           self = says-alike (entry W ids i) (entry W ids i) .complete (alike-self (entry W ids i) (says-vote (entry W ids i) .sound vote))

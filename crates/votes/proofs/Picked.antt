@@ -21,10 +21,11 @@ use Rattle.views.proofs.Views.{signed-by-set, same-yes, same-no, view-inj}
 use Rattle.pool.specs.Pool.{recordIn}
 use Rattle.tables.specs.Index.{keyAt, numberAt, SameRows, SameKeys, Empty, RowAdded}
 use Rattle.tables.proofs.Chains.{indexed-first, indexed-kept}
+use Rattle.protocol.proofs.Says.{from-true}
 use Rattle.votes.specs.Votes.{alike, entry, placeOf, tagOf, signersOf, voteAt, GroupsIn}
 use Rattle.votes.specs.Tables.{IsWord}
 use Rattle.votes.specs.Chosen.{choiceBy, agreementBy, isChoice, isAgreement, Picked, GroupRow, GroupRows}
-use Rattle.votes.proofs.Alike.{yes-T, no-T}
+use Rattle.votes.proofs.Alike.{no-T}
 
 -- ---- five tests in a row
 
@@ -142,7 +143,7 @@ module _ (P : ℕ → Bool) where
     where
       from : (c : ℕ) → Dec (c < m) → c ≤ m → (g : ℕ) × (g < n + 1) × T (P g) × Row′ c g
       from c (yes k) l = let (g, h, t, w) = p .sound c k in (g, omega arith, t, old c g k w)
-      from c (no k) l = let q : c ≡ m = omega arith in (n, omega arith, yes-T (sym e ∙ f), rw q new)
+      from c (no k) l = let q : c ≡ m = omega arith in (n, omega arith, from-true (sym e ∙ f), rw q new)
 
       at : (g : ℕ) → T (P g) → Dec (g < n) → g ≤ n → (c : ℕ) × (c < m + 1) × Row′ c g
       at g t (yes k) l = let (c, h, w) = p .complete g k t in (c, omega arith, old c g h w)

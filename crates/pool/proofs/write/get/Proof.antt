@@ -2,8 +2,9 @@ use native.Mathlib.Omega.{arith}
 use mathlib.Core.Path.{_∙_}
 use Rattle.statements.specs.Meaning.{stmtOf}
 use Rattle.views.proofs.Views.{view-whole}
+use Rattle.statements.proofs.Statements.{flag-is}
 use Rattle.pool.proofs.Laws.{at-fits, view-fits}
-use Rattle.pool.proofs.Writes.{stmts, flag-is}
+use Rattle.pool.proofs.Writes.{stmts}
 use borrow.Author.Needs.{needs}
 use Rattle.pool.proofs.write.get.Statement.{statement}
 use Rattle.pool.proofs.write.get.Tie as tie
