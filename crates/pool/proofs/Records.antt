@@ -13,7 +13,8 @@ use Rattle.protocol.specs.Statement.{Stmt}
 use Rattle.protocol.specs.Evidence.{signs}
 use Rattle.protocol.proofs.Bits.{bit-zero}
 use Rattle.views.specs.Table.{table}
-use Rattle.views.specs.Sets.{IsSet, Noted}
+use Rattle.views.specs.Steps.{Noted}
+use Rattle.views.specs.Sets.{IsSet}
 use Rattle.views.proofs.Tables.{any-zero, any-suc, any-at, table-length}
 use Rattle.pool.specs.Pool.{stmtAt, recordUpTo, poolLen, poolOf, recordLen, recordIn}
 

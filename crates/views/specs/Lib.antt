@@ -4,5 +4,6 @@
 pub mod Held
 pub mod Table
 pub mod View
--- ---- inside: what functions tell each other, and what loops keep
 pub mod Sets
+-- ---- inside: what functions tell each other, and what loops keep
+pub mod Steps

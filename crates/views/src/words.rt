@@ -3,7 +3,7 @@ ghost use mathlib.Core.Path.{_≡_};
 ghost use Prim.Native.Nat.{_/_, _%_, _≤_};
 ghost use Rattle.protocol.specs.Sets.{bit};
 ghost use Rattle.protocol.specs.View.{hasMembers, within, below, size};
-ghost use Rattle.views.specs.Sets.{Noted, Joined};
+ghost use Rattle.views.specs.Steps.{Noted, Joined};
 ghost use Rattle.views.specs.View.{viewOf, viewIn, quorumHas};
 use crate::View;
 

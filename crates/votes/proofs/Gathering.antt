@@ -12,7 +12,8 @@ use lib.ListN.{length, getD, set, length-set}
 use lib.Seq.{getD-set-same, getD-set-other}
 use Rattle.protocol.specs.Statement.{Stmt}
 use Rattle.protocol.specs.Evidence.{signs}
-use Rattle.views.specs.Sets.{IsSet, Noted}
+use Rattle.views.specs.Steps.{Noted}
+use Rattle.views.specs.Sets.{IsSet}
 use Rattle.views.proofs.Sets.{note-none}
 use Rattle.views.proofs.Views.{passes, fails}
 use Rattle.pool.specs.Pool.{stmtAt, recordUpTo}

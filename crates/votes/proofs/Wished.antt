@@ -13,7 +13,8 @@ use Rattle.protocol.specs.View.{View}
 use Rattle.protocol.specs.Statement.{Stmt, isKind}
 use Rattle.protocol.specs.Evidence.{signs, joinedBy, leftBy, wished}
 use Rattle.protocol.proofs.Bits.{bit-and, bit-or}
-use Rattle.views.specs.Sets.{IsSet, Noted, Joined}
+use Rattle.views.specs.Steps.{Noted, Joined}
+use Rattle.views.specs.Sets.{IsSet}
 use Rattle.views.specs.View.{viewOf, viewIn, ringOfWord}
 use Rattle.views.proofs.Sets.{set-is, note-none, bit-low}
 use Rattle.views.proofs.Views.{pair, view-in}
