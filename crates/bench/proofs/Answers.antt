@@ -8,7 +8,7 @@ use mathlib.Core.Path.{refl, ap, _∙_}
 use mathlib.Core.List.{List, _++_}
 use lib.ListN.{length, drop, length-append}
 use lib.Seq.{sets-eq}
-use Rattle.bench.specs.Rows.{Printed, Answered}
+use Rattle.bench.specs.Rows.{Answered}
 use Rattle.bench.specs.Running.{PrintedInto, Long}
 use Rattle.bench.proofs.One.{printed-one}
 

@@ -50,7 +50,7 @@ module _ {W W′ R R′ : List ℕ} {s : Stmt} {n : ℕ} (k : PlacedAs W R s n W
   pub all-in : AllIn W R → AllIn W′ R′
   unfolding AllIn
   all-in w i h = elim (decLt i (recordLen R)) [
-    | yes m ↦ let e = p .first i m in let b = w i m in omega (arith, k .more)
+    | yes m ↦ let e = p .first i m in let b = w i m in omega (arith, k .grows .more)
     | no m ↦
         (let q : recordLen R ≡ i = omega (arith, p .len) in
         let e = p .last (k .short) in subst (λ j. getD R′ j 0 < poolLen W′) q (omega (arith, k .within)))
@@ -58,7 +58,7 @@ module _ {W W′ R R′ : List ℕ} {s : Stmt} {n : ℕ} (k : PlacedAs W R s n W
 
   same-record : AllIn W R → recordIn W′ R ≡ recordIn W R
   unfolding recordUpTo AllIn
-  same-record w = table-cong (recordLen R) (λ i. stmtAt W′ (getD R i 0)) (λ i. stmtAt W (getD R i 0)) (λ i h. k .same _ (w i h))
+  same-record w = table-cong (recordLen R) (λ i. stmtAt W′ (getD R i 0)) (λ i. stmtAt W (getD R i 0)) (λ i h. k .grows .same _ (w i h))
 
   longer : recordIn W′ R′ ≡ recordIn W′ R ++ (s ∷ [])
   longer = p .means W′ ∙ rw (lt-ltb (recordLen R) 512 (k .short)) (ap (λ x. recordIn W′ R ++ (x ∷ [])) (k .is))
@@ -98,9 +98,8 @@ module _ (W W′ R : List ℕ) (st : Statement) (short : st .history .len ≤ 16
     number = e ∙ sym m;
     is = ap₂ stmtAt w e ∙ h;
     pool = record { is = ap poolOf w ∙ pooled-old (stmtOf st) (poolOf W) y; words = x };
-    more = subst (λ (U : List ℕ). poolLen W ≤ poolLen U) (sym w) (omega arith);
+    grows = record { more = subst (λ (U : List ℕ). poolLen W ≤ poolLen U) (sym w) (omega arith); same = λ j t. ap (λ (U : List ℕ). stmtAt U j) w };
     within = subst (λ (U : List ℕ). n < poolLen U) (sym w) (omega arith);
-    same = λ j t. ap (λ (U : List ℕ). stmtAt U j) w;
   }
 
   -- it went to the end of the pool
@@ -111,9 +110,8 @@ module _ (W W′ R : List ℕ) (st : Statement) (short : st .history .len ≤ 16
     number = e ∙ sym (number-none (stmtOf st) (poolOf W) y ∙ pool-length W);
     is = ap (stmtAt W′) e ∙ g .there short;
     pool = record { is = grown-pool W W′ st short g b ∙ pooled-new (stmtOf st) (poolOf W) y; words = x };
-    more = omega (arith, g .len);
+    grows = record { more = omega (arith, g .len); same = grown-same W W′ st short g b };
     within = omega (arith, g .len);
-    same = grown-same W W′ st short g b;
   }
 
   module _ (r : Answered) (a : memory.Appended W W′ st r) where

@@ -9,7 +9,7 @@ use Rattle.protocol.specs.Statement.{Stmt}
 use Rattle.protocol.specs.Pool.{numberOf, hasRoom}
 use Rattle.pool.specs.declared.Placed.{Placed}
 use Rattle.pool.specs.declared.Placed.the-variants.{At, Full}
-use Rattle.pool.specs.Pool.{stmtAt, poolLen, poolOf, recordLen}
+use Rattle.pool.specs.Pool.{stmtAt, poolLen, poolOf, recordLen, Grows}
 use Rattle.engine.specs.declared.Answer.{Answer}
 use Rattle.engine.specs.declared.Answer.the-variants.{Left, Quiet}
 use Rattle.engine.specs.Promise.{Pooled}
@@ -21,9 +21,8 @@ pub record PlacedAs (W R : List ℕ) (s : Stmt) (n : ℕ) (W′ : List ℕ) : Ty
   pub number : n ≡ numberOf s (poolOf W)
   pub is : stmtAt W′ n ≡ s
   pub pool : Pooled s W W′
-  pub more : poolLen W ≤ poolLen W′
+  pub grows : Grows W W′
   pub within : n < poolLen W′
-  pub same : (m : ℕ) → m < poolLen W → stmtAt W′ m ≡ stmtAt W m
 
 -- s went into the pool W under the number that r tells; or the record R, or the pool, had no room, and nothing changed.
 pub record PlacedFor (W R : List ℕ) (s : Stmt) (r : Placed) (W′ : List ℕ) : Type 0 where

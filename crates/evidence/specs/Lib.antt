@@ -1,5 +1,4 @@
--- ---- what is promised
+-- ---- inside: what functions tell each other, and what loops keep; Evidence is what the crate tells those above it
 pub mod Evidence
--- ---- inside: what functions tell each other, and what loops keep
 pub mod Shown
 pub mod Reports

@@ -9,7 +9,7 @@ use native.Mathlib.Numerals.{add-one}
 use native.Mathlib.Omega.{arith}
 use lib.Dec.{T}
 use lib.ListN.{length, getD, set}
-use Rattle.protocol.specs.Lists.{_∈_, _⊆_, any, pairwise}
+use Rattle.protocol.specs.Lists.{_∈_, _⊆_, any}
 use Rattle.protocol.specs.View.{View, sameView, size}
 use Rattle.protocol.specs.History.{holds, Holds, Rising}
 use Rattle.protocol.specs.Statement.{Stmt}

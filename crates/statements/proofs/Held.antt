@@ -11,7 +11,6 @@ use Rattle.protocol.specs.Statement.{bindingPayload, storedNumber, keptPayload}
 use Rattle.protocol.specs.Statement as says
 use Rattle.views.specs.declared.View as held
 use Rattle.views.specs.declared.History.{History}
-use Rattle.views.specs.Table.{table}
 use Rattle.views.specs.Held.{viewIs, viewsIs}
 use Rattle.views.proofs.Held.{views-of}
 use Rattle.statements.specs.declared.Binding.{Binding}

@@ -11,7 +11,6 @@ use lib.ListN.{length, length-append}
 use Rattle.text.specs.Text.{decText}
 use Rattle.text.proofs.Decimal.{some-long}
 use Rattle.protocol.specs.Statement.{Stmt}
-use Rattle.statements.specs.declared.Statement.{Statement}
 use Rattle.statements.specs.declared.ReadStatement.{ReadStatement}
 use Rattle.statements.specs.Text.{text}
 use Rattle.statements.specs.Meaning.{Fits}
