@@ -32,8 +32,8 @@ const SEATS: usize = View::WIDTH as usize;
 // No longer schedule is run.
 const SCHEDULE_MAX: usize = 65536;
 
-// The number of the refusal of what is out of place.
-const OUT_OF_PLACE: u64 = 8;
+// The number of the refusal of a line that is unreadable, and of a schedule that is not run.
+const UNREADABLE: u64 = 8;
 
 // Enough for the rows of any schedule.
 pub const ROWS_MAX: usize = 2621504;
@@ -224,7 +224,7 @@ fn run_lines(schedule: &[u8], rows: &mut [u8]) -> usize
                 next,
                 NOBODY,
                 Word::Refused,
-                Value::Number(OUT_OF_PLACE),
+                Value::Number(UNREADABLE),
             );
             place = on;
             continue;
@@ -276,7 +276,7 @@ fn put_refused(rows: &mut [u8]) -> usize
         0,
         NOBODY,
         Word::Refused,
-        Value::Number(OUT_OF_PLACE),
+        Value::Number(UNREADABLE),
     )
 }
 
