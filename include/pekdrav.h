@@ -1,8 +1,8 @@
-/* The proved functions of Pekdrav, for C. Link target/staticlib/libpekdrav.a, which `rt staticlib pekdrav` writes.
+/* The proved functions of Pekdrav, for C99 and C++. Link target/staticlib/libpekdrav.a, which `rt staticlib pekdrav` writes.
  *
- * Every function answers whatever the memory holds and whatever the numbers are; it asks only that each pointer has the room named here.
- * None keeps a pointer, allocates or blocks. The contracts stand in crates/pekdrav. Signatures are the host's: check one before the line goes to
- * pekdrav_add, and sign a line before it is sent.
+ * Every function answers whatever the memory holds and whatever the numbers are; it asks only that each pointer has the room named here, apart from that of
+ * the others. None keeps a pointer, allocates or blocks. The contracts stand in crates/pekdrav. Signatures are the host's: check one before the line goes to
+ * pekdrav_controller_add, and sign a line before it is sent.
  *
  * A view is a 64-bit word: the joined set in the low 32 bits, the left set in the high 32, bit k for controller k. Controllers are numbered 0 to 15: the
  * other bits are 0 in every view that a controller enters, and mean nothing in its fields and in a pool. */
@@ -16,84 +16,227 @@
 extern "C" {
 #endif
 
-/* The words of a pool: 512 statements of 21 words, and their number. */
-#define PEKDRAV_POOL_WORDS 10753
-/* A controller: its fields, and its record. */
-#define PEKDRAV_FIELDS 32
-/* A record: room for 512 pool numbers, and in the last place how many of them count. More than 512 count as 512. */
-#define PEKDRAV_RECORD 513
-/* No statement's text is longer. */
-#define PEKDRAV_TEXT 256
-/* The words that evidence is told in. */
-#define PEKDRAV_TOLD 40
-/* No text of what a record shows is longer. */
-#define PEKDRAV_SHOWN 512
-/* No schedule has longer rows. */
-#define PEKDRAV_ROWS 2621504
+/* Controllers are numbered below this. */
+#define PEKDRAV_CONTROLLERS 16
+/* A history has no more views, and no more candidates are told. */
+#define PEKDRAV_VIEWS 16
+/* A pool has no more statements, and so has a record. */
+#define PEKDRAV_STATEMENTS 512
+/* The words of a pool: 21 for each statement, and their number. */
+#define PEKDRAV_POOL_WORDS (21 * PEKDRAV_STATEMENTS + 1)
+/* No statement's text has more bytes. */
+#define PEKDRAV_TEXT_MAX 256
+/* No text of what a record shows has more bytes. */
+#define PEKDRAV_SCREEN_MAX 512
+/* No schedule that is run has more bytes. */
+#define PEKDRAV_SCHEDULE_MAX 65536
+/* No schedule's rows have more bytes. */
+#define PEKDRAV_ROWS_MAX 2621504
+
+/* What pekdrav_pool_append answers where a statement got no number: the pool is full, or the line is no statement. */
+#define PEKDRAV_POOL_FULL 512
+#define PEKDRAV_NO_STATEMENT 513
 
 /* What a call answers, and the value that comes with it. */
 enum pekdrav_answer {
-    PEKDRAV_TAKEN = 0,     /* 0 */
-    PEKDRAV_SIGNED = 1,    /* the statement's number in the pool: send its text to the others */
-    PEKDRAV_ENTERED = 2,   /* the view */
-    PEKDRAV_DELIVERED = 3, /* the payload */
-    PEKDRAV_LEFT = 4,      /* 0 */
-    PEKDRAV_QUIET = 5,     /* 0 */
-    PEKDRAV_REFUSED = 6    /* the number in the table of refusals, 1 to 8; all is as before */
+    PEKDRAV_ANSWER_TAKEN = 0,     /* 0 */
+    PEKDRAV_ANSWER_SIGNED = 1,    /* the statement's number in the pool: send its text to the others */
+    PEKDRAV_ANSWER_ENTERED = 2,   /* the view */
+    PEKDRAV_ANSWER_DELIVERED = 3, /* the payload */
+    PEKDRAV_ANSWER_LEFT = 4,      /* 0 */
+    PEKDRAV_ANSWER_QUIET = 5,     /* 0 */
+    PEKDRAV_ANSWER_REFUSED = 6    /* an enum pekdrav_refusal; all is as before */
 };
 
-/* A controller's fields: 0 whether it is set up, 1 its number, 2 the initial view, 3 the sender, 4 the binding (0 unbound, 1 bound, 2 barred)
- * and 5 its payload, 6 delivered, 7 join requested, 8 leave requested, 9 send requested and 10 its payload, 12 how many views it entered, 16 to 31
- * those views. A refused call leaves fields and record as they were. After any other the fields stand for the controller that the call leaves, and the
- * record is as it was, or has one number more, or is empty after a setup; nothing is promised of fields 11 and 13 to 15 and of views after those entered,
- * which stand for nothing.
- * Controllers that share a pool may not be called at the same time. */
+/* Why a call is refused, by the number in the table of refusals. */
+enum pekdrav_refusal {
+    PEKDRAV_REFUSAL_BAD_SETUP = 1,       /* no initial member, a number above 15, or a second setup */
+    PEKDRAV_REFUSAL_BAD_STATEMENT = 2,   /* the statement breaks a field rule, or the line is none */
+    PEKDRAV_REFUSAL_REPEATED = 3,        /* the statement is in the record */
+    PEKDRAV_REFUSAL_FULL = 4,            /* record or pool is full, and one more must go in */
+    PEKDRAV_REFUSAL_BAD_REQUEST = 5,     /* join by an initial member, leave before entering, send by another than the sender; any of them repeated */
+    PEKDRAV_REFUSAL_MANY_CANDIDATES = 6, /* on a turn, more than sixteen candidates */
+    PEKDRAV_REFUSAL_CONFLICT = 7,        /* on a turn, the record contradicts itself: too many members lied */
+    PEKDRAV_REFUSAL_OUT_OF_PLACE = 8     /* any call before setup */
+};
+
+/* The kinds of statements: the first field of their text. */
+enum pekdrav_kind {
+    PEKDRAV_KIND_JOIN = 1,
+    PEKDRAV_KIND_LEAVE = 2,
+    PEKDRAV_KIND_AGREE_VIEW = 3,
+    PEKDRAV_KIND_AGREE_HISTORY = 4,
+    PEKDRAV_KIND_REPORT = 5,
+    PEKDRAV_KIND_PREPARE = 6,
+    PEKDRAV_KIND_ACK = 7,
+    PEKDRAV_KIND_STORE = 8
+};
+
+/* What a controller is bound to. */
+enum pekdrav_binding {
+    PEKDRAV_BINDING_UNBOUND = 0,
+    PEKDRAV_BINDING_BOUND = 1, /* to one payload */
+    PEKDRAV_BINDING_BARRED = 2
+};
+
+/* Statements, numbered from 0 in the order in which they came. Controllers may share a pool or have one each; those that share one may not be called at
+ * the same time. */
+struct pekdrav_pool {
+    uint64_t words[PEKDRAV_POOL_WORDS];
+};
+
+/* Statements of a pool by their numbers, in order of arrival. The first `count` count; a count above 512 counts as 512. */
+struct pekdrav_record {
+    uint16_t ids[PEKDRAV_STATEMENTS];
+    uint16_t count;
+};
+
+/* What a controller has beside its record. Nothing is promised of what is reserved and of views after those entered, which stand for nothing. */
+struct pekdrav_fields {
+    uint64_t ready; /* whether it is set up */
+    uint64_t number;
+    uint64_t initial; /* the initial view */
+    uint64_t sender;
+    uint64_t binding; /* an enum pekdrav_binding */
+    uint64_t bound;   /* the payload that it is bound to */
+    uint64_t delivered;
+    uint64_t join_requested;
+    uint64_t leave_requested;
+    uint64_t send_requested;
+    uint64_t send_payload;
+    uint64_t reserved_1;
+    uint64_t entered_count;
+    uint64_t reserved_2[3];
+    uint64_t entered[PEKDRAV_VIEWS]; /* the views that it entered */
+};
+
+/* A refused call leaves fields and record as they were. After any other the fields stand for the controller that the call leaves, and the record is as it
+ * was, or has one number more, or is empty after a setup. */
+struct pekdrav_controller {
+    struct pekdrav_fields fields;
+    struct pekdrav_record record;
+};
+
+/* What a record shows. What is not told is 0: after a conflict all but `conflict` and `wished`, with more than sixteen candidates their count and the
+ * candidates, without a certificate `payload` and `stored`, and the places after the last view of each list. */
+struct pekdrav_evidence {
+    uint64_t conflict; /* whether the record contradicts itself */
+    uint64_t many;     /* whether there are more than sixteen candidates */
+    uint64_t wished;   /* the wished view */
+    uint64_t candidate_count;
+    uint64_t greatest_count;
+    uint64_t certified; /* whether a payload has a certificate */
+    uint64_t payload;   /* that payload */
+    uint64_t stored;    /* whether it is stored */
+    uint64_t candidates[PEKDRAV_VIEWS];
+    uint64_t greatest[PEKDRAV_VIEWS]; /* the views of the greatest history */
+};
+
+/* Compiles only where the structs lie in memory as the library has them. */
+typedef char pekdrav_layout[sizeof(struct pekdrav_pool) == PEKDRAV_POOL_WORDS * sizeof(uint64_t) &&
+                                    sizeof(struct pekdrav_record) == (PEKDRAV_STATEMENTS + 1) * sizeof(uint16_t) &&
+                                    sizeof(struct pekdrav_fields) == 32 * sizeof(uint64_t) && sizeof(struct pekdrav_evidence) == 40 * sizeof(uint64_t)
+                                ? 1
+                                : -1];
 
 /* An empty pool. */
-void pekdrav_clear(uint64_t words[PEKDRAV_POOL_WORDS]);
-/* A controller before its setup. */
-void pekdrav_new(uint64_t fields[PEKDRAV_FIELDS], uint16_t ids[PEKDRAV_RECORD]);
-
-/* Starts controller `number` in the ring of these initial members. */
-uint8_t pekdrav_setup(uint64_t fields[PEKDRAV_FIELDS], uint16_t ids[PEKDRAV_RECORD], uint8_t number, uint16_t members, uint8_t sender,
-                      uint64_t value[1]);
-/* Note a request; the record has no part in it. */
-uint8_t pekdrav_join(uint64_t fields[PEKDRAV_FIELDS], uint64_t value[1]);
-uint8_t pekdrav_leave(uint64_t fields[PEKDRAV_FIELDS], uint64_t value[1]);
-uint8_t pekdrav_send(uint64_t fields[PEKDRAV_FIELDS], uint64_t payload, uint64_t value[1]);
-/* Adds the statement that the line is. */
-uint8_t pekdrav_add(uint64_t fields[PEKDRAV_FIELDS], uint16_t ids[PEKDRAV_RECORD], uint64_t words[PEKDRAV_POOL_WORDS], const uint8_t *line,
-                    size_t line_len, uint64_t value[1]);
-/* Does the first step that the rules allow. */
-uint8_t pekdrav_turn(uint64_t fields[PEKDRAV_FIELDS], uint16_t ids[PEKDRAV_RECORD], uint64_t words[PEKDRAV_POOL_WORDS], uint64_t value[1]);
-/* Writes the text of statement `number` of the pool and answers its length; 0, with `out` as it was, if there is none or `out` is too short. */
-size_t pekdrav_text(const uint64_t words[PEKDRAV_POOL_WORDS], uint16_t number, uint8_t *out, size_t out_len);
-
-/* Writes the rows of a schedule and answers their length; 0, with `rows` as they were, if they are too short. */
-size_t pekdrav_bench(const uint8_t *schedule, size_t schedule_len, uint8_t *rows, size_t rows_len);
+void pekdrav_pool_clear(struct pekdrav_pool *pool);
+/* The number of the statement that `line` is, which goes to the end of the pool if it is not in it; PEKDRAV_POOL_FULL or PEKDRAV_NO_STATEMENT, with the pool
+ * as it was, if it cannot. Only the words of a new statement and the number of statements are written. */
+uint16_t pekdrav_pool_append(struct pekdrav_pool *pool, const uint8_t *line, size_t line_len);
+/* Writes the text of statement `number` and answers its length; 0, with `out` as it was, if there is none or `out` is too short. */
+size_t pekdrav_pool_text(const struct pekdrav_pool *pool, uint16_t number, uint8_t *out, size_t out_len);
 
 /* Writes the statement that `line` is and answers its length; 0, with `out` as it was, if `line` is the text of no statement that keeps the field
  * rules or `out` is too short. */
-size_t pekdrav_statement(const uint8_t *line, size_t line_len, uint8_t *out, size_t out_len);
-/* The pool number of the statement that `line` is, which goes to the end of the pool if it is not in it; 512 if the pool is full, 513 if `line` is no
- * statement. Only the words of a new statement and the number of statements are written. */
-uint16_t pekdrav_append(uint64_t words[PEKDRAV_POOL_WORDS], const uint8_t *line, size_t line_len);
-/* Who signed a statement of this kind at this view in a record, bit k for controller k. */
-uint32_t pekdrav_signers(const uint64_t words[PEKDRAV_POOL_WORDS], const uint16_t ids[PEKDRAV_RECORD], uint8_t kind, uint64_t at);
-/* What a record shows in a ring: words 0 to 7 of `out` are whether there is a conflict, whether there are more than sixteen candidates, the wished
- * view, how many candidates and how many views of the greatest history follow, whether a payload has a certificate, that payload, and whether it is
- * stored; the candidates stand from word 8 on, the greatest history from 24 on. All of `out` is written, and what is not told is 0: after a conflict every
- * word but 0 and 2, with more than sixteen candidates word 3 and the candidates, without a certificate words 6 and 7, and the words after the last view. */
-void pekdrav_evidence(const uint64_t words[PEKDRAV_POOL_WORDS], const uint16_t ids[PEKDRAV_RECORD], uint64_t init, uint8_t sender,
-                      uint64_t out[PEKDRAV_TOLD]);
-/* Writes what a record shows in lines, for a service screen, and answers the text's length; 0, with `out` as it was, if `out` has fewer than
- * PEKDRAV_SHOWN bytes. The lines: `wished,VIEW`; then `conflict` and nothing more, or `candidates,COUNT,VIEW,..` (`candidates,many` for more than sixteen),
- * `greatest,COUNT,VIEW,..` and `certificate,PAYLOAD,stored` (`kept` if it is not stored, `certificate,none` if no payload has one). */
-size_t pekdrav_shown(const uint64_t words[PEKDRAV_POOL_WORDS], const uint16_t ids[PEKDRAV_RECORD], uint64_t init, uint8_t sender,
-                     uint8_t *out, size_t out_len);
+size_t pekdrav_statement_rewrite(const uint8_t *line, size_t line_len, uint8_t *out, size_t out_len);
+
+/* Writes the rows of a schedule and answers their length; 0, with `rows` as they were, if they are too short. With PEKDRAV_ROWS_MAX bytes the schedule is
+ * run once, with fewer it is run twice. */
+size_t pekdrav_schedule_rows(const uint8_t *schedule, size_t schedule_len, uint8_t *rows, size_t rows_len);
+
+/* What any record shows in a ring of this initial view and sender; pekdrav_controller_signers, _evidence and _screen ask it of a controller. */
+
+/* Who signed a statement of this kind, an enum pekdrav_kind, at this view: bit k for controller k. */
+uint32_t pekdrav_record_signers(const struct pekdrav_record *record, const struct pekdrav_pool *pool, uint8_t kind, uint64_t at);
+/* Writes all of `out`. */
+void pekdrav_record_evidence(const struct pekdrav_record *record, const struct pekdrav_pool *pool, uint64_t initial, uint8_t sender,
+                             struct pekdrav_evidence *out);
+/* Writes what the record shows in lines, for a service screen, and answers the text's length; 0, with `out` as it was, if `out` has fewer than
+ * PEKDRAV_SCREEN_MAX bytes. The lines: `wished,VIEW`; then `conflict` and nothing more, or `candidates,COUNT,VIEW,..` (`candidates,many` for more than
+ * sixteen), `greatest,COUNT,VIEW,..` and `certificate,PAYLOAD,stored` (`kept` if it is not stored, `certificate,none` if no payload has one). */
+size_t pekdrav_record_screen(const struct pekdrav_record *record, const struct pekdrav_pool *pool, uint64_t initial, uint8_t sender, uint8_t *out,
+                             size_t out_len);
+
+/* The calls of a controller as the library has them: fields and record are two pointers, and the answer is a byte. Use the functions below. */
+void pekdrav_raw_controller_init(struct pekdrav_fields *fields, struct pekdrav_record *record);
+uint8_t pekdrav_raw_controller_setup(struct pekdrav_fields *fields, struct pekdrav_record *record, uint8_t number, uint16_t members, uint8_t sender,
+                                     uint64_t *value);
+uint8_t pekdrav_raw_controller_join(struct pekdrav_fields *fields, uint64_t *value);
+uint8_t pekdrav_raw_controller_leave(struct pekdrav_fields *fields, uint64_t *value);
+uint8_t pekdrav_raw_controller_send(struct pekdrav_fields *fields, uint64_t payload, uint64_t *value);
+uint8_t pekdrav_raw_controller_add(struct pekdrav_fields *fields, struct pekdrav_record *record, struct pekdrav_pool *pool, const uint8_t *line,
+                                   size_t line_len, uint64_t *value);
+uint8_t pekdrav_raw_controller_turn(struct pekdrav_fields *fields, struct pekdrav_record *record, struct pekdrav_pool *pool, uint64_t *value);
 
 #ifdef __cplusplus
 }
 #endif
+
+/* The view with these sets, and the sets of a view. It is written as eight hexadecimal digits, four of the joined set and four of the left. */
+static inline uint64_t pekdrav_view(uint32_t joined, uint32_t left) { return (uint64_t)left << 32 | joined; }
+static inline uint32_t pekdrav_view_joined(uint64_t view) { return (uint32_t)view; }
+static inline uint32_t pekdrav_view_left(uint64_t view) { return (uint32_t)(view >> 32); }
+
+/* A controller before its setup. */
+static inline void pekdrav_controller_init(struct pekdrav_controller *controller) {
+    pekdrav_raw_controller_init(&controller->fields, &controller->record);
+}
+
+/* Starts controller `number` in the ring of these initial members, bit k for controller k. */
+static inline enum pekdrav_answer pekdrav_controller_setup(struct pekdrav_controller *controller, uint8_t number, uint16_t members, uint8_t sender,
+                                                           uint64_t *value) {
+    return (enum pekdrav_answer)pekdrav_raw_controller_setup(&controller->fields, &controller->record, number, members, sender, value);
+}
+
+/* Note a request, which a later turn acts on; the record has no part in it. */
+static inline enum pekdrav_answer pekdrav_controller_join(struct pekdrav_controller *controller, uint64_t *value) {
+    return (enum pekdrav_answer)pekdrav_raw_controller_join(&controller->fields, value);
+}
+
+static inline enum pekdrav_answer pekdrav_controller_leave(struct pekdrav_controller *controller, uint64_t *value) {
+    return (enum pekdrav_answer)pekdrav_raw_controller_leave(&controller->fields, value);
+}
+
+static inline enum pekdrav_answer pekdrav_controller_send(struct pekdrav_controller *controller, uint64_t payload, uint64_t *value) {
+    return (enum pekdrav_answer)pekdrav_raw_controller_send(&controller->fields, payload, value);
+}
+
+/* Adds the statement that the line is, once the host has checked its signature. */
+static inline enum pekdrav_answer pekdrav_controller_add(struct pekdrav_controller *controller, struct pekdrav_pool *pool, const uint8_t *line,
+                                                         size_t line_len, uint64_t *value) {
+    return (enum pekdrav_answer)pekdrav_raw_controller_add(&controller->fields, &controller->record, pool, line, line_len, value);
+}
+
+/* Does the first step that the rules allow. */
+static inline enum pekdrav_answer pekdrav_controller_turn(struct pekdrav_controller *controller, struct pekdrav_pool *pool, uint64_t *value) {
+    return (enum pekdrav_answer)pekdrav_raw_controller_turn(&controller->fields, &controller->record, pool, value);
+}
+
+/* What the controller's record shows in its ring, as the functions of a record tell it. */
+static inline uint32_t pekdrav_controller_signers(const struct pekdrav_controller *controller, const struct pekdrav_pool *pool, enum pekdrav_kind kind,
+                                                  uint64_t at) {
+    return pekdrav_record_signers(&controller->record, pool, (uint8_t)kind, at);
+}
+
+static inline void pekdrav_controller_evidence(const struct pekdrav_controller *controller, const struct pekdrav_pool *pool,
+                                               struct pekdrav_evidence *out) {
+    pekdrav_record_evidence(&controller->record, pool, controller->fields.initial, (uint8_t)controller->fields.sender, out);
+}
+
+static inline size_t pekdrav_controller_screen(const struct pekdrav_controller *controller, const struct pekdrav_pool *pool, uint8_t *out,
+                                               size_t out_len) {
+    return pekdrav_record_screen(&controller->record, pool, controller->fields.initial, (uint8_t)controller->fields.sender, out, out_len);
+}
 
 #endif

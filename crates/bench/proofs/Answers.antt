@@ -4,31 +4,31 @@ use Prim.Native.Nat.{ℕ, _+_, _<_, _≤_}
 use native.Mathlib.Nat.{zero-add}
 use native.Mathlib.Decide.{decLt}
 use native.Mathlib.Omega.{arith}
-use mathlib.Core.Path.{_≡_, refl, sym, ap, ap₂, subst, _∙_}
+use mathlib.Core.Path.{refl, ap, _∙_}
 use mathlib.Core.List.{List, _++_}
-use lib.ListN.{length, take, drop, length-append}
-use lib.Seq.{sets-eq, take-append-seam}
-use Rattle.bench.specs.Rows.{Printed, Answered}
-use Rattle.bench.specs.Running.{Wrote, Long}
+use lib.ListN.{length, drop, length-append}
+use lib.Seq.{sets-eq}
+use Rattle.bench.specs.Rows.{Answered}
+use Rattle.bench.specs.Running.{PrintedInto, Long}
 use Rattle.bench.proofs.One.{printed-one}
 
-pub wrote-long : {S R : List ℕ} {r : ℕ} {R′ : List ℕ} → Wrote S R r R′ → Long S r
-wrote-long w = record { text = w .text; printed = w .printed; long = w .long; small = w .small }
+pub wrote-long : {S R : List ℕ} {r : ℕ} {R′ : List ℕ} → PrintedInto S R r R′ → Long S r
+wrote-long w = record { text = w .text; printed = w .printed; long = omega (arith, w .wrote .next); small = w .small }
 
 -- the rows have room
-pub has-room : (S R : List ℕ) (r : ℕ) (R′ : List ℕ) (w : Wrote S R r R′) → length (w .text) ≤ length R → Answered S R r R′
+pub has-room : (S R : List ℕ) (r : ℕ) (R′ : List ℕ) (w : PrintedInto S R r R′) → length (w .text) ≤ length R → Answered S R r R′
 has-room S R r R′ w l = record {
   text = w .text;
   printed = w .printed;
   most = w .small;
-  fits = λ h. (w .long, w .rows ∙ sets-eq (w .text) R 0 (omega arith) ∙ ap (λ k. w .text ++ drop k R) (zero-add (length (w .text))));
+  fits = λ h. (omega (arith, w .wrote .next), w .wrote .is ∙ sets-eq (w .text) R 0 (omega arith) ∙ ap (λ k. w .text ++ drop k R) (zero-add (length (w .text))));
   short = λ h. absurd (omega arith);
 }
 
-pub known-room : (S R : List ℕ) (n r : ℕ) (R′ : List ℕ) → Long S n → n ≤ length R → Wrote S R r R′ → Answered S R r R′
+pub known-room : (S R : List ℕ) (n r : ℕ) (R′ : List ℕ) → Long S n → n ≤ length R → PrintedInto S R r R′ → Answered S R r R′
 known-room S R n r R′ k l w = has-room S R r R′ w (omega (arith, k .long, ap length (printed-one S (w .text) (k .text) (w .printed) (k .printed))))
 
-pub large-room : (S R : List ℕ) (r : ℕ) (R′ : List ℕ) → 2621504 ≤ length R → Wrote S R r R′ → Answered S R r R′
+pub large-room : (S R : List ℕ) (r : ℕ) (R′ : List ℕ) → 2621504 ≤ length R → PrintedInto S R r R′ → Answered S R r R′
 large-room S R r R′ l w = has-room S R r R′ w (omega (arith, w .small))
 
 -- the rows have no room
@@ -41,13 +41,7 @@ no-room S R n k l = record {
   short = λ h. (refl, refl);
 }
 
--- what stands in memory that has room is what is printed
-pub answer-printed : (S R : List ℕ) (r : ℕ) (R′ : List ℕ) → Answered S R r R′ → 2621504 ≤ length R → Printed S (take r R′)
-answer-printed S R r R′ a l =
-    let room : length (a .text) ≤ length R = omega (arith, a .most) in
-    subst (Printed S) (sym (ap₂ take (a .fits room .0) (a .fits room .1) ∙ take-append-seam (a .text) (drop (length (a .text)) R))) (a .printed)
-
--- and no more than the memory has
+-- no more is answered than the memory has
 pub answer-within : (S R : List ℕ) (r : ℕ) (R′ : List ℕ) → Answered S R r R′ → r ≤ length R′
 answer-within S R r R′ a = elim (decLt (length R) (length (a .text))) [
   | yes h ↦ omega (arith, a .short h .0)

@@ -2,18 +2,17 @@
 --     reads-one    a line reads as one thing only
 --     printed-one  for a schedule one text is printed
 -- Assumes nothing.
-use Prim.Native.Nat.{ℕ, _^_, _<_, _≤_}
+use Prim.Native.Nat.{ℕ, _^_, _<_}
 use native.Mathlib.Omega.{arith}
 use mathlib.Core.Path.{_≡_, refl, sym, ap, subst, _∙_}
 use mathlib.Core.List.{List, [], _∷_, _++_}
 use mathlib.Core.Option.{Option, some, none}
 use mathlib.Core.Bool.{Bool, true, false, _||_}
 use native.Mathlib.Decide.{decLt}
-use lib.Dec.{T, eqb, ltb}
+use lib.Dec.{eqb, ltb}
 use lib.ListN.{length, drop}
 use borrow.Author.Tests.{lt-ltb}
 use Rattle.protocol.specs.Lists.{if_then_else_}
-use Rattle.protocol.specs.Statement.{Stmt, fieldRules}
 use Rattle.text.specs.Text.{decText, hexText}
 use Rattle.text.proofs.Laws.{dec-same, hex-same}
 use Rattle.statements.specs.Text.{parted, text}
@@ -24,7 +23,7 @@ use Rattle.bench.specs.Rows.{headerText, refusedRow, rowsFrom, Printed}
 use Rattle.schedule.proofs.Words.{verbIs, written-verb, OfVerb, of-verb}
 use Rattle.schedule.proofs.Commands.{follows}
 use Rattle.statements.proofs.Fits.{keeps-fits}
-use Rattle.schedule.proofs.Whole.{written-ended}
+use Rattle.schedule.proofs.Lines.{written-ended}
 
 module _ (T′ : List ℕ) where
   -- what follows a word and its comma

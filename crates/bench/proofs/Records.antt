@@ -3,22 +3,21 @@
 use mathlib.Core.Path.{_≡_, refl, sym, ap, ap₂, subst, _∙_}
 use mathlib.Core.Bool.{Bool, true, false, not, _&&_, _||_}
 use mathlib.Core.List.{List, [], _∷_, _++_, append-assoc, append-nil}
-use Prim.Native.Nat.{ℕ, zero, suc, _+_, _-_, _≤_, _<_, min}
+use Prim.Native.Nat.{ℕ, zero, suc, _+_, _-_, _≤_, _<_}
 use native.Mathlib.Decide.{decLt, ℕ-discrete}
 use native.Mathlib.Numerals.{add-one}
 use native.Mathlib.Nat.{add-zero}
 use native.Mathlib.Omega.{arith}
-use lib.Dec.{T, eqb, ltb}
+use lib.Dec.{T, eqb}
 use lib.ListN.{length, getD, set, replicate, length-replicate, getD-replicate, length-append, length-set}
 use lib.Seq.{getD-set-same, getD-set-other}
-use borrow.Author.Tests.{eq-eqb, ne-eqb, lt-ltb}
+use borrow.Author.Tests.{eq-eqb, ne-eqb}
 use Rattle.protocol.specs.Lists.{if_then_else_, any, filter}
 use Rattle.views.specs.Table.{table}
 use Rattle.views.proofs.Tables.{table-length, table-cong, any-append, any-zero, any-suc, any-at, any-more}
-use Rattle.pool.specs.Pool.{poolLen, recordLen}
+use Rattle.pool.specs.Pool.{poolLen, recordLen, AllIn}
 use Rattle.pool.specs.Changes.{PushedTo}
-use Rattle.engine.specs.Meaning.{AllIn}
-use Rattle.bench.specs.Seats.{numbersIn, listed, Full, Keeps, Below, Marks, Marked, FirstFree, unmarked, Filled}
+use Rattle.bench.specs.Seats.{numbersIn, hasNumber, Full, Keeps, NumbersBelow, Marks, Marked, FirstFree, unmarked, RecordFilled}
 
 -- ---- which numbers a record has
 
@@ -32,12 +31,12 @@ module _ (f : ℕ → ℕ) (n : ℕ) where
   pub number-at : (m i : ℕ) → i < m → f i ≡ n → any (eqb n) (table m f) ≡ true
   number-at m i l e = any-at (eqb n) f m l (eq-eqb n (f i) (sym e))
 
-pub listed-yes : (R : List ℕ) (n i : ℕ) → i < recordLen R → getD R i 0 ≡ n → true ≡ listed R n
-unfolding listed numbersIn
+pub listed-yes : (R : List ℕ) (n i : ℕ) → i < recordLen R → getD R i 0 ≡ n → true ≡ hasNumber R n
+unfolding hasNumber numbersIn
 listed-yes R n i l e = sym (number-at (ids R) n (recordLen R) i l e)
 
-pub listed-no : (R : List ℕ) (n i : ℕ) → i ≡ recordLen R → any (eqb n) (table i (ids R)) ≡ false → false ≡ listed R n
-unfolding listed numbersIn
+pub listed-no : (R : List ℕ) (n i : ℕ) → i ≡ recordLen R → any (eqb n) (table i (ids R)) ≡ false → false ≡ hasNumber R n
+unfolding hasNumber numbersIn
 listed-no R n i l e = sym (subst (λ m. any (eqb n) (table m (ids R)) ≡ false) l e)
 
 -- a record that has what another has
@@ -60,8 +59,8 @@ numbers-pushed R R′ id p l =
     (let e : recordLen R′ ≡ suc (recordLen R) = omega (arith, p .len) in ap (λ m. table m (ids R′)) e)
     ∙ ap₂ (λ t x. t ++ (x ∷ [])) (table-cong (recordLen R) (ids R′) (ids R) (p .first)) (p .last l)
 
-listed-by : (R R′ : List ℕ) (L : List ℕ) (i : ℕ) → numbersIn R′ ≡ numbersIn R ++ L → listed R i ≡ true → listed R′ i ≡ true
-unfolding listed
+listed-by : (R R′ : List ℕ) (L : List ℕ) (i : ℕ) → numbersIn R′ ≡ numbersIn R ++ L → hasNumber R i ≡ true → hasNumber R′ i ≡ true
+unfolding hasNumber
 listed-by R R′ L i q e = ap (any (eqb i)) q ∙ any-append (eqb i) (numbersIn R) L ∙ ap (λ b. b || any (eqb i) L) e
 
 numbers-full : (R R′ : List ℕ) (id : ℕ) → PushedTo R id R′ → (recordLen R < 512 → ⊥) → numbersIn R′ ≡ numbersIn R ++ []
@@ -77,27 +76,27 @@ keeps-pushed R R′ id p i e = elim (decLt (recordLen R) 512) [
   | no l ↦ listed-by R R′ [] i (numbers-full R R′ id p l) e
 ]
 
-pub below-pushed : (R R′ : List ℕ) (id m : ℕ) → PushedTo R id R′ → id < m → Below R m → Below R′ m
-unfolding Below
+pub below-pushed : (R R′ : List ℕ) (id m : ℕ) → PushedTo R id R′ → id < m → NumbersBelow R m → NumbersBelow R′ m
+unfolding NumbersBelow
 below-pushed R R′ id m p l b j h = elim (decLt j (recordLen R)) [
   | yes a ↦ (let q = p .first j a in let v = b j a in omega arith)
   | no a ↦ (let q : recordLen R ≡ j = omega (arith, p .len) in let v = p .last (omega (arith, p .len)) in subst (λ x. getD R′ x 0 < m) q (omega arith))
 ]
 
-pub within-pool : (W R : List ℕ) → AllIn W R → Below R (poolLen W)
-unfolding AllIn Below
+pub within-pool : (W R : List ℕ) → AllIn W R → NumbersBelow R (poolLen W)
+unfolding AllIn NumbersBelow
 within-pool W R w = w
 
-pub pool-within : (W R : List ℕ) → Below R (poolLen W) → AllIn W R
-unfolding AllIn Below
+pub pool-within : (W R : List ℕ) → NumbersBelow R (poolLen W) → AllIn W R
+unfolding AllIn NumbersBelow
 pool-within W R w = w
 
 pub pool-most : (W : List ℕ) → poolLen W ≤ 512
 unfolding poolLen
 pool-most W = omega arith
 
-pub in-pool-below : (W R : List ℕ) → AllIn W R → Below R 512
-unfolding AllIn Below
+pub in-pool-below : (W R : List ℕ) → AllIn W R → NumbersBelow R 512
+unfolding AllIn NumbersBelow
 in-pool-below W R w i h = let a = w i h in omega (arith, pool-most W)
 
 -- ---- marks
@@ -135,11 +134,11 @@ module _ (f : ℕ → ℕ) where
   marks-stored i id marks e l m = subst (λ x. MarksTo f (i + 1) (set marks x true)) (sym e) (marks-next i marks (omega arith) m)
 
 pub marks-are : (R : List ℕ) (i : ℕ) (marks : List Bool) → i ≡ recordLen R → MarksTo (ids R) i marks → Marks R marks
-unfolding listed numbersIn
+unfolding hasNumber numbersIn
 marks-are R i marks e m = record { tells = λ n h. m .tells n h ∙ ap (λ j. any (eqb n) (table j (ids R))) e }
 
-pub number-below : (R : List ℕ) (m i : ℕ) → Below R m → i < recordLen R → getD R i 0 < m
-unfolding Below
+pub number-below : (R : List ℕ) (m i : ℕ) → NumbersBelow R m → i < recordLen R → getD R i 0 < m
+unfolding NumbersBelow
 number-below R m i b l = b i l
 
 -- one mark more
@@ -256,7 +255,7 @@ module _ (marks : List Bool) where
 
   -- the record with the first of them at its end
 
-  pub fill-first : (R : List ℕ) (j n : ℕ) → FirstFree marks 0 n j → Filled R marks j R
+  pub fill-first : (R : List ℕ) (j n : ℕ) → FirstFree marks 0 n j → RecordFilled R marks j R
   fill-first R j n f =
       let e : unmarked marks j ≡ [] = unmarked-over 0 j (omega arith) (f .passed) ∙ unmarked-none in
       record { numbers = λ l. sym (ap (λ t. numbersIn R ++ t) e ∙ append-nil (numbersIn R)); below = λ m l b. b }
@@ -265,7 +264,7 @@ module _ (marks : List Bool) where
   unfolding numbersIn
   numbers-length R = table-length (recordLen R) (ids R)
 
-  pub fill-next : (R R′ R″ : List ℕ) (i j n : ℕ) → getD marks i false ≡ false → FirstFree marks (i + 1) n j → Filled R marks i R′ → PushedTo R′ i R″ → Filled R marks j R″
+  pub fill-next : (R R′ R″ : List ℕ) (i j n : ℕ) → getD marks i false ≡ false → FirstFree marks (i + 1) n j → RecordFilled R marks i R′ → PushedTo R′ i R″ → RecordFilled R marks j R″
   fill-next R R′ R″ i j n e f m p =
       let q : unmarked marks j ≡ unmarked marks i ++ (i ∷ []) = unmarked-after i j n e f in
       let s : length (unmarked marks j) ≡ length (unmarked marks i) + 1 = ap length q ∙ length-append (unmarked marks i) (i ∷ []) in
@@ -277,11 +276,11 @@ module _ (marks : List Bool) where
         below = λ m′ l b. below-pushed R′ R″ i m′ p (omega (arith, f .from)) (m .below m′ (omega (arith, f .from)) b);
       }
 
-  pub fill-end : (R R′ : List ℕ) (i n : ℕ) → i ≡ n → Filled R marks i R′ → Filled R marks n R′
-  fill-end R R′ i n e f = subst (λ m. Filled R marks m R′) e f
+  pub fill-end : (R R′ : List ℕ) (i n : ℕ) → i ≡ n → RecordFilled R marks i R′ → RecordFilled R marks n R′
+  fill-end R R′ i n e f = subst (λ m. RecordFilled R marks m R′) e f
 
   -- nothing is missing
-  pub fill-none : (R : List ℕ) (n : ℕ) → length (unmarked marks n) ≡ 0 → Filled R marks n R
+  pub fill-none : (R : List ℕ) (n : ℕ) → length (unmarked marks n) ≡ 0 → RecordFilled R marks n R
   fill-none R n e = record { numbers = λ l. sym (ap (λ t. numbersIn R ++ t) (nil (unmarked marks n) e) ∙ append-nil (numbersIn R)); below = λ m l b. b }
     where
       nil : (l : List ℕ) → length l ≡ 0 → l ≡ []
@@ -303,9 +302,9 @@ module _ (marks : List Bool) where
         ∙ or-true (any (eqb i) (unmarked marks n)))
   ])
 
-  module _ (R R′ : List ℕ) (n : ℕ) (t : Marks R marks) (f : Filled R marks n R′) (room : recordLen R + length (unmarked marks n) ≤ 512) where
-    listed-filled : (i : ℕ) → listed R′ i ≡ (listed R i || any (eqb i) (unmarked marks n))
-    unfolding listed
+  module _ (R R′ : List ℕ) (n : ℕ) (t : Marks R marks) (f : RecordFilled R marks n R′) (room : recordLen R + length (unmarked marks n) ≤ 512) where
+    listed-filled : (i : ℕ) → hasNumber R′ i ≡ (hasNumber R i || any (eqb i) (unmarked marks n))
+    unfolding hasNumber
     listed-filled i = ap (any (eqb i)) (f .numbers room) ∙ any-append (eqb i) (numbersIn R) (unmarked marks n)
 
     pub keeps-filled : Keeps R R′
@@ -314,8 +313,8 @@ module _ (marks : List Bool) where
 
     pub full-filled : n ≤ 512 → Full R′ n
     unfolding Full
-    full-filled l i h = listed-filled i ∙ go (listed R i) refl
+    full-filled l i h = listed-filled i ∙ go (hasNumber R i) refl
       where
-        go : (b : Bool) → listed R i ≡ b → (listed R i || any (eqb i) (unmarked marks n)) ≡ true
+        go : (b : Bool) → hasNumber R i ≡ b → (hasNumber R i || any (eqb i) (unmarked marks n)) ≡ true
         go true e = ap (λ b. b || any (eqb i) (unmarked marks n)) e
         go false e = ap₂ _||_ e (any-unmarked n i h (t .tells i (omega arith) ∙ e))

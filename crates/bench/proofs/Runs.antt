@@ -5,7 +5,7 @@ use mathlib.Core.Logic.{_⊎_, inl, inr}
 use mathlib.Core.Bool.{Bool, true, false, _||_}
 use mathlib.Core.List.{List, [], _∷_, _++_, append-assoc, append-nil}
 use mathlib.Core.Option.{Option, some, none}
-use Prim.Native.Nat.{ℕ, zero, suc, _+_, _-_, _*_, _≤_, _<_}
+use Prim.Native.Nat.{ℕ, zero, suc, _+_, _-_, _≤_, _<_}
 use native.Mathlib.Decide.{decLt, ℕ-discrete}
 use native.Mathlib.Numerals.{add-one}
 use native.Mathlib.Omega.{arith}
@@ -13,46 +13,47 @@ use lib.Dec.{eqb, ltb}
 use lib.ListN.{length, getD, set, take, drop, replicate, length-replicate, getD-replicate, length-set, length-take, length-drop, length-append, drop-of-length-le}
 use lib.Seq.{sets, length-sets, getD-set-same, getD-set-other, set-getD, ext-getD, drop-drop, take-all}
 use borrow.Author.Tests.{lt-ltb, le-ltb, eq-eqb, ne-eqb}
-use Rattle.protocol.specs.Lists.{if_then_else_}
 use Rattle.protocol.specs.View.{controllers}
 use Rattle.protocol.specs.Controller as controller
 use Rattle.protocol.specs.Call.{setupAllowed, started}
-use Rattle.text.proofs.Stores.{sets-append}
+use Rattle.text.specs.Written.{Wrote}
+use Rattle.text.proofs.Stores.{both}
 use Rattle.views.specs.Table.{table}
 use Rattle.views.proofs.Tables.{table-length, table-at, table-cong}
-use Rattle.pool.specs.Pool.{stmtAt, poolLen, recordOf, recordLen, recordIn}
+use Rattle.pool.specs.Pool.{stmtAt, poolLen, recordUpTo, recordLen, recordIn, AllIn, Grows}
 use Rattle.engine.specs.declared.Controller.{Controller}
 use Rattle.engine.specs.declared.Outcome.{Outcome}
 use Rattle.engine.specs.declared.Answer.{Answer}
 use Rattle.engine.specs.declared.Answer.the-variants.{Taken, Signed, Entered, Delivered, Left, Quiet, Refused}
-use Rattle.engine.specs.Meaning.{controllerIs, poolIs, AllIn, answerIs}
+use Rattle.engine.specs.Meaning.{controllerIs, answerIs}
 use Rattle.schedule.specs.declared.line.Line.{Line as Held}
 use Rattle.schedule.specs.declared.line.Parsed.the-variants.{Readable, Unreadable}
 use Rattle.schedule.specs.declared.line.ReadLine.{ReadLine}
+use Rattle.protocol.proofs.Found.{if-true, if-false}
 use Rattle.bench.specs.declared.row.Word.the-variants as word
 use Rattle.bench.specs.declared.row.Value.the-variants as value
 use Rattle.bench.specs.declared.state.Setting.{Setting}
-use Rattle.bench.specs.declared.state.Stepped.{Stepped}
+use Rattle.bench.specs.declared.state.Effect.{Effect}
 use Rattle.bench.specs.declared.row.Word.{Word}
 use Rattle.bench.specs.declared.row.Value.{Value}
 use Rattle.bench.specs.declared.lines.Place.{Place}
 use Rattle.bench.specs.declared.lines.Moved.{Moved}
 use Rattle.schedule.specs.Line.{Line, ended, lines, Reads, ReadAll}
 use Rattle.schedule.specs.Reading.{meant, Tells, ReadAs, LineOf}
-use Rattle.schedule.proofs.Whole.{line-ended, line-tells}
+use Rattle.schedule.proofs.Lines.{line-ended, line-tells}
 use Rattle.bench.specs.Bench as bench
 use Rattle.bench.specs.Bench.{Seat, emptySeat, Bench, Reply, newBench, step}
 use Rattle.bench.specs.Rows.{rowText, headerText, rowsFrom, refusedRow, Printed}
-use Rattle.bench.specs.Writing.{wordFor, valueIs, rowOf, Shows}
-use Rattle.bench.specs.Seats.{blank, seatIs, benchOf, Distinct, Sound, Grows, Full, Keeps, Fit, seatOf, seatsAfter, replyIs, numberIs, changesIs, CalledAt, Called, Needless, Advanced, SteppedBy, wordOf, valueOf}
-use Rattle.bench.specs.Running.{rowIs, seatsIs, benchIs, Kept, Fulls, Started, Reading, Going, Begins, Room, Passed, Put, fullAfter, LineRun, Ran, Wrote}
+use Rattle.bench.specs.Writing.{wordFor, valueIs, rowOf}
+use Rattle.bench.specs.Seats.{blank, seatIs, benchOf, Sound, Full, Keeps, ReadFrom, seatOf, seatsAfter, replyIs, numberIs, changesIs, CalledAtSeat, CalledByLine, LacksNothing, Advanced, SteppedBy, wordOfAnswer, valueOfAnswer}
+use Rattle.bench.specs.Running.{rowIs, seatsIs, benchIs, BenchKept, Fulls, Started, Reading, RunSoFar, AtStart, HasRoom, RowWritten, RowPut, fullAfter, LineRun, Ran, PrintedInto}
 use Rattle.bench.proofs.Rows.{shown}
 use Rattle.bench.proofs.Records.{full-none, full-kept}
 use Rattle.bench.proofs.States.{fit-seat, record-kept, whole-kept, no-pool}
 
 -- ---- a row is that of the reply
 
-shows : (W : List ℕ) (a : Answer) (n : ℕ) → (wordFor (answerIs W a) ≡ wordOf a) × (controller.answerValue n (answerIs W a) ≡ valueIs (valueOf a n))
+shows : (W : List ℕ) (a : Answer) (n : ℕ) → (wordFor (answerIs W a) ≡ wordOfAnswer a) × (controller.answerValue n (answerIs W a) ≡ valueIs (valueOfAnswer a n))
 unfolding answerIs
 shows W Taken n = (refl, refl)
 shows W (Signed i) n = (refl, refl)
@@ -69,17 +70,22 @@ row-is W n who a number = shown n (record { named = refl; word = shows W a numbe
 refused-row : (n : ℕ) → rowOf n 16 word.Refused (value.Number 8) ≡ rowText n (record { who = 16; answer = controller.refused controller.outOfPlace; number = 0 })
 refused-row n = shown n (record { named = refl; word = refl; value = refl })
 
+-- the only row of a schedule that is not run
+pub refused-wrote : {R R′ : List ℕ} {r : ℕ} → Wrote R 22 (rowOf 0 16 word.Refused (value.Number 8)) r R′ × (length (rowOf 0 16 word.Refused (value.Number 8)) ≤ 40)
+    → Wrote R 22 refusedRow r R′ × (length refusedRow ≤ 40)
+refused-wrote {R} {R′} {r} w = subst (λ t. Wrote R 22 t r R′ × (length t ≤ 40)) (refused-row 0) w
+
 taken-row : (n who : ℕ) → rowOf n who word.Taken (value.Number 0) ≡ rowText n (record { who = who; answer = controller.taken; number = 0 })
 taken-row n who = shown n (record { named = refl; word = refl; value = refl })
 
-passed-as : {R : List ℕ} {place : Place} {next : ℕ} {row row′ : List ℕ} {on : Place} {R′ : List ℕ} → row ≡ row′ → Passed R place next row on R′ → Passed R place next row′ on R′
-passed-as {R} {place} {next} {row} {row′} {on} {R′} e p = subst (λ t. Passed R place next t on R′) e p
+passed-as : {R : List ℕ} {place : Place} {next : ℕ} {row row′ : List ℕ} {on : Place} {R′ : List ℕ} → row ≡ row′ → RowWritten R place next row on R′ → RowWritten R place next row′ on R′
+passed-as {R} {place} {next} {row} {row′} {on} {R′} e p = subst (λ t. RowWritten R place next t on R′) e p
 
 -- the row of an answer
-pub put-answer : (R : List ℕ) (place : Place) (next who : ℕ) (a : Answer) (number : ℕ) (on : Place) (R′ : List ℕ) {w : Word} {v : Value} → w ≡ wordOf a → v ≡ valueOf a number
-    → Put R place next (rowOf (place .n) who w v) on R′ → Put R place next (rowIs (place .n) who a number) on R′
+pub put-answer : (R : List ℕ) (place : Place) (next who : ℕ) (a : Answer) (number : ℕ) (on : Place) (R′ : List ℕ) {w : Word} {v : Value} → w ≡ wordOfAnswer a → v ≡ valueOfAnswer a number
+    → RowPut R place next (rowOf (place .n) who w v) on R′ → RowPut R place next (rowIs (place .n) who a number) on R′
 unfolding rowIs
-put-answer R place next who a number on R′ e f p = subst (λ t. Put R place next t on R′) (ap₂ (rowOf (place .n) who) e f) p
+put-answer R place next who a number on R′ e f p = subst (λ t. RowPut R place next t on R′) (ap₂ (rowOf (place .n) who) e f) p
 
 -- ---- the seats after a line
 
@@ -102,7 +108,7 @@ others-none cs k = record { long = refl; same = λ i e. refl }
 others-set : (cs : List Controller) (k : ℕ) (d : Controller) → Others cs k (set cs k d)
 others-set cs k d = record { long = length-set cs k d; same = λ i e. getD-set-other cs k i d blank e }
 
-module _ (W W′ : List ℕ) (cs cs′ : List Controller) (Rs : List (List ℕ)) (R′ : List ℕ) (k : ℕ) (h : k < 16) (m : Kept W cs Rs) (g : Grows W W′) (o : Others cs k cs′) where
+module _ (W W′ : List ℕ) (cs cs′ : List Controller) (Rs : List (List ℕ)) (R′ : List ℕ) (k : ℕ) (h : k < 16) (m : BenchKept W cs Rs) (g : Grows W W′) (o : Others cs k cs′) where
   abbrev one : List Seat
   one = set (seatsIs W cs Rs) k (seatIs W′ (getD cs′ k blank) R′)
 
@@ -121,7 +127,7 @@ module _ (W W′ : List ℕ) (cs cs′ : List Controller) (Rs : List (List ℕ))
             ∙ sym (seat-there W′ cs′ (set Rs k R′) i b)
       ])
 
-  kept-set : Sound W′ R′ → Kept W′ cs′ (set Rs k R′)
+  kept-set : Sound W′ R′ → BenchKept W′ cs′ (set Rs k R′)
   kept-set s = record {
     distinct = s .distinct;
     long = o .long ∙ m .long;
@@ -152,20 +158,14 @@ fulls-none Rs m e = record {
   each = λ k l. subst (Full (getD Rs k [])) (sym (getD-replicate m k 0 0 (omega arith))) (full-none (getD Rs k []));
 }
 
-pick-false : {A : Type 0} (b : Bool) (x y : A) → b ≡ false → (if b then x else y) ≡ y
-pick-false b x y e = rw e
-
-pick-true : {A : Type 0} (b : Bool) (x y : A) → b ≡ true → (if b then x else y) ≡ x
-pick-true b x y e = rw e
-
 -- ---- a line that calls a controller
 
 -- the controller is stored where it changed
 abbrev pub Stored : List Controller → ℕ → Outcome → List Controller → Type 0
 Stored cs k o cs′ = ((changesIs (o .answer) ≡ true) × (cs′ ≡ set cs k (o .controller))) ⊎ ((changesIs (o .answer) ≡ false) × (cs′ ≡ cs))
 
-module _ (g : Setting) (W W′ : List ℕ) (cs cs′ : List Controller) (Rs : List (List ℕ)) (R′ : List ℕ) (k : ℕ) (l : Line) (o : Outcome) (h : k < 16) (m : Kept W cs Rs)
-    (a : CalledAt W (getD Rs k []) (getD cs k blank) k l o W′ R′) (t : Stored cs k o cs′) where
+module _ (g : Setting) (W W′ : List ℕ) (cs cs′ : List Controller) (Rs : List (List ℕ)) (R′ : List ℕ) (k : ℕ) (l : Line) (o : Outcome) (h : k < 16) (m : BenchKept W cs Rs)
+    (a : CalledAtSeat W (getD Rs k []) (getD cs k blank) k l o W′ R′) (t : Stored cs k o cs′) where
   call-others : Others cs k cs′
   call-others = go t
     where
@@ -185,12 +185,12 @@ module _ (g : Setting) (W W′ : List ℕ) (cs cs′ : List Controller) (Rs : Li
       ∙ ap (λ X. record { reply = replyIs W′ k (o .answer) (numberIs (o .answer)); bench = benchOf (g .ready) (g .faulty) X W′ })
       (ap (λ c. set (seatsIs W cs Rs) k (record { controller = c; statements = recordIn W′ R′ })) controller-after ∙ seats-set W W′ cs cs′ Rs R′ k h m (a .grows) call-others)
 
-  call-kept : Kept W′ cs′ (set Rs k R′)
+  call-kept : BenchKept W′ cs′ (set Rs k R′)
   call-kept = kept-set W W′ cs cs′ Rs R′ k h m (a .grows) call-others (a .sound)
 
 -- ---- a line that calls none
 
-module _ (g : Setting) (W W′ : List ℕ) (cs : List Controller) (Rs : List (List ℕ)) (R′ : List ℕ) (k : ℕ) (l : Line) (y : Reply) (n : Setting) (fresh : Bool) (h : k < 16) (m : Kept W cs Rs)
+module _ (g : Setting) (W W′ : List ℕ) (cs : List Controller) (Rs : List (List ℕ)) (R′ : List ℕ) (k : ℕ) (l : Line) (y : Reply) (n : Setting) (fresh : Bool) (h : k < 16) (m : BenchKept W cs Rs)
     (a : Advanced W (getD Rs k []) g k l y n fresh W′ R′) where
   abbrev X₀ : List Seat
   X₀ = seatsIs W cs Rs
@@ -203,26 +203,26 @@ module _ (g : Setting) (W W′ : List ℕ) (cs : List Controller) (Rs : List (Li
 
   line-left : fresh ≡ false → step (benchIs g W cs Rs) (some l) ≡ record { reply = y; bench = benchIs n W′ cs (set Rs k R′) }
   line-left e = went ∙ ap (λ X. record { reply = y; bench = benchOf (n .ready) (n .faulty) X W′ })
-      (pick-false fresh begins (set X₀ k (record { controller = getD X₀ k emptySeat .controller; statements = recordIn W′ R′ })) e
+      (if-false fresh begins (set X₀ k (record { controller = getD X₀ k emptySeat .controller; statements = recordIn W′ R′ })) e
       ∙ ap (λ (s : Seat). set X₀ k (record { controller = s .controller; statements = recordIn W′ R′ })) (seat-there W cs Rs k h)
       ∙ seats-set W W′ cs cs Rs R′ k h m (a .grows e) (others-none cs k))
 
-  line-kept : fresh ≡ false → Kept W′ cs (set Rs k R′)
+  line-kept : fresh ≡ false → BenchKept W′ cs (set Rs k R′)
   line-kept e = kept-set W W′ cs cs Rs R′ k h m (a .grows e) (others-none cs k) (a .sound e)
 
   module _ (cs″ : List Controller) (Rs″ : List (List ℕ)) (s : Started (n .members) (n .sender) cs″ Rs″) where
     empty-record : (j : ℕ) → j < 16 → recordIn W′ (getD Rs″ j []) ≡ []
-    unfolding recordOf table
+    unfolding recordUpTo table
     empty-record j b = ap (λ i. table i (λ i. stmtAt W′ (getD (getD Rs″ j []) i 0))) (s .each j b .1)
 
     fresh-left : fresh ≡ true → step (benchIs g W cs Rs) (some l) ≡ record { reply = y; bench = benchIs n W′ cs″ Rs″ }
     unfolding seatsIs
     fresh-left e = went ∙ ap (λ X. record { reply = y; bench = benchOf (n .ready) (n .faulty) X W′ })
-        (pick-true fresh begins (set X₀ k (record { controller = getD X₀ k emptySeat .controller; statements = recordIn W′ R′ })) e
+        (if-true fresh begins (set X₀ k (record { controller = getD X₀ k emptySeat .controller; statements = recordIn W′ R′ })) e
         ∙ table-cong 16 (λ j. record { controller = started j (n .members) (n .sender); statements = [] }) (λ j. seatIs W′ (getD cs″ j blank) (getD Rs″ j []))
         (λ j b. ap₂ (λ x z. record { controller = x; statements = z }) (sym (s .each j b .0)) (sym (empty-record j b))))
 
-    fresh-kept : fresh ≡ true → Kept W′ cs″ Rs″
+    fresh-kept : fresh ≡ true → BenchKept W′ cs″ Rs″
     unfolding AllIn
     fresh-kept e = record {
       distinct = record { tells = λ i j a′ b. absurd (omega (arith, a .begun e .0)) };
@@ -233,9 +233,9 @@ module _ (g : Setting) (W W′ : List ℕ) (cs : List Controller) (Rs : List (Li
 
 -- ---- one line more
 
-module _ (S : List ℕ) (place on : Place) (b b′ : Bench) (R R′ R″ : List ℕ) (going : Going S place b R R′) (r : ReadLine) (of : LineOf (drop (place .at) S) r) (more : place .at < length S)
+module _ (S : List ℕ) (place on : Place) (b b′ : Bench) (R R′ R″ : List ℕ) (going : RunSoFar S place b R R′) (r : ReadLine) (of : LineOf (drop (place .at) S) r) (more : place .at < length S)
     (this : Option Line) (is-this : Reads (take (r .next) (drop (place .at) S)) this) (reply : Reply) (left : step b this ≡ record { reply = reply; bench = b′ })
-    (p : Passed R′ place (r .next) (rowText (place .n) reply) on R″) where
+    (p : RowWritten R′ place (r .next) (rowText (place .n) reply) on R″) where
   abbrev row : List ℕ
   row = rowText (place .n) reply
 
@@ -257,11 +257,10 @@ module _ (S : List ℕ) (place on : Place) (b b′ : Bench) (R R′ R″ : List 
             ∙ ap (λ t. (going .printed ++ row) ++ rowsFrom t b′ L) (sym (p .number ∙ add-one (place .n)));
       }
 
-  goes-on : Going S on b′ R R″
+  goes-on : RunSoFar S on b′ R R″
   goes-on = record {
     printed = going .printed ++ row;
-    rows = p .rows ∙ ap₂ (λ t o. sets t o row) (going .rows) (going .end) ∙ sym (sets-append (going .printed) row R 22);
-    end = omega (arith, p .end, going .end, length-append (going .printed) row);
+    wrote = both (going .wrote) (p .wrote);
     small = omega (arith, p .small, p .at, going .small, length-append (going .printed) row, of .moves some-left);
     number = omega (arith, p .number, p .at, going .number, of .moves some-left);
     within = omega (arith, p .at, of .within, length-drop (place .at) S, going .within);
@@ -279,11 +278,11 @@ module _ (S : List ℕ) (place : Place) (r : ReadLine) (of : LineOf (take (lengt
   next-moves l = part-read S (place .at) r of .moves (omega (arith, length-drop (place .at) S))
 
   -- the measure falls
-  pub less : {R R′ row : List ℕ} {on : Place} → place .at < length S → Passed R place (r .next) row on R′ → length S - on .at < length S - place .at
+  pub less : {R R′ row : List ℕ} {on : Place} → place .at < length S → RowWritten R place (r .next) row on R′ → length S - on .at < length S - place .at
   less l p = omega (arith, p .at, next-moves l, next-within (omega arith))
 
-  pub room : {b : Bench} {R R′ : List ℕ} → Going S place b R R′ → length S ≤ 65536 → place .at < length S → Room place (r .next)
-  room g s m = record { out = omega (arith, g .end, g .small); number = omega (arith, g .number); at = omega (arith, next-within (omega arith)) }
+  pub room : {b : Bench} {R R′ : List ℕ} → RunSoFar S place b R R′ → length S ≤ 65536 → place .at < length S → HasRoom place (r .next)
+  room g s m = record { out = omega (arith, g .wrote .next, g .small); number = omega (arith, g .number); at = omega (arith, next-within (omega arith)) }
 
   -- a line that reads
   module _ (l : Held) (e : r .parsed ≡ Readable l) where
@@ -303,30 +302,30 @@ module _ (S : List ℕ) (place : Place) (r : ReadLine) (of : LineOf (take (lengt
     line-reads : (this : Line) → Reads (ended body) (some this) → Reads (take (r .next) (drop (place .at) S)) (some this)
     line-reads this t = subst (λ s. Reads s (some this)) (sym body-ended) t
 
-    pub line-fits : Fit l body
+    pub line-fits : ReadFrom l body
     line-fits = record { tells = subst (λ t. Tells (meant l) (ended t)) (sym body-is) (line-tells (drop (place .at) S) r (part-read S (place .at) r of) l e) }
 
     pub line-seat : {k : ℕ} → k ≡ seatOf (Readable l) → k < 16
     line-seat q = omega (arith, q, fit-seat l line-fits)
 
-    pub room-body : {b : Bench} {R R′ : List ℕ} → Going S place b R R′ → length S ≤ 65536 → place .at < length S → Room place (length body + 1)
-    room-body g s m = subst (Room place) (sym (body-long m)) (room g s m)
+    pub room-body : {b : Bench} {R R′ : List ℕ} → RunSoFar S place b R R′ → length S ≤ 65536 → place .at < length S → HasRoom place (length body + 1)
+    room-body g s m = subst (HasRoom place) (sym (body-long m)) (room g s m)
 
     -- one that calls
-    module _ (W W′ : List ℕ) (cs cs′ : List Controller) (Rs : List (List ℕ)) (fs R′ : List ℕ) (k : ℕ) (q : k ≡ seatOf (Readable l)) (m : Kept W cs Rs) (w : Fulls Rs fs) (o : Outcome)
-        (a : Called W (getD Rs k []) (getD cs k blank) l o W′ R′) (t : Stored cs k o cs′) where
-      at-seat : CalledAt W (getD Rs k []) (getD cs k blank) k (a .line) o W′ R′
-      at-seat = subst (λ j. CalledAt W (getD Rs k []) (getD cs k blank) j (a .line) o W′ R′) (sym q) (a .called)
+    module _ (W W′ : List ℕ) (cs cs′ : List Controller) (Rs : List (List ℕ)) (fs R′ : List ℕ) (k : ℕ) (q : k ≡ seatOf (Readable l)) (m : BenchKept W cs Rs) (w : Fulls Rs fs) (o : Outcome)
+        (a : CalledByLine W (getD Rs k []) (getD cs k blank) l o W′ R′) (t : Stored cs k o cs′) where
+      at-seat : CalledAtSeat W (getD Rs k []) (getD cs k blank) k (a .line) o W′ R′
+      at-seat = subst (λ j. CalledAtSeat W (getD Rs k []) (getD cs k blank) j (a .line) o W′ R′) (sym q) (a .called)
 
       call-reads : Reads (ended body) (some (a .line))
       call-reads = subst (λ u. Tells u (ended body)) (a .means) (line-fits .tells)
 
-      pub call-on : {R₀ rows rows′ : List ℕ} {on : Place} {number : ℕ} → Going S place (benchIs (place .setting) W cs Rs) R₀ rows → place .at < length S → number ≡ numberIs (o .answer)
-          → Put rows place (r .next) (rowIs (place .n) k (o .answer) number) on rows′
-          → Kept W′ cs′ (set Rs k R′) × Going S on (benchIs (on .setting) W′ cs′ (set Rs k R′)) R₀ rows′ × Fulls (set Rs k R′) fs
+      pub call-on : {R₀ rows rows′ : List ℕ} {on : Place} {number : ℕ} → RunSoFar S place (benchIs (place .setting) W cs Rs) R₀ rows → place .at < length S → number ≡ numberIs (o .answer)
+          → RowPut rows place (r .next) (rowIs (place .n) k (o .answer) number) on rows′
+          → BenchKept W′ cs′ (set Rs k R′) × RunSoFar S on (benchIs (on .setting) W′ cs′ (set Rs k R′)) R₀ rows′ × Fulls (set Rs k R′) fs
       call-on {R₀} {rows} {rows′} {on} {number} going more z p = (
         call-kept (place .setting) W W′ cs cs′ Rs R′ k (a .line) o (line-seat q) m at-seat t,
-        subst (λ g. Going S on (benchIs g W′ cs′ (set Rs k R′)) R₀ rows′) (sym (p .setting))
+        subst (λ g. RunSoFar S on (benchIs g W′ cs′ (set Rs k R′)) R₀ rows′) (sym (p .setting))
             (goes-on S place on (benchIs (place .setting) W cs Rs) (benchIs (place .setting) W′ cs′ (set Rs k R′)) R₀ rows rows′ going r (part-read S (place .at) r of) more (some (a .line)) (line-reads (a .line) call-reads)
             (replyIs W′ k (o .answer) (numberIs (o .answer))) (call-left (place .setting) W W′ cs cs′ Rs R′ k (a .line) o (line-seat q) m at-seat t)
             (passed-as (ap (rowIs (place .n) k (o .answer)) z ∙ row-is W′ (place .n) k (o .answer) (numberIs (o .answer))) (p .passed))),
@@ -334,7 +333,7 @@ module _ (S : List ℕ) (place : Place) (r : ReadLine) (of : LineOf (take (lengt
       )
 
     -- one that finds nothing to do
-    module _ (W : List ℕ) (cs : List Controller) (Rs : List (List ℕ)) (fs : List ℕ) (k : ℕ) (q : k ≡ seatOf (Readable l)) (m : Kept W cs Rs) (w : Fulls Rs fs) (idle : Needless W (place .setting) (getD fs k 0) l) where
+    module _ (W : List ℕ) (cs : List Controller) (Rs : List (List ℕ)) (fs : List ℕ) (k : ℕ) (q : k ≡ seatOf (Readable l)) (m : BenchKept W cs Rs) (w : Fulls Rs fs) (idle : LacksNothing W (place .setting) (getD fs k 0) l) where
       idle-reads : Reads (ended body) (some (idle .line))
       idle-reads = subst (λ u. Tells u (ended body)) (idle .means) (line-fits .tells)
 
@@ -342,11 +341,11 @@ module _ (S : List ℕ) (place : Place) (r : ReadLine) (of : LineOf (take (lengt
       idle-left = idle .steps (getD Rs k []) (record { distinct = m .distinct; whole = m .whole k (line-seat q) }) (w .each k (line-seat q)) (seatsIs W cs Rs)
           (ap (λ j. getD (seatsIs W cs Rs) j emptySeat .statements) (sym q) ∙ ap (λ (s : Seat). s .statements) (seat-there W cs Rs k (line-seat q)))
 
-      pub idle-on : {R₀ rows rows′ : List ℕ} {on : Place} → Going S place (benchIs (place .setting) W cs Rs) R₀ rows → place .at < length S → Put rows place (r .next) (rowOf (place .n) k word.Taken (value.Number 0)) on rows′
-          → Kept W cs Rs × Going S on (benchIs (on .setting) W cs Rs) R₀ rows′ × Fulls Rs fs
+      pub idle-on : {R₀ rows rows′ : List ℕ} {on : Place} → RunSoFar S place (benchIs (place .setting) W cs Rs) R₀ rows → place .at < length S → RowPut rows place (r .next) (rowOf (place .n) k word.Taken (value.Number 0)) on rows′
+          → BenchKept W cs Rs × RunSoFar S on (benchIs (on .setting) W cs Rs) R₀ rows′ × Fulls Rs fs
       idle-on {R₀} {rows} {rows′} {on} going more p = (
         m,
-        subst (λ g. Going S on (benchIs g W cs Rs) R₀ rows′) (sym (p .setting))
+        subst (λ g. RunSoFar S on (benchIs g W cs Rs) R₀ rows′) (sym (p .setting))
             (goes-on S place on (benchIs (place .setting) W cs Rs) (benchIs (place .setting) W cs Rs) R₀ rows rows′ going r (part-read S (place .at) r of) more (some (idle .line)) (line-reads (idle .line) idle-reads)
             (record { who = seatOf (Readable l); answer = controller.taken; number = 0 }) idle-left
             (passed-as (taken-row (place .n) k ∙ ap (λ j. rowText (place .n) (record { who = j; answer = controller.taken; number = 0 })) q) (p .passed))),
@@ -354,19 +353,19 @@ module _ (S : List ℕ) (place : Place) (r : ReadLine) (of : LineOf (take (lengt
       )
 
     -- one that calls no controller
-    module _ (W W′ : List ℕ) (cs : List Controller) (Rs : List (List ℕ)) (fs R′ : List ℕ) (k : ℕ) (q : k ≡ seatOf (Readable l)) (m : Kept W cs Rs) (w : Fulls Rs fs) (s : Moved) (rows rows′ : List ℕ) (more : place .at < length S)
+    module _ (W W′ : List ℕ) (cs : List Controller) (Rs : List (List ℕ)) (fs R′ : List ℕ) (k : ℕ) (q : k ≡ seatOf (Readable l)) (m : BenchKept W cs Rs) (w : Fulls Rs fs) (s : Moved) (rows rows′ : List ℕ) (more : place .at < length S)
         (a : LineRun W (getD Rs k []) place (seatOf (Readable l)) body rows s W′ R′ rows′) where
       run-at : Advanced W (getD Rs k []) (place .setting) k (a .line) (a .reply) (s .place .setting) (s .fresh) W′ R′
       run-at = subst (λ j. Advanced W (getD Rs k []) (place .setting) j (a .line) (a .reply) (s .place .setting) (s .fresh) W′ R′) (sym q) (a .advanced)
 
-      run-passed : Passed rows place (r .next) (rowText (place .n) (a .reply)) (s .place) rows′
-      run-passed = subst (λ n. Passed rows place n (rowText (place .n) (a .reply)) (s .place) rows′) (body-long more) (a .passed)
+      run-passed : RowWritten rows place (r .next) (rowText (place .n) (a .reply)) (s .place) rows′
+      run-passed = subst (λ n. RowWritten rows place n (rowText (place .n) (a .reply)) (s .place) rows′) (body-long more) (a .passed)
 
       pub run-less : length S - s .place .at < length S - place .at
       run-less = less more run-passed
 
-      pub run-on : {R₀ : List ℕ} → s .fresh ≡ false → Going S place (benchIs (place .setting) W cs Rs) R₀ rows
-          → Kept W′ cs (set Rs k R′) × Going S (s .place) (benchIs (s .place .setting) W′ cs (set Rs k R′)) R₀ rows′ × Fulls (set Rs k R′) (set fs k (s .full))
+      pub run-on : {R₀ : List ℕ} → s .fresh ≡ false → RunSoFar S place (benchIs (place .setting) W cs Rs) R₀ rows
+          → BenchKept W′ cs (set Rs k R′) × RunSoFar S (s .place) (benchIs (s .place .setting) W′ cs (set Rs k R′)) R₀ rows′ × Fulls (set Rs k R′) (set fs k (s .full))
       run-on {R₀} e′ going = (
         line-kept (place .setting) W W′ cs Rs R′ k (a .line) (a .reply) (s .place .setting) (s .fresh) (line-seat q) m run-at e′,
         goes-on S place (s .place) (benchIs (place .setting) W cs Rs) (benchIs (s .place .setting) W′ cs (set Rs k R′)) R₀ rows rows′ going r (part-read S (place .at) r of) more (some (a .line)) (line-reads (a .line) (a .reads)) (a .reply)
@@ -377,8 +376,8 @@ module _ (S : List ℕ) (place : Place) (r : ReadLine) (of : LineOf (take (lengt
       pub run-allowed : s .fresh ≡ true → setupAllowed 0 (s .place .setting .members) (s .place .setting .sender) ≡ true
       run-allowed e′ = run-at .begun e′ .1
 
-      pub run-fresh : {R₀ : List ℕ} (cs″ : List Controller) (Rs″ : List (List ℕ)) (f : ℕ) → f ≡ 16 → s .fresh ≡ true → Started (s .place .setting .members) (s .place .setting .sender) cs″ Rs″ → Going S place (benchIs (place .setting) W cs Rs) R₀ rows
-          → Kept W′ cs″ Rs″ × Going S (s .place) (benchIs (s .place .setting) W′ cs″ Rs″) R₀ rows′ × Fulls Rs″ (replicate f 0)
+      pub run-fresh : {R₀ : List ℕ} (cs″ : List Controller) (Rs″ : List (List ℕ)) (f : ℕ) → f ≡ 16 → s .fresh ≡ true → Started (s .place .setting .members) (s .place .setting .sender) cs″ Rs″ → RunSoFar S place (benchIs (place .setting) W cs Rs) R₀ rows
+          → BenchKept W′ cs″ Rs″ × RunSoFar S (s .place) (benchIs (s .place .setting) W′ cs″ Rs″) R₀ rows′ × Fulls Rs″ (replicate f 0)
       run-fresh {R₀} cs″ Rs″ f z e′ d going = (
         fresh-kept (place .setting) W W′ cs Rs R′ k (a .line) (a .reply) (s .place .setting) (s .fresh) (line-seat q) m run-at cs″ Rs″ d e′,
         goes-on S place (s .place) (benchIs (place .setting) W cs Rs) (benchIs (s .place .setting) W′ cs″ Rs″) R₀ rows rows′ going r (part-read S (place .at) r of) more (some (a .line)) (line-reads (a .line) (a .reads)) (a .reply)
@@ -387,16 +386,16 @@ module _ (S : List ℕ) (place : Place) (r : ReadLine) (of : LineOf (take (lengt
       )
 
   -- one that does not
-  pub unread-on : r .parsed ≡ Unreadable → {W : List ℕ} {cs : List Controller} {Rs : List (List ℕ)} {R R′ R″ : List ℕ} {on : Place} → Kept W cs Rs → Going S place (benchIs (place .setting) W cs Rs) R R′ → place .at < length S
-      → Put R′ place (r .next) (rowOf (place .n) 16 word.Refused (value.Number 8)) on R″ → Going S on (benchIs (on .setting) W cs Rs) R R″
+  pub unread-on : r .parsed ≡ Unreadable → {W : List ℕ} {cs : List Controller} {Rs : List (List ℕ)} {R R′ R″ : List ℕ} {on : Place} → BenchKept W cs Rs → RunSoFar S place (benchIs (place .setting) W cs Rs) R R′ → place .at < length S
+      → RowPut R′ place (r .next) (rowOf (place .n) 16 word.Refused (value.Number 8)) on R″ → RunSoFar S on (benchIs (on .setting) W cs Rs) R R″
   unfolding step
   unread-on e {W} {cs} {Rs} {R} {R′} {R″} {on} m going more p =
-      subst (λ g. Going S on (benchIs g W cs Rs) R R″) (sym (p .setting))
+      subst (λ g. RunSoFar S on (benchIs g W cs Rs) R R″) (sym (p .setting))
       (goes-on S place on (benchIs (place .setting) W cs Rs) (benchIs (place .setting) W cs Rs) R R′ R″ going r (part-read S (place .at) r of) more none (subst (λ t. ReadAs t (take (r .next) (drop (place .at) S))) e (part-read S (place .at) r of .reads))
       (record { who = 16; answer = controller.refused controller.outOfPlace; number = 0 }) refl (passed-as (refused-row (place .n)) (p .passed)))
 
-pub going-long : {S : List ℕ} {place : Place} {b : Bench} {R R′ : List ℕ} → Going S place b R R′ → length R′ ≡ length R
-going-long {R = R} g = ap length (g .rows) ∙ length-sets R 22 (g .printed)
+pub going-long : {S : List ℕ} {place : Place} {b : Bench} {R R′ : List ℕ} → RunSoFar S place b R R′ → length R′ ≡ length R
+going-long {R = R} g = ap length (g .wrote .is) ∙ length-sets R 22 (g .printed)
 
 pub full-whole : (b : Bool) (n full r : ℕ) → b ≡ true → r ≡ n → r ≡ fullAfter b n full
 full-whole b n full r e q = q ∙ sym (ap (λ x. fullAfter x n full) e)
@@ -411,26 +410,25 @@ module _ (W R : List ℕ) (place : Place) (l : Held) (T : List ℕ) (full : ℕ)
   full-after R′ n true k h = h refl
   full-after R′ n false k h = full-kept R R′ k full f
 
-  pub run-stepped : {W′ R′ : List ℕ} {st : Stepped} {on : Place} {rows′ : List ℕ} {known : ℕ} → SteppedBy W R (place .setting) (seatOf (Readable l)) T st W′ R′ → Put rows place (length T + 1) (rowIs (place .n) (st .who) (st .answer) (st .number)) on rows′
+  pub run-stepped : {W′ R′ : List ℕ} {st : Effect} {on : Place} {rows′ : List ℕ} {known : ℕ} → SteppedBy W R (place .setting) (seatOf (Readable l)) T st W′ R′ → RowPut rows place (length T + 1) (rowIs (place .n) (st .who) (st .answer) (st .number)) on rows′
       → known ≡ fullAfter (st .whole) (poolLen W′) full
       → LineRun W R place (seatOf (Readable l)) T rows (record { place = record { setting = st .setting; at = on .at; n = on .n; out = on .out }; fresh = st .fresh; full = known }) W′ R′ rows′
   run-stepped {W′} {R′} {st} {on} {rows′} {known} a p z = record {
     line = a .line;
     reads = a .reads;
     reply = replyIs W′ (st .who) (st .answer) (st .number);
-    passed = (let u = passed-as (row-is W′ (place .n) (st .who) (st .answer) (st .number)) (p .passed) in record { at = u .at; number = u .number; end = u .end; rows = u .rows; small = u .small });
+    passed = (let u = passed-as (row-is W′ (place .n) (st .who) (st .answer) (st .number)) (p .passed) in record { at = u .at; number = u .number; wrote = u .wrote; small = u .small });
     advanced = a .stepped .advanced;
     full-is = λ e. subst (Full R′) (sym z) (full-after R′ (poolLen W′) (st .whole) (a .stepped .advanced .keeps e) (a .stepped .full));
   }
 
 -- ---- the start and the end
 
-pub going-end : {S : List ℕ} {place : Place} {b : Bench} {R R′ : List ℕ} → Going S place b R R′ → length S ≤ place .at → length S ≤ 65536 → Ran S R R′ (place .out)
+pub going-end : {S : List ℕ} {place : Place} {b : Bench} {R R′ : List ℕ} → RunSoFar S place b R R′ → length S ≤ place .at → length S ≤ 65536 → Ran S R R′ (place .out)
 unfolding rowsFrom lines
 going-end {S} {place} {b} {R} {R′} g e l = record {
   printed = g .printed;
-  rows = g .rows;
-  end = g .end;
+  wrote = g .wrote;
   small = omega (arith, g .small, g .within);
   ran = g .rest [] (subst (λ t. ReadAll (lines t) []) (sym (drop-of-length-le S e)) tt);
 }
@@ -460,14 +458,14 @@ module _ (c : Controller) (fresh : controllerIs c ≡ controller.notSetUp) (m n 
   controller-is k l = getD-replicate m k c blank (omega arith)
 
   no-record : recordIn W₀ R₀ ≡ []
-  unfolding recordOf table
+  unfolding recordUpTo table
   no-record = ap (λ i. table i (λ i. stmtAt W₀ (getD R₀ i 0))) empty-length
 
   no-numbers : AllIn W₀ R₀
   unfolding AllIn
   no-numbers i l = absurd (omega (arith, empty-length))
 
-  pub kept-first : Kept W₀ (replicate m c) (replicate m R₀)
+  pub kept-first : BenchKept W₀ (replicate m c) (replicate m R₀)
   kept-first = record {
     distinct = record { tells = λ i j a b. absurd (omega (arith, empty-pool)) };
     long = length-replicate m c ∙ e;
@@ -482,11 +480,10 @@ module _ (c : Controller) (fresh : controllerIs c ≡ controller.notSetUp) (m n 
       (λ k l. ap₂ (λ x y. record { controller = controllerIs x; statements = recordIn W₀ y }) (controller-is k l) (record-is k l) ∙ ap₂ (λ x y. record { controller = x; statements = y }) fresh no-record))
       (sym (no-pool W₀ empty-pool))
 
-  pub going-first : (S R : List ℕ) (place : Place) → Begins place → Going S place (benchIs (place .setting) W₀ (replicate m c) (replicate m R₀)) R R
+  pub going-first : (S R : List ℕ) (place : Place) → AtStart place → RunSoFar S place (benchIs (place .setting) W₀ (replicate m c) (replicate m R₀)) R R
   going-first S R place b = record {
     printed = [];
-    rows = refl;
-    end = b .out;
+    wrote = record { next = omega (arith, b .out); is = refl };
     small = omega arith;
     number = omega (arith, b .number, b .at);
     within = omega (arith, b .at);
@@ -499,14 +496,8 @@ module _ (c : Controller) (fresh : controllerIs c ≡ controller.notSetUp) (m n 
 
 -- ---- the header and what stands after it
 
-headed : (S R R′ R″ xs : List ℕ) (r : ℕ) → Printed S (headerText ++ xs) → R′ ≡ sets R 0 headerText → R″ ≡ sets R′ 22 xs → r ≡ 22 + length xs → length xs ≤ 2621440 → Wrote S R r R″
-headed S R R′ R″ xs r p e f g m = record {
-  text = headerText ++ xs;
-  printed = p;
-  long = g ∙ sym (length-append headerText xs);
-  small = omega (arith, length-append headerText xs);
-  rows = f ∙ ap (λ t. sets t 22 xs) e ∙ sym (sets-append headerText xs R 0);
-}
+headed : (S R R′ R″ xs : List ℕ) (r : ℕ) → Printed S (headerText ++ xs) → R′ ≡ sets R 0 headerText → Wrote R′ 22 xs r R″ → length xs ≤ 2621440 → PrintedInto S R r R″
+headed S R R′ R″ xs r p e w m = record { text = headerText ++ xs; printed = p; wrote = both {s = headerText} (record { next = refl; is = e }) w; small = omega (arith, length-append headerText xs) }
 
 empty-reads : (S : List ℕ) → length S ≡ 0 → ReadAll (lines S) []
 unfolding lines
@@ -514,23 +505,23 @@ empty-reads [] e = tt
 empty-reads (x ∷ S) e = absurd (omega arith)
 
 module _ (S R R′ R″ : List ℕ) (r : ℕ) (e : R′ ≡ sets R 0 headerText)
-    (put : (r ≡ 22 + length (rowOf 0 16 word.Refused (value.Number 8))) × (R″ ≡ sets R′ 22 (rowOf 0 16 word.Refused (value.Number 8))) × (length (rowOf 0 16 word.Refused (value.Number 8)) ≤ 40)) where
-  refusal : Printed S (headerText ++ refusedRow) → Wrote S R r R″
-  refusal p = headed S R R′ R″ (rowOf 0 16 word.Refused (value.Number 8)) r (subst (λ t. Printed S (headerText ++ t)) (sym (refused-row 0)) p) e (put .1) (put .0) (omega (arith, put .2))
+    (put : Wrote R′ 22 refusedRow r R″ × (length refusedRow ≤ 40)) where
+  refusal : Printed S (headerText ++ refusedRow) → PrintedInto S R r R″
+  refusal p = headed S R R′ R″ refusedRow r p e (put .0) (omega (arith, put .1))
 
-  pub printed-empty : length S ≡ 0 → Wrote S R r R″
-  printed-empty z = refusal (record { reading = []; reads = λ h. empty-reads S z; prints = ap (λ t. headerText ++ t) (sym (pick-true (eqb (length S) 0 || ltb 65536 (length S)) refusedRow (rowsFrom 1 newBench []) (ap (λ b. b || ltb 65536 (length S)) (eq-eqb (length S) 0 z)))) })
+  pub printed-empty : length S ≡ 0 → PrintedInto S R r R″
+  printed-empty z = refusal (record { reading = []; reads = λ h. empty-reads S z; prints = ap (λ t. headerText ++ t) (sym (if-true (eqb (length S) 0 || ltb 65536 (length S)) refusedRow (rowsFrom 1 newBench []) (ap (λ b. b || ltb 65536 (length S)) (eq-eqb (length S) 0 z)))) })
 
   or-yes : (b : Bool) → (b || true) ≡ true
   or-yes true = refl
   or-yes false = refl
 
-  pub printed-long : 65536 < length S → Wrote S R r R″
-  printed-long z = refusal (record { reading = []; reads = λ h. absurd (omega arith); prints = ap (λ t. headerText ++ t) (sym (pick-true (eqb (length S) 0 || ltb 65536 (length S)) refusedRow (rowsFrom 1 newBench []) (ap (λ b. eqb (length S) 0 || b) (lt-ltb 65536 (length S) z) ∙ or-yes (eqb (length S) 0)))) })
+  pub printed-long : 65536 < length S → PrintedInto S R r R″
+  printed-long z = refusal (record { reading = []; reads = λ h. absurd (omega arith); prints = ap (λ t. headerText ++ t) (sym (if-true (eqb (length S) 0 || ltb 65536 (length S)) refusedRow (rowsFrom 1 newBench []) (ap (λ b. eqb (length S) 0 || b) (lt-ltb 65536 (length S) z) ∙ or-yes (eqb (length S) 0)))) })
 
-pub printed-run : (S R R′ R″ : List ℕ) (r : ℕ) → R′ ≡ sets R 0 headerText → Ran S R′ R″ r → (length S ≡ 0 → ⊥) → length S ≤ 65536 → Wrote S R r R″
+pub printed-run : (S R R′ R″ : List ℕ) (r : ℕ) → R′ ≡ sets R 0 headerText → Ran S R′ R″ r → (length S ≡ 0 → ⊥) → length S ≤ 65536 → PrintedInto S R r R″
 printed-run S R R′ R″ r e m a b = headed S R R′ R″ (m .printed) r (record {
   reading = m .ran .reading;
   reads = λ h. m .ran .reads;
-  prints = ap (λ t. headerText ++ t) (sym (m .ran .rows ∙ append-nil (m .printed)) ∙ sym (pick-false (eqb (length S) 0 || ltb 65536 (length S)) refusedRow (rowsFrom 1 newBench (m .ran .reading)) (ap₂ _||_ (ne-eqb (length S) 0 a) (le-ltb 65536 (length S) b))));
-}) e (m .rows) (m .end) (m .small)
+  prints = ap (λ t. headerText ++ t) (sym (m .ran .rows ∙ append-nil (m .printed)) ∙ sym (if-false (eqb (length S) 0 || ltb 65536 (length S)) refusedRow (rowsFrom 1 newBench (m .ran .reading)) (ap₂ _||_ (ne-eqb (length S) 0 a) (le-ltb 65536 (length S) b))));
+}) e (m .wrote) (m .small)

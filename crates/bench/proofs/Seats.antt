@@ -1,9 +1,9 @@
 -- What a line comes to on one controller or on its record.
 -- Assumes nothing.
 use mathlib.Core.Path.{_≡_, refl, sym, ap, ap₂, subst, _∙_}
-use mathlib.Core.Bool.{Bool, true, false, not, _||_, true≢false}
+use mathlib.Core.Bool.{Bool, true, false, not, true≢false, _||_}
 use mathlib.Core.List.{List, [], _∷_, _++_, append-nil, map, map-append}
-use mathlib.Core.Option.{some, none}
+use mathlib.Core.Option.{some}
 use Prim.Native.Nat.{ℕ, zero, suc, _+_, _≤_, _<_}
 use native.Mathlib.Decide.{decLt}
 use native.Mathlib.Omega.{arith}
@@ -19,9 +19,9 @@ use Rattle.protocol.specs.Pool.{numberOf, pooled, hasRoom}
 use Rattle.protocol.specs.Turn.{turn as turnOf}
 use Rattle.protocol.proofs.Asked.{says-same-stmt}
 use Rattle.views.specs.Table.{table}
-use Rattle.views.proofs.Tables.{table-length, table-at, any-zero, any-suc, any-at}
+use Rattle.views.proofs.Tables.{table-at, any-zero, any-suc, any-at, map-table}
 use Rattle.views.proofs.Views.{passes}
-use Rattle.pool.specs.Pool.{stmtAt, poolLen, recordOf, recordLen, recordIn}
+use Rattle.pool.specs.Pool.{stmtAt, poolLen, recordUpTo, recordLen, recordIn, poolOf, AllIn, Grows}
 use Rattle.pool.specs.Changes.{PushedTo}
 use Rattle.engine.specs.declared.Controller.{Controller}
 use Rattle.engine.specs.declared.Outcome.{Outcome}
@@ -29,17 +29,18 @@ use Rattle.engine.specs.declared.Refusal.{Refusal}
 use Rattle.engine.specs.declared.Refusal.the-variants as refusal
 use Rattle.engine.specs.declared.Answer.{Answer}
 use Rattle.engine.specs.declared.Answer.the-variants.{Taken, Signed, Entered, Delivered, Left, Quiet, Refused}
-use Rattle.engine.specs.Meaning.{controllerIs, poolIs, AllIn, answerIs, refusalIs}
+use Rattle.engine.specs.Meaning.{controllerIs, answerIs, refusalIs}
 use Rattle.engine.specs.Promise.{Change, unchanged, Meets, Calls, Turns, PoolAfter, NumbersAfter, signedOf}
 use Rattle.schedule.specs.Line.{Line, join, leave, send, give, all, turn}
 use Rattle.schedule.specs.declared.line.Line.{Line as Held}
 use Rattle.schedule.specs.declared.line.Line.the-variants as is
+use Rattle.pool.proofs.Records.{pool-length, record-length}
 use Rattle.bench.specs.declared.seat.Given.{Given}
 use Rattle.bench.specs.Bench as bench
 use Rattle.bench.specs.Bench.{Seat, emptySeat, Bench, Stepped, step}
-use Rattle.bench.specs.Seats.{seatIs, benchOf, Distinct, Sound, Grows, numbersIn, listed, Full, Keeps, Marks, unmarked, Filled, refusedFor, takenAs, Seated, Gives, GivesAll, numberIs, changesIs, CalledAt, isCall, Called}
+use Rattle.bench.specs.Seats.{seatIs, benchOf, Distinct, Sound, numbersIn, hasNumber, Full, Keeps, Marks, unmarked, RecordFilled, refusedFor, takenAs, GivenAtSeat, Gives, GivesAll, numberIs, changesIs, CalledAtSeat, CalledByLine}
 use Rattle.bench.proofs.Unchanged.{Idle, idle-answer, Stays, Unsigned, join-stays, leave-stays, send-stays, turn-stays, join-unsigned, leave-unsigned, send-unsigned}
-use Rattle.bench.proofs.Records.{ids, keeps-same, keeps-pushed, below-pushed, within-pool, pool-within, pool-most, keeps-filled, full-filled, unmarked-none, filter-append, filter-one, numbers-pushed}
+use Rattle.bench.proofs.Records.{ids, keeps-same, keeps-pushed, below-pushed, within-pool, pool-within, pool-most, keeps-filled, full-filled, filter-append, filter-one, numbers-pushed}
 
 -- ---- a statement is in a record just where its number is
 
@@ -48,26 +49,16 @@ any-alike p q f g zero h = any-zero p f ∙ sym (any-zero q g)
 any-alike p q f g (suc m) h = any-suc p f m ∙ ap₂ _||_ (any-alike p q f g m (λ i l. h i (omega arith))) (h m (omega arith)) ∙ sym (any-suc q g m)
 
 module _ (W : List ℕ) (d : Distinct W) (R : List ℕ) (w : AllIn W R) where
-  by-number : (n : ℕ) → n < poolLen W → any (sameStmt (stmtAt W n)) (recordIn W R) ≡ listed R n
-  unfolding recordOf listed numbersIn AllIn
+  by-number : (n : ℕ) → n < poolLen W → any (sameStmt (stmtAt W n)) (recordIn W R) ≡ hasNumber R n
+  unfolding recordUpTo hasNumber numbersIn AllIn
   by-number n l = any-alike (sameStmt (stmtAt W n)) (eqb n) (λ i. stmtAt W (getD R i 0)) (ids R) (recordLen R) (λ i h. d .tells n (getD R i 0) l (w i h))
 
--- a record's statements are those of its numbers
-map-table : {A B : Type 0} (g : A → B) (n : ℕ) (f : ℕ → A) → map g (table n f) ≡ table n (λ i. g (f i))
-unfolding table
-map-table g zero f = refl
-map-table g (suc n) f = map-append g (table n f) (f n ∷ []) ∙ ap (λ l. l ++ (g (f n) ∷ [])) (map-table g n f)
-
 by-numbers : (W R : List ℕ) → recordIn W R ≡ map (stmtAt W) (numbersIn R)
-unfolding recordOf numbersIn
+unfolding recordUpTo numbersIn
 by-numbers W R = sym (map-table (stmtAt W) (recordLen R) (ids R))
 
 record-more : (W R R′ L : List ℕ) → numbersIn R′ ≡ numbersIn R ++ L → recordIn W R′ ≡ recordIn W R ++ map (stmtAt W) L
 record-more W R R′ L e = by-numbers W R′ ∙ ap (map (stmtAt W)) e ∙ map-append (stmtAt W) (numbersIn R) L ∙ ap (λ t. t ++ map (stmtAt W) L) (sym (by-numbers W R))
-
-record-size : (W R : List ℕ) → length (recordIn W R) ≡ recordLen R
-unfolding recordOf
-record-size W R = table-length (recordLen R) (λ i. stmtAt W (getD R i 0))
 
 -- what passes a test, by number
 filter-numbers : {A : Type 0} (p : A → Bool) (q : ℕ → Bool) (f : ℕ → A) (n : ℕ) → ((i : ℕ) → i < n → p (f i) ≡ q i) → filter p (table n f) ≡ map f (filter q (table n (λ i. i)))
@@ -88,12 +79,8 @@ length-map f (x ∷ l) = ap suc (length-map f l)
 
 -- ---- the pool
 
-pub pool-size : (W : List ℕ) → length (poolIs W) ≡ poolLen W
-unfolding poolIs
-pool-size W = table-length (poolLen W) (stmtAt W)
-
-pool-at : (W : List ℕ) (n : ℕ) → n < poolLen W → getD (poolIs W) n noStmt ≡ stmtAt W n
-unfolding poolIs
+pool-at : (W : List ℕ) (n : ℕ) → n < poolLen W → getD (poolOf W) n noStmt ≡ stmtAt W n
+unfolding poolOf
 pool-at W n l = table-at (poolLen W) (stmtAt W) noStmt n l
 
 -- ---- the ways in which a line on one record ends
@@ -104,7 +91,7 @@ replied : (k : ℕ) (ready : Bool) (faulty : ℕ) {a a′ : controller.Answer} {
 replied k ready faulty e f g h = cc
 
 pub grows-same : (W : List ℕ) → Grows W W
-grows-same W = record { len = omega arith; same = λ n l. refl }
+grows-same W = record { more = omega arith; same = λ n l. refl }
 
 -- a seat whose record is as it was
 pub seat-same : (X : List Seat) (k : ℕ) {L : List Stmt} → getD X k emptySeat .statements ≡ L → set X k (record { controller = getD X k emptySeat .controller; statements = L }) ≡ X
@@ -112,10 +99,10 @@ seat-same X k e = ap (λ t. set X k (record { controller = getD X k emptySeat .c
 
 module _ (W R : List ℕ) (ready : Bool) (k : ℕ) (l : Line) (r : Given) where
   seat-refused : (q : Refusal) → r ≡ refusedFor q → AllIn W R
-      → ((faulty : ℕ) (X : List Seat) → getD X k emptySeat .statements ≡ recordIn W R → step (benchOf ready faulty X W) (some l) ≡ bench.refuse (benchOf ready faulty X W) k (refusalIs q))
-      → Seated W R ready k l r R
+      → ((faulty : ℕ) (X : List Seat) → getD X k emptySeat .statements ≡ recordIn W R → step (benchOf ready faulty X W) (some l) ≡ bench.refuseLine (benchOf ready faulty X W) k (refusalIs q))
+      → GivenAtSeat W R ready k l r R
   unfolding answerIs
-  seat-refused q e w h = subst (λ t. Seated W R ready k l t R) (sym e) (record {
+  seat-refused q e w h = subst (λ t. GivenAtSeat W R ready k l t R) (sym e) (record {
     steps = λ faulty X x. h faulty X x ∙ replied k ready faulty refl refl (sym (seat-same X k x)) refl;
     whole = w;
     keeps = keeps-same R;
@@ -126,20 +113,20 @@ module _ (W R : List ℕ) (ready : Bool) (k : ℕ) (l : Line) (r : Given) where
       → ((faulty : ℕ) (X : List Seat) → getD X k emptySeat .statements ≡ recordIn W R
       → step (benchOf ready faulty X W) (some l)
       ≡ record { reply = record { who = k; answer = controller.taken; number = n }; bench = benchOf ready faulty (set X k (record { controller = getD X k emptySeat .controller; statements = recordIn W R′ })) W })
-      → Seated W R ready k l r R′
+      → GivenAtSeat W R ready k l r R′
   unfolding answerIs
-  seat-taken n b R′ e w p f h = subst (λ t. Seated W R ready k l t R′) (sym e) (record { steps = h; whole = w; keeps = p; full = f })
+  seat-taken n b R′ e w p f h = subst (λ t. GivenAtSeat W R ready k l t R′) (sym e) (record { steps = h; whole = w; keeps = p; full = f })
 
 -- ---- give
 
 -- the tests of a gift, over plain values
 abbrev gift : Bench → ℕ → List Stmt → Bool → Bool → Bool → Bool → Stmt → Stepped
 gift b k Y ready unknown again full x =
-    if ready then (if unknown then bench.refuse b k controller.outOfPlace
-    else if again then bench.refuse b k controller.repeated
-    else if full then bench.refuse b k controller.full
+    if ready then (if unknown then bench.refuseLine b k controller.outOfPlace
+    else if again then bench.refuseLine b k controller.repeated
+    else if full then bench.refuseLine b k controller.full
     else bench.at b k (record { answer = controller.taken; controller = bench.seat b k .controller; statements = Y ++ (x ∷ []) }) (b .pool) 0)
-    else bench.refuse b k controller.outOfPlace
+    else bench.refuseLine b k controller.outOfPlace
 
 give-is : (b : Bench) (k n : ℕ) (Y : List Stmt) → bench.seat b k .statements ≡ Y
     → step b (some (give k n)) ≡ gift b k Y (b .isSetUp) (leb (length (b .pool)) n) (any (sameStmt (getD (b .pool) n noStmt)) Y) (leb 512 (length Y)) (getD (b .pool) n noStmt)
@@ -151,42 +138,42 @@ module _ (W R : List ℕ) (ready : Bool) (n : ℕ) (r : Given) (s : Sound W R) w
   X₀ = recordIn W R
 
   abbrev x₀ : Stmt
-  x₀ = getD (poolIs W) n noStmt
+  x₀ = getD (poolOf W) n noStmt
 
   pub give-unready : r ≡ refusedFor refusal.OutOfPlace → ready ≡ false → Gives W R ready n r R
   give-unready e q = record {
     to = λ k. seat-refused W R ready k (give k n) r refusal.OutOfPlace e (s .whole) (λ faulty X x.
-        give-is (benchOf ready faulty X W) k n X₀ x ∙ ap (λ t. gift (benchOf ready faulty X W) k X₀ t (leb (length (poolIs W)) n) (any (sameStmt x₀) X₀) (leb 512 (length X₀)) x₀) q);
+        give-is (benchOf ready faulty X W) k n X₀ x ∙ ap (λ t. gift (benchOf ready faulty X W) k X₀ t (leb (length (poolOf W)) n) (any (sameStmt x₀) X₀) (leb 512 (length X₀)) x₀) q);
   }
 
   module _ (q : ready ≡ true) where
-    opened : (k faulty : ℕ) (X : List Seat) → getD X k emptySeat .statements ≡ X₀ → {u a f : Bool} → leb (length (poolIs W)) n ≡ u → any (sameStmt x₀) X₀ ≡ a → leb 512 (length X₀) ≡ f
+    opened : (k faulty : ℕ) (X : List Seat) → getD X k emptySeat .statements ≡ X₀ → {u a f : Bool} → leb (length (poolOf W)) n ≡ u → any (sameStmt x₀) X₀ ≡ a → leb 512 (length X₀) ≡ f
         → step (benchOf ready faulty X W) (some (give k n)) ≡ gift (benchOf ready faulty X W) k X₀ true u a f x₀
     opened k faulty X x {u} {a} {f} eu ea ef = give-is (benchOf ready faulty X W) k n X₀ x
-        ∙ ap (λ t. gift (benchOf ready faulty X W) k X₀ t (leb (length (poolIs W)) n) (any (sameStmt x₀) X₀) (leb 512 (length X₀)) x₀) q
+        ∙ ap (λ t. gift (benchOf ready faulty X W) k X₀ t (leb (length (poolOf W)) n) (any (sameStmt x₀) X₀) (leb 512 (length X₀)) x₀) q
         ∙ ap (λ t. gift (benchOf ready faulty X W) k X₀ true t (any (sameStmt x₀) X₀) (leb 512 (length X₀)) x₀) eu
         ∙ ap (λ t. gift (benchOf ready faulty X W) k X₀ true u t (leb 512 (length X₀)) x₀) ea
         ∙ ap (λ t. gift (benchOf ready faulty X W) k X₀ true u a t x₀) ef
 
-    known : n < poolLen W → leb (length (poolIs W)) n ≡ false
-    known l = lt-leb (length (poolIs W)) n (omega (arith, pool-size W))
+    known : n < poolLen W → leb (length (poolOf W)) n ≡ false
+    known l = lt-leb (length (poolOf W)) n (omega (arith, pool-length W))
 
-    in-record : (b : Bool) → n < poolLen W → listed R n ≡ b → any (sameStmt x₀) X₀ ≡ b
+    in-record : (b : Bool) → n < poolLen W → hasNumber R n ≡ b → any (sameStmt x₀) X₀ ≡ b
     in-record b l e = ap (λ x. any (sameStmt x) X₀) (pool-at W n l) ∙ by-number W (s .distinct) R (s .whole) n l ∙ e
 
     pub give-unknown : r ≡ refusedFor refusal.OutOfPlace → poolLen W ≤ n → Gives W R ready n r R
-    give-unknown e l = record { to = λ k. seat-refused W R ready k (give k n) r refusal.OutOfPlace e (s .whole) (λ faulty X x. opened k faulty X x (le-leb (length (poolIs W)) n (omega (arith, pool-size W))) refl refl) }
+    give-unknown e l = record { to = λ k. seat-refused W R ready k (give k n) r refusal.OutOfPlace e (s .whole) (λ faulty X x. opened k faulty X x (le-leb (length (poolOf W)) n (omega (arith, pool-length W))) refl refl) }
 
-    pub give-again : r ≡ refusedFor refusal.Repeated → n < poolLen W → listed R n ≡ true → Gives W R ready n r R
+    pub give-again : r ≡ refusedFor refusal.Repeated → n < poolLen W → hasNumber R n ≡ true → Gives W R ready n r R
     give-again e l h = record { to = λ k. seat-refused W R ready k (give k n) r refusal.Repeated e (s .whole) (λ faulty X x. opened k faulty X x (known l) (in-record true l h) refl) }
 
-    pub give-full : r ≡ refusedFor refusal.Full → n < poolLen W → listed R n ≡ false → 512 ≤ recordLen R → Gives W R ready n r R
-    give-full e l h f = record { to = λ k. seat-refused W R ready k (give k n) r refusal.Full e (s .whole) (λ faulty X x. opened k faulty X x (known l) (in-record false l h) (le-leb 512 (length X₀) (omega (arith, record-size W R)))) }
+    pub give-full : r ≡ refusedFor refusal.Full → n < poolLen W → hasNumber R n ≡ false → 512 ≤ recordLen R → Gives W R ready n r R
+    give-full e l h f = record { to = λ k. seat-refused W R ready k (give k n) r refusal.Full e (s .whole) (λ faulty X x. opened k faulty X x (known l) (in-record false l h) (le-leb 512 (length X₀) (omega (arith, record-length W R)))) }
 
-    pub give-taken : (R′ : List ℕ) → r ≡ takenAs 0 false → n < poolLen W → listed R n ≡ false → recordLen R < 512 → PushedTo R n R′ → Gives W R ready n r R′
+    pub give-taken : (R′ : List ℕ) → r ≡ takenAs 0 false → n < poolLen W → hasNumber R n ≡ false → recordLen R < 512 → PushedTo R n R′ → Gives W R ready n r R′
     give-taken R′ e l h f p = record {
       to = λ k. seat-taken W R ready k (give k n) r 0 false R′ e (pool-within W R′ (below-pushed R R′ n (poolLen W) p l (within-pool W R (s .whole)))) (keeps-pushed R R′ n p) (λ t. absurd (true≢false (sym t)))
-          (λ faulty X x. opened k faulty X x (known l) (in-record false l h) (lt-leb 512 (length X₀) (omega (arith, record-size W R)))
+          (λ faulty X x. opened k faulty X x (known l) (in-record false l h) (lt-leb 512 (length X₀) (omega (arith, record-length W R)))
           ∙ replied k ready faulty refl refl (ap (λ t. set X k (record { controller = getD X k emptySeat .controller; statements = t }))
           (ap (λ t. X₀ ++ (t ∷ [])) (pool-at W n l) ∙ sym (record-more W R R′ (n ∷ []) (numbers-pushed R R′ n p f)))) refl);
     }
@@ -198,9 +185,9 @@ lack P Y = filter (λ x. not (any (sameStmt x) Y)) P
 
 abbrev spread : Bench → ℕ → List Stmt → Bool → Bool → List Stmt → Stepped
 spread b k Y ready over M =
-    if ready then (if over then bench.refuse b k controller.full
+    if ready then (if over then bench.refuseLine b k controller.full
     else bench.at b k (record { answer = controller.taken; controller = bench.seat b k .controller; statements = Y ++ M }) (b .pool) (length M))
-    else bench.refuse b k controller.outOfPlace
+    else bench.refuseLine b k controller.outOfPlace
 
 all-is : (b : Bench) (k : ℕ) (Y : List Stmt) → bench.seat b k .statements ≡ Y → step b (some (all k)) ≡ spread b k Y (b .isSetUp) (ltb 512 (length Y + length (lack (b .pool) Y))) (lack (b .pool) Y)
 unfolding step bench.giveAll
@@ -213,30 +200,30 @@ module _ (W R : List ℕ) (ready : Bool) (r : Given) (s : Sound W R) where
   pub all-unready : r ≡ refusedFor refusal.OutOfPlace → ready ≡ false → GivesAll W R ready r R
   all-unready e q = record {
     to = λ k. seat-refused W R ready k (all k) r refusal.OutOfPlace e (s .whole) (λ faulty X x.
-        all-is (benchOf ready faulty X W) k Y₀ x ∙ ap (λ t. spread (benchOf ready faulty X W) k Y₀ t (ltb 512 (length Y₀ + length (lack (poolIs W) Y₀))) (lack (poolIs W) Y₀)) q);
+        all-is (benchOf ready faulty X W) k Y₀ x ∙ ap (λ t. spread (benchOf ready faulty X W) k Y₀ t (ltb 512 (length Y₀ + length (lack (poolOf W) Y₀))) (lack (poolOf W) Y₀)) q);
   }
 
   -- the numbers that have no mark are those of the statements that the record lacks
   module _ (q : ready ≡ true) (n : ℕ) (z : n ≡ poolLen W) (marks : List Bool) (t : Marks R marks) where
-    lack-is : lack (poolIs W) Y₀ ≡ map (stmtAt W) (unmarked marks n)
-    unfolding poolIs unmarked
+    lack-is : lack (poolOf W) Y₀ ≡ map (stmtAt W) (unmarked marks n)
+    unfolding poolOf unmarked
     lack-is = filter-numbers (λ x. not (any (sameStmt x) Y₀)) (λ i. not (getD marks i false)) (stmtAt W) (poolLen W)
         (λ i l. ap not (by-number W (s .distinct) R (s .whole) i l ∙ sym (t .tells i (omega (arith, pool-most W)))))
         ∙ ap (λ m. map (stmtAt W) (filter (λ i. not (getD marks i false)) (table m (λ i. i)))) (sym z)
 
-    lack-long : length (lack (poolIs W) Y₀) ≡ length (unmarked marks n)
+    lack-long : length (lack (poolOf W) Y₀) ≡ length (unmarked marks n)
     lack-long = ap length lack-is ∙ length-map (stmtAt W) (unmarked marks n)
 
     spreads : (k faulty : ℕ) (X : List Seat) → getD X k emptySeat .statements ≡ Y₀ → {o : Bool} → ltb 512 (recordLen R + length (unmarked marks n)) ≡ o
-        → step (benchOf ready faulty X W) (some (all k)) ≡ spread (benchOf ready faulty X W) k Y₀ true o (lack (poolIs W) Y₀)
+        → step (benchOf ready faulty X W) (some (all k)) ≡ spread (benchOf ready faulty X W) k Y₀ true o (lack (poolOf W) Y₀)
     spreads k faulty X x {o} eo = all-is (benchOf ready faulty X W) k Y₀ x
-        ∙ ap (λ u. spread (benchOf ready faulty X W) k Y₀ u (ltb 512 (length Y₀ + length (lack (poolIs W) Y₀))) (lack (poolIs W) Y₀)) q
-        ∙ ap (λ u. spread (benchOf ready faulty X W) k Y₀ true u (lack (poolIs W) Y₀)) (ap₂ (λ i j. ltb 512 (i + j)) (record-size W R) lack-long ∙ eo)
+        ∙ ap (λ u. spread (benchOf ready faulty X W) k Y₀ u (ltb 512 (length Y₀ + length (lack (poolOf W) Y₀))) (lack (poolOf W) Y₀)) q
+        ∙ ap (λ u. spread (benchOf ready faulty X W) k Y₀ true u (lack (poolOf W) Y₀)) (ap₂ (λ i j. ltb 512 (i + j)) (record-length W R) lack-long ∙ eo)
 
     pub all-full : r ≡ refusedFor refusal.Full → 512 < recordLen R + length (unmarked marks n) → GivesAll W R ready r R
     all-full e l = record { to = λ k. seat-refused W R ready k (all k) r refusal.Full e (s .whole) (λ faulty X x. spreads k faulty X x (lt-ltb 512 (recordLen R + length (unmarked marks n)) l)) }
 
-    pub all-taken : (R′ : List ℕ) (m : ℕ) → m ≡ length (unmarked marks n) → r ≡ takenAs m true → Filled R marks n R′ → recordLen R + length (unmarked marks n) ≤ 512 → GivesAll W R ready r R′
+    pub all-taken : (R′ : List ℕ) (m : ℕ) → m ≡ length (unmarked marks n) → r ≡ takenAs m true → RecordFilled R marks n R′ → recordLen R + length (unmarked marks n) ≤ 512 → GivesAll W R ready r R′
     all-taken R′ m c e f l = record {
       to = λ k. seat-taken W R ready k (all k) r m true R′ e (pool-within W R′ (f .below (poolLen W) (omega arith) (within-pool W R (s .whole)))) (keeps-filled marks R R′ n t f l)
           (λ h. subst (Full R′) z (full-filled marks R R′ n t f l (omega (arith, pool-most W))))
@@ -255,11 +242,11 @@ module _ (W R : List ℕ) (ready : Bool) (s : Sound W R) (q : ready ≡ true) (f
 
   pub all-needless : (k faulty : ℕ) (X : List Seat) → getD X k emptySeat .statements ≡ recordIn W R
       → step (benchOf ready faulty X W) (some (all k)) ≡ record { reply = record { who = k; answer = controller.taken; number = 0 }; bench = benchOf ready faulty X W }
-  unfolding poolIs
+  unfolding poolOf
   all-needless k faulty X x = all-is (benchOf ready faulty X W) k (recordIn W R) x
-      ∙ ap (λ u. spread (benchOf ready faulty X W) k (recordIn W R) u (ltb 512 (length (recordIn W R) + length (lack (poolIs W) (recordIn W R)))) (lack (poolIs W) (recordIn W R))) q
+      ∙ ap (λ u. spread (benchOf ready faulty X W) k (recordIn W R) u (ltb 512 (length (recordIn W R) + length (lack (poolOf W) (recordIn W R)))) (lack (poolOf W) (recordIn W R))) q
       ∙ ap (λ u. spread (benchOf ready faulty X W) k (recordIn W R) true (ltb 512 (length (recordIn W R) + length u)) u) (nothing (poolLen W) (omega arith))
-      ∙ ap (λ u. spread (benchOf ready faulty X W) k (recordIn W R) true u []) (le-ltb 512 (length (recordIn W R) + 0) (omega (arith, record-size W R)))
+      ∙ ap (λ u. spread (benchOf ready faulty X W) k (recordIn W R) true u []) (le-ltb 512 (length (recordIn W R) + 0) (omega (arith, record-length W R)))
       ∙ replied k ready faulty refl refl (seat-same X k (x ∙ sym (append-nil (recordIn W R)))) refl
 
 -- ---- a pool with one statement more
@@ -268,22 +255,22 @@ getD-append-last : (P : List Stmt) (s : Stmt) → getD (P ++ (s ∷ [])) (length
 getD-append-last [] s = refl
 getD-append-last (x ∷ P) s = getD-append-last P s
 
-module _ (W W′ : List ℕ) (s : Stmt) (e : poolIs W′ ≡ poolIs W ++ (s ∷ [])) where
+module _ (W W′ : List ℕ) (s : Stmt) (e : poolOf W′ ≡ poolOf W ++ (s ∷ [])) where
   one-longer : poolLen W′ ≡ poolLen W + 1
-  one-longer = sym (pool-size W′) ∙ ap length e ∙ length-append (poolIs W) (s ∷ []) ∙ ap (λ n. n + 1) (pool-size W)
+  one-longer = sym (pool-length W′) ∙ ap length e ∙ length-append (poolOf W) (s ∷ []) ∙ ap (λ n. n + 1) (pool-length W)
 
   as-before : (n : ℕ) → n < poolLen W → stmtAt W′ n ≡ stmtAt W n
-  as-before n l = sym (pool-at W′ n (omega (arith, one-longer))) ∙ ap (λ P. getD P n noStmt) e ∙ List·getD-append (poolIs W) (s ∷ []) noStmt n (omega (arith, pool-size W)) ∙ pool-at W n l
+  as-before n l = sym (pool-at W′ n (omega (arith, one-longer))) ∙ ap (λ P. getD P n noStmt) e ∙ List·getD-append (poolOf W) (s ∷ []) noStmt n (omega (arith, pool-length W)) ∙ pool-at W n l
 
   at-the-end : stmtAt W′ (poolLen W) ≡ s
-  at-the-end = sym (pool-at W′ (poolLen W) (omega (arith, one-longer))) ∙ ap (λ P. getD P (poolLen W) noStmt) e ∙ ap (λ n. getD (poolIs W ++ (s ∷ [])) n noStmt) (sym (pool-size W)) ∙ getD-append-last (poolIs W) s
+  at-the-end = sym (pool-at W′ (poolLen W) (omega (arith, one-longer))) ∙ ap (λ P. getD P (poolLen W) noStmt) e ∙ ap (λ n. getD (poolOf W ++ (s ∷ [])) n noStmt) (sym (pool-length W)) ∙ getD-append-last (poolOf W) s
 
   pub one-grows : Grows W W′
-  one-grows = record { len = omega (arith, one-longer); same = as-before }
+  one-grows = record { more = omega (arith, one-longer); same = as-before }
 
-  module _ (new : any (sameStmt s) (poolIs W) ≡ false) (d : Distinct W) where
+  module _ (new : any (sameStmt s) (poolOf W) ≡ false) (d : Distinct W) where
     not-there : (n : ℕ) → n < poolLen W → sameStmt s (stmtAt W n) ≡ false
-    unfolding poolIs
+    unfolding poolOf
     not-there n l = go (sameStmt s (stmtAt W n)) refl
       where
         go : (b : Bool) → sameStmt s (stmtAt W n) ≡ b → sameStmt s (stmtAt W n) ≡ false
@@ -313,14 +300,14 @@ module _ (W W′ : List ℕ) (s : Stmt) (e : poolIs W′ ≡ poolIs W ++ (s ∷ 
 
 -- ---- a turn
 
-same-grows : {W W′ : List ℕ} → poolIs W′ ≡ poolIs W → Grows W W′
+same-grows : {W W′ : List ℕ} → poolOf W′ ≡ poolOf W → Grows W W′
 same-grows {W} {W′} e =
-    let l : poolLen W′ ≡ poolLen W = sym (pool-size W′) ∙ ap length e ∙ pool-size W in
-    record { len = omega arith; same = λ n h. sym (pool-at W′ n (omega arith)) ∙ ap (λ P. getD P n noStmt) e ∙ pool-at W n h }
+    let l : poolLen W′ ≡ poolLen W = sym (pool-length W′) ∙ ap length e ∙ pool-length W in
+    record { more = omega arith; same = λ n h. sym (pool-at W′ n (omega arith)) ∙ ap (λ P. getD P n noStmt) e ∙ pool-at W n h }
 
-same-distinct : {W W′ : List ℕ} → poolIs W′ ≡ poolIs W → Distinct W → Distinct W′
+same-distinct : {W W′ : List ℕ} → poolOf W′ ≡ poolOf W → Distinct W → Distinct W′
 same-distinct {W} {W′} e d =
-    let l : poolLen W′ ≡ poolLen W = sym (pool-size W′) ∙ ap length e ∙ pool-size W in
+    let l : poolLen W′ ≡ poolLen W = sym (pool-length W′) ∙ ap length e ∙ pool-length W in
     record { tells = λ i j a b. ap₂ sameStmt (same-grows e .same i (omega arith)) (same-grows e .same j (omega arith)) ∙ d .tells i j (omega arith) (omega arith) }
 
 abbrev poolThen : controller.Answer → List Stmt → List Stmt
@@ -351,14 +338,14 @@ after-turn b k o controller.left = refl
 after-turn b k o controller.quiet = refl
 after-turn b k o (controller.refused r) = refl
 
-pool-then : (W W′ : List ℕ) (a : controller.Answer) → PoolAfter W (signedOf a) W′ → poolIs W′ ≡ poolThen a (poolIs W)
-pool-then W W′ controller.taken e = ap poolIs e
+pool-then : (W W′ : List ℕ) (a : controller.Answer) → PoolAfter W (signedOf a) W′ → poolOf W′ ≡ poolThen a (poolOf W)
+pool-then W W′ controller.taken e = ap poolOf e
 pool-then W W′ (controller.signed s) e = e .is
-pool-then W W′ (controller.entered v) e = ap poolIs e
-pool-then W W′ (controller.delivered m) e = ap poolIs e
-pool-then W W′ controller.left e = ap poolIs e
-pool-then W W′ controller.quiet e = ap poolIs e
-pool-then W W′ (controller.refused r) e = ap poolIs e
+pool-then W W′ (controller.entered v) e = ap poolOf e
+pool-then W W′ (controller.delivered m) e = ap poolOf e
+pool-then W W′ controller.left e = ap poolOf e
+pool-then W W′ controller.quiet e = ap poolOf e
+pool-then W W′ (controller.refused r) e = ap poolOf e
 
 not-signed : (W : List ℕ) (x : Answer) (a : controller.Answer) → answerIs W x ≡ a → signedOf a ≡ unchanged → numberIs x ≡ 0
 unfolding answerIs
@@ -370,7 +357,7 @@ not-signed W Left a e h = refl
 not-signed W Quiet a e h = refl
 not-signed W (Refused q) a e h = refl
 
-number-then : (W W′ : List ℕ) (x : Answer) (a : controller.Answer) → answerIs W′ x ≡ a → ((s : Stmt) → a ≡ controller.signed s → x ≡ Signed (numberOf s (poolIs W))) → numberThen a (poolIs W) ≡ numberIs x
+number-then : (W W′ : List ℕ) (x : Answer) (a : controller.Answer) → answerIs W′ x ≡ a → ((s : Stmt) → a ≡ controller.signed s → x ≡ Signed (numberOf s (poolOf W))) → numberThen a (poolOf W) ≡ numberIs x
 number-then W W′ x controller.taken e h = sym (not-signed W′ x controller.taken e refl)
 number-then W W′ x (controller.signed s) e h = sym (ap numberIs (h s refl))
 number-then W W′ x (controller.entered v) e h = sym (not-signed W′ x (controller.entered v) e refl)
@@ -380,16 +367,16 @@ number-then W W′ x controller.quiet e h = sym (not-signed W′ x controller.qu
 number-then W W′ x (controller.refused r) e h = sym (not-signed W′ x (controller.refused r) e refl)
 
 -- the pool with s in it
-module _ (W W′ : List ℕ) (s : Stmt) (e : poolIs W′ ≡ pooled s (poolIs W)) (d : Distinct W) where
+module _ (W W′ : List ℕ) (s : Stmt) (e : poolOf W′ ≡ pooled s (poolOf W)) (d : Distinct W) where
   pub pooled-keeps : Distinct W′ × Grows W W′
   unfolding pooled
-  pooled-keeps = go (any (sameStmt s) (poolIs W)) refl e
+  pooled-keeps = go (any (sameStmt s) (poolOf W)) refl e
     where
-      go : (b : Bool) → any (sameStmt s) (poolIs W) ≡ b → poolIs W′ ≡ (if b then poolIs W else poolIs W ++ (s ∷ [])) → Distinct W′ × Grows W W′
+      go : (b : Bool) → any (sameStmt s) (poolOf W) ≡ b → poolOf W′ ≡ (if b then poolOf W else poolOf W ++ (s ∷ [])) → Distinct W′ × Grows W W′
       go true h q = (same-distinct q d, same-grows q)
       go false h q = (one-distinct W W′ s q h d, one-grows W W′ s q)
 
-turn-keeps : (W W′ : List ℕ) (a : controller.Answer) → poolIs W′ ≡ poolThen a (poolIs W) → Distinct W → Distinct W′ × Grows W W′
+turn-keeps : (W W′ : List ℕ) (a : controller.Answer) → poolOf W′ ≡ poolThen a (poolOf W) → Distinct W → Distinct W′ × Grows W W′
 turn-keeps W W′ controller.taken e d = (same-distinct e d, same-grows e)
 turn-keeps W W′ (controller.signed s) e d = pooled-keeps W W′ s e d
 turn-keeps W W′ (controller.entered v) e d = (same-distinct e d, same-grows e)
@@ -413,12 +400,12 @@ stays-so {W} {R} {W′} {R′} {c} {X} {o} {p} {ro} m s e = m .controller ∙ s 
 module _ (W R : List ℕ) (c : Controller) (k : ℕ) (l : Line) (o : Outcome) (s : Sound W R) (f : controller.Controller → List Stmt → controller.Outcome)
     (st : (d : controller.Controller) (X : List Stmt) → Stays d X (f d X)) (un : (d : controller.Controller) (X : List Stmt) → Unsigned (f d X)) (m : Calls (f (controllerIs c)) c o)
     (h : (b : Bench) → step b (some l) ≡ bench.at b k (f (bench.seat b k .controller) (bench.seat b k .statements)) (b .pool) 0) where
-  asked : CalledAt W R c k l o W R
+  asked : CalledAtSeat W R c k l o W R
   unfolding Calls
   asked = record {
     steps = λ ready faulty X x.
         h (benchOf ready faulty X W)
-        ∙ ap (λ (t : Seat). bench.at (benchOf ready faulty X W) k (f (t .controller) (t .statements)) (poolIs W) 0) x
+        ∙ ap (λ (t : Seat). bench.at (benchOf ready faulty X W) k (f (t .controller) (t .statements)) (poolOf W) 0) x
         ∙ replied k ready faulty (sym (m W R .answer)) (sym (not-signed W (o .answer) (f (controllerIs c) (recordIn W R) .answer) (m W R .answer) (un (controllerIs c) (recordIn W R) .unsigned))) (ap (λ t. set X k t) (seat-of (m W R) (s .whole))) refl;
     sound = s;
     grows = grows-same W;
@@ -428,7 +415,7 @@ module _ (W R : List ℕ) (c : Controller) (k : ℕ) (l : Line) (o : Outcome) (s
 
 keeps-after : (W R R′ : List ℕ) (a : controller.Answer) → NumbersAfter W R (signedOf a) R′ → Keeps R R′
 keeps-after W R R′ controller.taken e = subst (Keeps R) (sym e) (keeps-same R)
-keeps-after W R R′ (controller.signed s) e = keeps-pushed R R′ (numberOf s (poolIs W)) e
+keeps-after W R R′ (controller.signed s) e = keeps-pushed R R′ (numberOf s (poolOf W)) e
 keeps-after W R R′ (controller.entered v) e = subst (Keeps R) (sym e) (keeps-same R)
 keeps-after W R R′ (controller.delivered m) e = subst (Keeps R) (sym e) (keeps-same R)
 keeps-after W R R′ controller.left e = subst (Keeps R) (sym e) (keeps-same R)
@@ -437,36 +424,36 @@ keeps-after W R R′ (controller.refused r) e = subst (Keeps R) (sym e) (keeps-s
 
 module _ (W R W′ R′ : List ℕ) (c : Controller) (k : ℕ) (ro : Outcome) (s : Sound W R) where
   abbrev outcome : controller.Outcome
-  outcome = turnOf (controllerIs c) (recordIn W R) (hasRoom (poolIs W))
+  outcome = turnOf (controllerIs c) (recordIn W R) (hasRoom (poolOf W))
 
-  turns : Turns W R c outcome ro W′ R′ → CalledAt W R c k (turn k) ro W′ R′
+  turns : Turns W R c outcome ro W′ R′ → CalledAtSeat W R c k (turn k) ro W′ R′
   unfolding step bench.turnAt
   turns m = record {
     steps = λ ready faulty X x.
-        ap (λ (t : Seat). bench.afterTurn (benchOf ready faulty X W) k (turnOf (t .controller) (t .statements) (hasRoom (poolIs W))) (turnOf (t .controller) (t .statements) (hasRoom (poolIs W)) .answer)) x
+        ap (λ (t : Seat). bench.afterTurn (benchOf ready faulty X W) k (turnOf (t .controller) (t .statements) (hasRoom (poolOf W))) (turnOf (t .controller) (t .statements) (hasRoom (poolOf W)) .answer)) x
         ∙ after-turn (benchOf ready faulty X W) k outcome (outcome .answer)
         ∙ replied k ready faulty (sym (m .answer)) (number-then W W′ (ro .answer) (outcome .answer) (m .answer) (m .number))
         (ap (λ t. set X k t) (seat-of m (s .whole))) (sym (pool-then W W′ (outcome .answer) (m .pool)));
     sound = record { distinct = turn-keeps W W′ (outcome .answer) (pool-then W W′ (outcome .answer) (m .pool)) (s .distinct) .0; whole = m .statements (s .whole) .1 };
     grows = turn-keeps W W′ (outcome .answer) (pool-then W W′ (outcome .answer) (m .pool)) (s .distinct) .1;
     keeps = keeps-after W R R′ (outcome .answer) (m .numbers);
-    same = stays-so m (turn-stays (controllerIs c) (recordIn W R) (hasRoom (poolIs W)));
+    same = stays-so m (turn-stays (controllerIs c) (recordIn W R) (hasRoom (poolOf W)));
   }
 
 -- the line that calls
 module _ (W R : List ℕ) (c : Controller) (o : Outcome) (s : Sound W R) {l : Held} {k : ℕ} where
-  pub calls-join : l ≡ is.Join k → Calls (requestJoin (controllerIs c)) c o → Called W R c l o W R
+  pub calls-join : l ≡ is.Join k → Calls (requestJoin (controllerIs c)) c o → CalledByLine W R c l o W R
   unfolding step
-  calls-join e m = subst (λ x. Called W R c x o W R) (sym e) (record { line = join k; means = refl; called = asked W R c k (join k) o s requestJoin join-stays join-unsigned m (λ b. refl) })
+  calls-join e m = subst (λ x. CalledByLine W R c x o W R) (sym e) (record { line = join k; means = refl; called = asked W R c k (join k) o s requestJoin join-stays join-unsigned m (λ b. refl) })
 
-  pub calls-leave : l ≡ is.Leave k → Calls (requestLeave (controllerIs c)) c o → Called W R c l o W R
+  pub calls-leave : l ≡ is.Leave k → Calls (requestLeave (controllerIs c)) c o → CalledByLine W R c l o W R
   unfolding step
-  calls-leave e m = subst (λ x. Called W R c x o W R) (sym e) (record { line = leave k; means = refl; called = asked W R c k (leave k) o s requestLeave leave-stays leave-unsigned m (λ b. refl) })
+  calls-leave e m = subst (λ x. CalledByLine W R c x o W R) (sym e) (record { line = leave k; means = refl; called = asked W R c k (leave k) o s requestLeave leave-stays leave-unsigned m (λ b. refl) })
 
-  pub calls-send : {payload : ℕ} → l ≡ is.Send k payload → Calls (λ X. requestSend (controllerIs c) X payload) c o → Called W R c l o W R
+  pub calls-send : {payload : ℕ} → l ≡ is.Send k payload → Calls (λ X. requestSend (controllerIs c) X payload) c o → CalledByLine W R c l o W R
   unfolding step
-  calls-send {payload} e m = subst (λ x. Called W R c x o W R) (sym e)
+  calls-send {payload} e m = subst (λ x. CalledByLine W R c x o W R) (sym e)
       (record { line = send k payload; means = refl; called = asked W R c k (send k payload) o s (λ d X. requestSend d X payload) (λ d X. send-stays d X payload) (λ d X. send-unsigned d X payload) m (λ b. refl) })
 
-  pub calls-turn : {W′ R′ : List ℕ} → l ≡ is.Turn k → Turns W R c (turnOf (controllerIs c) (recordIn W R) (hasRoom (poolIs W))) o W′ R′ → Called W R c l o W′ R′
-  calls-turn {W′} {R′} e m = subst (λ x. Called W R c x o W′ R′) (sym e) (record { line = turn k; means = refl; called = turns W R W′ R′ c k o s m })
+  pub calls-turn : {W′ R′ : List ℕ} → l ≡ is.Turn k → Turns W R c (turnOf (controllerIs c) (recordIn W R) (hasRoom (poolOf W))) o W′ R′ → CalledByLine W R c l o W′ R′
+  calls-turn {W′} {R′} e m = subst (λ x. CalledByLine W R c x o W′ R′) (sym e) (record { line = turn k; means = refl; called = turns W R W′ R′ c k o s m })

@@ -4,7 +4,7 @@ use mathlib.Core.Bool.{Bool, true, false, not, _||_}
 use mathlib.Core.List.{List, [], _∷_, _++_}
 use mathlib.Core.Option.{Option, some, none}
 use Prim.Native.Nat.{ℕ, _+_}
-use lib.Dec.{eqb, leb, ltb}
+use lib.Dec.{leb, ltb}
 use lib.ListN.{length, getD, set}
 use Rattle.protocol.specs.Sets.{bit}
 use Rattle.protocol.specs.Lists.{if_then_else_, any, filter}
@@ -52,8 +52,8 @@ nobody = 16
 
 module _ (b : Bench) where
   -- Refused: "all as before".
-  abbrev pub refuse : ℕ → Refusal → Stepped
-  refuse who r = record { reply = record { who = who; answer = refused r; number = 0 }; bench = b }
+  abbrev pub refuseLine : ℕ → Refusal → Stepped
+  refuseLine who r = record { reply = record { who = who; answer = refused r; number = 0 }; bench = b }
 
   abbrev pub seat : ℕ → Seat
   seat k = getD (b .seats) k emptySeat
@@ -66,13 +66,13 @@ module _ (b : Bench) where
   }
 
   -- "Before setup 8 comes first."
-  abbrev pub afterSetup : ℕ → Stepped → Stepped
-  afterSetup who s = if b .isSetUp then s else refuse who outOfPlace
+  abbrev pub onceSetUp : ℕ → Stepped → Stepped
+  onceSetUp who s = if b .isSetUp then s else refuseLine who outOfPlace
 
   -- "a setup that is taken starts all sixteen controllers on an empty pool". Its row names the sender, or nobody where the sender is above 15.
   unfoldable pub setUp : ℕ → ℕ → ℕ → Stepped
   setUp members sender faulty =
-      if b .isSetUp || not (setupAllowed 0 members sender) then refuse (if ltb sender controllers then sender else nobody) badSetup
+      if b .isSetUp || not (setupAllowed 0 members sender) then refuseLine (if ltb sender controllers then sender else nobody) badSetup
       else record {
         reply = record { who = sender; answer = taken; number = 0 };
         bench = record { isSetUp = true; faulty = faulty; seats = table controllers (λ k. record { controller = started k members sender; statements = [] }); pool = [] };
@@ -81,9 +81,9 @@ module _ (b : Bench) where
   -- "Give adds statement n to k's record". "Give: 8, 3, 4."
   unfoldable pub giveTo : ℕ → ℕ → Stepped
   giveTo k n =
-      afterSetup k (if leb (length (b .pool)) n then refuse k outOfPlace
-      else if any (sameStmt (getD (b .pool) n noStmt)) (seat k .statements) then refuse k repeated
-      else if leb 512 (length (seat k .statements)) then refuse k full
+      onceSetUp k (if leb (length (b .pool)) n then refuseLine k outOfPlace
+      else if any (sameStmt (getD (b .pool) n noStmt)) (seat k .statements) then refuseLine k repeated
+      else if leb 512 (length (seat k .statements)) then refuseLine k full
       else at k (record { answer = taken; controller = seat k .controller; statements = seat k .statements ++ (getD (b .pool) n noStmt ∷ []) }) (b .pool) 0)
 
   -- "all adds every missing one in rising number"; its value is their count.
@@ -92,7 +92,7 @@ module _ (b : Bench) where
 
   unfoldable pub giveAll : ℕ → Stepped
   giveAll k =
-      afterSetup k (if ltb 512 (length (seat k .statements) + length (missing k)) then refuse k full
+      onceSetUp k (if ltb 512 (length (seat k .statements) + length (missing k)) then refuseLine k full
       else at k (record { answer = taken; controller = seat k .controller; statements = seat k .statements ++ missing k }) (b .pool) (length (missing k)))
 
   -- "a turn that signs also adds to the pool"
@@ -113,9 +113,9 @@ module _ (b : Bench) where
   -- "a lie changes the pool alone". "A lie line after setup: 2, 8 for its origin, 3, 4." (2 is the case of noStatement.)
   unfoldable pub lieOf : Stmt → Stepped
   lieOf s =
-      afterSetup (s .origin) (if not (bit (b .faulty) (s .origin)) then refuse (s .origin) outOfPlace
-      else if any (sameStmt s) (b .pool) then refuse (s .origin) repeated
-      else if leb 512 (length (b .pool)) then refuse (s .origin) full
+      onceSetUp (s .origin) (if not (bit (b .faulty) (s .origin)) then refuseLine (s .origin) outOfPlace
+      else if any (sameStmt s) (b .pool) then refuseLine (s .origin) repeated
+      else if leb 512 (length (b .pool)) then refuseLine (s .origin) full
       else record {
         reply = record { who = s .origin; answer = taken; number = length (b .pool) };
         bench = record { isSetUp = b .isSetUp; faulty = b .faulty; seats = b .seats; pool = b .pool ++ (s ∷ []) };
@@ -123,7 +123,7 @@ module _ (b : Bench) where
 
   -- What a line does. A line that reads as none is refused with 8.
   unfoldable pub step : Option Line → Stepped
-  step none = refuse nobody outOfPlace
+  step none = refuseLine nobody outOfPlace
   step (some (setup members sender faulty)) = setUp members sender faulty
   step (some (join k)) = at k (requestJoin (seat k .controller) (seat k .statements)) (b .pool) 0
   step (some (leave k)) = at k (requestLeave (seat k .controller) (seat k .statements)) (b .pool) 0
@@ -132,4 +132,4 @@ module _ (b : Bench) where
   step (some (all k)) = giveAll k
   step (some (turn k)) = turnAt k
   step (some (lie s)) = lieOf s
-  step (some noStatement) = afterSetup nobody (refuse nobody badStatement)
+  step (some noStatement) = onceSetUp nobody (refuseLine nobody badStatement)

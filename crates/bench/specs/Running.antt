@@ -2,17 +2,17 @@
 -- Assumes nothing.
 use mathlib.Core.Path.{_≡_}
 use mathlib.Core.Bool.{Bool, true, false}
-use mathlib.Core.List.{List, [], _∷_, _++_}
+use mathlib.Core.List.{List, [], _++_}
 use mathlib.Core.Option.{Option, some}
 use Prim.Native.Nat.{ℕ, _+_, _*_, _<_, _≤_}
 use lib.ListN.{length, getD, drop}
-use lib.Seq.{sets}
 use Rattle.protocol.specs.Call.{started}
+use Rattle.text.specs.Written.{Wrote}
 use Rattle.views.specs.Table.{table}
-use Rattle.pool.specs.Pool.{recordLen}
+use Rattle.pool.specs.Pool.{recordLen, AllIn}
 use Rattle.engine.specs.declared.Controller.{Controller}
 use Rattle.engine.specs.declared.Answer.{Answer}
-use Rattle.engine.specs.Meaning.{controllerIs, AllIn}
+use Rattle.engine.specs.Meaning.{controllerIs}
 use Rattle.bench.specs.declared.state.Setting.{Setting}
 use Rattle.bench.specs.declared.lines.Place.{Place}
 use Rattle.bench.specs.declared.lines.Moved.{Moved}
@@ -20,11 +20,11 @@ use Rattle.schedule.specs.Line.{Line, ended, lines, Reads, ReadAll}
 use Rattle.bench.specs.Bench.{Seat, Bench, Reply, newBench}
 use Rattle.bench.specs.Rows.{rowText, rowsFrom, Printed}
 use Rattle.bench.specs.Writing.{rowOf}
-use Rattle.bench.specs.Seats.{blank, seatIs, benchOf, Distinct, Full, Advanced, wordOf, valueOf}
+use Rattle.bench.specs.Seats.{blank, seatIs, benchOf, Distinct, Full, Advanced, wordOfAnswer, valueOfAnswer}
 
 -- The row of a line.
 unfoldable pub rowIs : ℕ → ℕ → Answer → ℕ → List ℕ
-rowIs n who a number = rowOf n who (wordOf a) (valueOf a number)
+rowIs n who a number = rowOf n who (wordOfAnswer a) (valueOfAnswer a number)
 
 -- The sixteen seats.
 unfoldable pub seatsIs : List ℕ → List Controller → List (List ℕ) → List Seat
@@ -35,7 +35,7 @@ abbrev pub benchIs : Setting → List ℕ → List Controller → List (List ℕ
 benchIs g W cs Rs = benchOf (g .ready) (g .faulty) (seatsIs W cs Rs) W
 
 -- What the bench keeps of its pool, its controllers and their records.
-pub record Kept (W : List ℕ) (cs : List Controller) (Rs : List (List ℕ)) : Type 0 where
+pub record BenchKept (W : List ℕ) (cs : List Controller) (Rs : List (List ℕ)) : Type 0 where
   pub distinct : Distinct W
   pub long : length cs ≡ 16
   pub records : length Rs ≡ 16
@@ -59,17 +59,16 @@ pub record Reading (S : List ℕ) (printed rest : List ℕ) : Type 0 where
   pub rows : rowsFrom 1 newBench reading ≡ printed ++ rest
 
 -- The lines before the place were run, and b is the bench; `printed` stands in the rows R′ after the header.
-pub record Going (S : List ℕ) (place : Place) (b : Bench) (R R′ : List ℕ) : Type 0 where
+pub record RunSoFar (S : List ℕ) (place : Place) (b : Bench) (R R′ : List ℕ) : Type 0 where
   pub printed : List ℕ
-  pub rows : R′ ≡ sets R 22 printed
-  pub end : place .out ≡ 22 + length printed
+  pub wrote : Wrote R 22 printed (place .out) R′
   pub small : length printed ≤ 40 * place .at
   pub number : place .n ≤ place .at + 1
   pub within : place .at ≤ length S
   pub rest : (L : List (Option Line)) → ReadAll (lines (drop (place .at) S)) L → Reading S printed (rowsFrom (place .n) b L)
 
 -- A run before the first line, with the rows after the header.
-pub record Begins (place : Place) : Type 0 where
+pub record AtStart (place : Place) : Type 0 where
   pub ready : place .setting .ready ≡ false
   pub faulty : place .setting .faulty ≡ 0
   pub at : place .at ≡ 0
@@ -77,22 +76,21 @@ pub record Begins (place : Place) : Type 0 where
   pub out : place .out ≡ 22
 
 -- A run that has room for one more row and goes on so many bytes later.
-pub record Room (place : Place) (next : ℕ) : Type 0 where
+pub record HasRoom (place : Place) (next : ℕ) : Type 0 where
   pub out : place .out ≤ 2621504
   pub number : place .n < 100000
   pub at : place .at + next ≤ 65536
 
 -- The row went into the rows R where the run stood; it goes on so many bytes later, with the next line.
-pub record Passed (R : List ℕ) (place : Place) (next : ℕ) (row : List ℕ) (on : Place) (R′ : List ℕ) : Type 0 where
+pub record RowWritten (R : List ℕ) (place : Place) (next : ℕ) (row : List ℕ) (on : Place) (R′ : List ℕ) : Type 0 where
   pub at : on .at ≡ place .at + next
   pub number : on .n ≡ place .n + 1
-  pub end : on .out ≡ place .out + length row
-  pub rows : R′ ≡ sets R (place .out) row
+  pub wrote : Wrote R (place .out) row (on .out) R′
   pub small : length row ≤ 40
 
 -- What a row of a line that leaves all settings as they are does to the run.
-pub record Put (R : List ℕ) (place : Place) (next : ℕ) (row : List ℕ) (on : Place) (R′ : List ℕ) : Type 0 where
-  pub passed : Passed R place next row on R′
+pub record RowPut (R : List ℕ) (place : Place) (next : ℕ) (row : List ℕ) (on : Place) (R′ : List ℕ) : Type 0 where
+  pub passed : RowWritten R place next row on R′
   pub setting : on .setting ≡ place .setting
 
 -- Up to where a record is known to have every number after a line, over a pool of n statements: the whole pool, or as before.
@@ -105,25 +103,23 @@ pub record LineRun (W R : List ℕ) (place : Place) (k : ℕ) (T : List ℕ) (ro
   pub line : Line
   pub reads : Reads (ended T) (some line)
   pub reply : Reply
-  pub passed : Passed rows place (length T + 1) (rowText (place .n) reply) (s .place) rows′
+  pub passed : RowWritten rows place (length T + 1) (rowText (place .n) reply) (s .place) rows′
   pub advanced : Advanced W R (place .setting) k line reply (s .place .setting) (s .fresh) W′ R′
   pub full-is : s .fresh ≡ false → Full R′ (s .full)
 
 -- The rows of a schedule stand after the header.
 pub record Ran (S : List ℕ) (R R′ : List ℕ) (out : ℕ) : Type 0 where
   pub printed : List ℕ
-  pub rows : R′ ≡ sets R 22 printed
-  pub end : out ≡ 22 + length printed
+  pub wrote : Wrote R 22 printed out R′
   pub small : length printed ≤ 2621440
   pub ran : Reading S printed []
 
 -- Of what is printed for S, as much as has room stands in R′ from the start; r is the length of all of it.
-pub record Wrote (S R : List ℕ) (r : ℕ) (R′ : List ℕ) : Type 0 where
+pub record PrintedInto (S R : List ℕ) (r : ℕ) (R′ : List ℕ) : Type 0 where
   pub text : List ℕ
   pub printed : Printed S text
-  pub long : r ≡ length text
+  pub wrote : Wrote R 0 text r R′
   pub small : length text ≤ 2621504
-  pub rows : R′ ≡ sets R 0 text
 
 -- r is the length of what is printed for S.
 pub record Long (S : List ℕ) (r : ℕ) : Type 0 where

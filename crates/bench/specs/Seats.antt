@@ -2,7 +2,7 @@
 -- Assumes nothing.
 use mathlib.Core.Path.{_≡_}
 use mathlib.Core.Bool.{Bool, true, false, not}
-use mathlib.Core.List.{List, [], _∷_, _++_}
+use mathlib.Core.List.{List, [], _++_}
 use mathlib.Core.Option.{some}
 use Prim.Native.Nat.{ℕ, _+_, _<_, _≤_}
 use lib.Dec.{eqb}
@@ -13,14 +13,14 @@ use Rattle.protocol.specs.Statement.{sameStmt}
 use Rattle.protocol.specs.Call.{setupAllowed, started}
 use Rattle.views.specs.Table.{table}
 use Rattle.statements.specs.declared.Binding.the-variants.{Unbound}
-use Rattle.pool.specs.Pool.{stmtAt, poolLen, recordLen, recordIn}
+use Rattle.pool.specs.Pool.{stmtAt, poolLen, recordLen, recordIn, poolOf, AllIn, Grows}
 use Rattle.engine.specs.declared.Controller.{Controller}
 use Rattle.engine.specs.declared.Outcome.{Outcome}
-use Rattle.rules.specs.declared.Send.the-variants.{Nothing}
+use Rattle.rules.specs.declared.OptionalPayload.the-variants.{Nothing}
 use Rattle.engine.specs.declared.Answer.{Answer}
 use Rattle.engine.specs.declared.Refusal.{Refusal}
 use Rattle.engine.specs.declared.Answer.the-variants.{Taken, Signed, Entered, Delivered, Left, Quiet, Refused}
-use Rattle.engine.specs.Meaning.{controllerIs, poolIs, AllIn, answerIs, refusalIs}
+use Rattle.engine.specs.Meaning.{controllerIs, answerIs, refusalIs}
 use Rattle.protocol.specs.Controller.{refusalNumber, taken}
 use Rattle.schedule.specs.declared.line.Line.{Line as Held}
 use Rattle.schedule.specs.declared.line.Line.the-variants as is
@@ -32,7 +32,7 @@ use Rattle.bench.specs.declared.row.Value.{Value}
 use Rattle.bench.specs.declared.row.Value.the-variants as value
 use Rattle.bench.specs.declared.seat.Given.{Given}
 use Rattle.bench.specs.declared.state.Setting.{Setting}
-use Rattle.bench.specs.declared.state.Stepped.{Stepped}
+use Rattle.bench.specs.declared.state.Effect.{Effect}
 use Rattle.schedule.specs.Line.{Line, ended, Reads}
 use Rattle.schedule.specs.Line as lines
 use Rattle.schedule.specs.Reading.{meant, Tells}
@@ -59,7 +59,7 @@ seatIs W c R = record { controller = controllerIs c; statements = recordIn W R }
 
 -- The bench with these seats over the pool's memory.
 abbrev pub benchOf : Bool → ℕ → List Seat → List ℕ → Bench
-benchOf ready faulty X W = record { isSetUp = ready; faulty = faulty; seats = X; pool = poolIs W }
+benchOf ready faulty X W = record { isSetUp = ready; faulty = faulty; seats = X; pool = poolOf W }
 
 -- Two numbers of the pool stand for the same statement just where they are the same.
 pub record Distinct (W : List ℕ) : Type 0 where
@@ -70,35 +70,30 @@ pub record Sound (W R : List ℕ) : Type 0 where
   pub distinct : Distinct W
   pub whole : AllIn W R
 
--- The statements that the pool had keep their numbers.
-pub record Grows (W W′ : List ℕ) : Type 0 where
-  pub len : poolLen W ≤ poolLen W′
-  pub same : (n : ℕ) → n < poolLen W → stmtAt W′ n ≡ stmtAt W n
-
 -- ---- a record's numbers
 
 unfoldable pub numbersIn : List ℕ → List ℕ
 numbersIn R = table (recordLen R) (λ i. getD R i 0)
 
 -- Whether n is one of them.
-unfoldable pub listed : List ℕ → ℕ → Bool
-listed R n = any (eqb n) (numbersIn R)
+unfoldable pub hasNumber : List ℕ → ℕ → Bool
+hasNumber R n = any (eqb n) (numbersIn R)
 
 -- The record has every number below m.
 unfoldable pub Full : List ℕ → ℕ → Type 0
-Full R m = (i : ℕ) → i < m → listed R i ≡ true
+Full R m = (i : ℕ) → i < m → hasNumber R i ≡ true
 
 -- The record has what it had.
 unfoldable pub Keeps : List ℕ → List ℕ → Type 0
-Keeps R R′ = (i : ℕ) → listed R i ≡ true → listed R′ i ≡ true
+Keeps R R′ = (i : ℕ) → hasNumber R i ≡ true → hasNumber R′ i ≡ true
 
 -- Every number that the record has is below m.
-unfoldable pub Below : List ℕ → ℕ → Type 0
-Below R m = (i : ℕ) → i < recordLen R → getD R i 0 < m
+unfoldable pub NumbersBelow : List ℕ → ℕ → Type 0
+NumbersBelow R m = (i : ℕ) → i < recordLen R → getD R i 0 < m
 
 -- marks tell which numbers below 512 the record has.
 pub record Marks (R : List ℕ) (marks : List Bool) : Type 0 where
-  pub tells : (n : ℕ) → n < 512 → getD marks n false ≡ listed R n
+  pub tells : (n : ℕ) → n < 512 → getD marks n false ≡ hasNumber R n
 
 -- Every number from i on, below j, has a mark.
 unfoldable pub Marked : List Bool → ℕ → ℕ → Type 0
@@ -116,14 +111,14 @@ unfoldable pub unmarked : List Bool → ℕ → List ℕ
 unmarked marks n = filter (λ i. not (getD marks i false)) (table n (λ i. i))
 
 -- The numbers below n that had no mark are at the end of the record, if it had room for all of them.
-pub record Filled (R : List ℕ) (marks : List Bool) (n : ℕ) (R′ : List ℕ) : Type 0 where
+pub record RecordFilled (R : List ℕ) (marks : List Bool) (n : ℕ) (R′ : List ℕ) : Type 0 where
   pub numbers : recordLen R + length (unmarked marks n) ≤ 512 → numbersIn R′ ≡ numbersIn R ++ unmarked marks n
-  pub below : (m : ℕ) → n ≤ m → Below R m → Below R′ m
+  pub below : (m : ℕ) → n ≤ m → NumbersBelow R m → NumbersBelow R′ m
 
 -- ---- a line that goes to one record
 
 -- The line l, which names seat k, was answered so: what it does to every bench that has the record R there.
-pub record Seated (W R : List ℕ) (ready : Bool) (k : ℕ) (l : Line) (r : Given) (R′ : List ℕ) : Type 0 where
+pub record GivenAtSeat (W R : List ℕ) (ready : Bool) (k : ℕ) (l : Line) (r : Given) (R′ : List ℕ) : Type 0 where
   pub steps : (faulty : ℕ) (X : List Seat) → getD X k emptySeat .statements ≡ recordIn W R
       → step (benchOf ready faulty X W) (some l)
       ≡ record {
@@ -136,10 +131,10 @@ pub record Seated (W R : List ℕ) (ready : Bool) (k : ℕ) (l : Line) (r : Give
 
 -- What `give` of statement n promises, and what `all` does, whomever they name.
 pub record Gives (W R : List ℕ) (ready : Bool) (n : ℕ) (r : Given) (R′ : List ℕ) : Type 0 where
-  pub to : (k : ℕ) → Seated W R ready k (lines.give k n) r R′
+  pub to : (k : ℕ) → GivenAtSeat W R ready k (lines.give k n) r R′
 
 pub record GivesAll (W R : List ℕ) (ready : Bool) (r : Given) (R′ : List ℕ) : Type 0 where
-  pub to : (k : ℕ) → Seated W R ready k (lines.all k) r R′
+  pub to : (k : ℕ) → GivenAtSeat W R ready k (lines.all k) r R′
 
 -- ---- a call
 
@@ -164,7 +159,7 @@ changesIs Quiet = false
 changesIs (Refused r) = false
 
 -- The line l calls controller c at seat k, which has the record R: what it does to every bench that has them there.
-pub record CalledAt (W R : List ℕ) (c : Controller) (k : ℕ) (l : Line) (o : Outcome) (W′ R′ : List ℕ) : Type 0 where
+pub record CalledAtSeat (W R : List ℕ) (c : Controller) (k : ℕ) (l : Line) (o : Outcome) (W′ R′ : List ℕ) : Type 0 where
   pub steps : (ready : Bool) (faulty : ℕ) (X : List Seat) → getD X k emptySeat ≡ seatIs W c R
       → step (benchOf ready faulty X W) (some l)
       ≡ record {
@@ -203,14 +198,14 @@ isCall (is.Turn k) = true
 isCall is.Lie = false
 
 -- The line l was read from the text T.
-pub record Fit (l : Held) (T : List ℕ) : Type 0 where
+pub record ReadFrom (l : Held) (T : List ℕ) : Type 0 where
   pub tells : Tells (meant l) (ended T)
 
 -- The line l calls the controller c, which has the record R.
-pub record Called (W R : List ℕ) (c : Controller) (l : Held) (o : Outcome) (W′ R′ : List ℕ) : Type 0 where
+pub record CalledByLine (W R : List ℕ) (c : Controller) (l : Held) (o : Outcome) (W′ R′ : List ℕ) : Type 0 where
   pub line : Line
   pub means : meant l ≡ some line
-  pub called : CalledAt W R c (seatOf (Readable l)) line o W′ R′
+  pub called : CalledAtSeat W R c (seatOf (Readable l)) line o W′ R′
 
 -- The seats after a line that calls no controller: a setup that is taken starts all of them, every other line changes at most one record.
 abbrev pub seatsAfter : Bool → Setting → List ℕ → List ℕ → ℕ → List Seat → List Seat
@@ -231,30 +226,30 @@ pub record Advanced (W R : List ℕ) (g : Setting) (k : ℕ) (l : Line) (y : Rep
   pub begun : fresh ≡ true → (poolLen W′ ≡ 0) × (setupAllowed 0 (h .members) (h .sender) ≡ true)
 
 -- What `step` answers of a line.
-pub record SteppedAs (W R : List ℕ) (g : Setting) (k : ℕ) (l : Line) (s : Stepped) (W′ R′ : List ℕ) : Type 0 where
+pub record SteppedAs (W R : List ℕ) (g : Setting) (k : ℕ) (l : Line) (s : Effect) (W′ R′ : List ℕ) : Type 0 where
   pub who : s .who ≤ 16
   pub advanced : Advanced W R g k l (replyIs W′ (s .who) (s .answer) (s .number)) (s .setting) (s .fresh) W′ R′
   pub full : s .whole ≡ true → Full R′ (poolLen W′)
 
 -- The text T reads as a line, which does this.
-pub record SteppedBy (W R : List ℕ) (g : Setting) (k : ℕ) (T : List ℕ) (s : Stepped) (W′ R′ : List ℕ) : Type 0 where
+pub record SteppedBy (W R : List ℕ) (g : Setting) (k : ℕ) (T : List ℕ) (s : Effect) (W′ R′ : List ℕ) : Type 0 where
   pub line : Line
   pub reads : Reads (ended T) (some line)
   pub stepped : SteppedAs W R g k line s W′ R′
 
 -- The same of a line that goes to the pool alone: whatever record stands at the first seat stays.
-pub record Pools (W : List ℕ) (g : Setting) (l : Line) (s : Stepped) (W′ : List ℕ) : Type 0 where
+pub record SteppedOnPool (W : List ℕ) (g : Setting) (l : Line) (s : Effect) (W′ : List ℕ) : Type 0 where
   pub over : (R : List ℕ) → AllIn W R → SteppedAs W R g 0 l s W′ R
 
-pub record PoolsBy (W : List ℕ) (g : Setting) (T : List ℕ) (s : Stepped) (W′ : List ℕ) : Type 0 where
+pub record SteppedOnPoolBy (W : List ℕ) (g : Setting) (T : List ℕ) (s : Effect) (W′ : List ℕ) : Type 0 where
   pub over : (R : List ℕ) → AllIn W R → SteppedBy W R g 0 T s W′ R
 
 -- What is told of a lie whose text is no statement.
-pub record NoStatement (g : Setting) (s : Stepped) : Type 0 where
-  pub pools : (W : List ℕ) → Distinct W → Pools W g lines.noStatement s W
+pub record NoStatement (g : Setting) (s : Effect) : Type 0 where
+  pub pools : (W : List ℕ) → Distinct W → SteppedOnPool W g lines.noStatement s W
 
 -- What is told of a line that was answered so and leaves all settings as they were.
-pub record ToldAs (g : Setting) (who : ℕ) (r : Given) (s : Stepped) : Type 0 where
+pub record ToldAs (g : Setting) (who : ℕ) (r : Given) (s : Effect) : Type 0 where
   pub who-is : s .who ≡ who
   pub answer : s .answer ≡ r .answer
   pub number : s .number ≡ r .number
@@ -269,7 +264,7 @@ abbrev pub takenAs : ℕ → Bool → Given
 takenAs n whole = record { answer = Taken; number = n; whole = whole }
 
 -- The line leaves every bench as it is and answers taken with 0, where the record of the controller that it names has every number below full.
-pub record Needless (W : List ℕ) (g : Setting) (full : ℕ) (l : Held) : Type 0 where
+pub record LacksNothing (W : List ℕ) (g : Setting) (full : ℕ) (l : Held) : Type 0 where
   pub line : Line
   pub means : meant l ≡ some line
   pub steps : (R : List ℕ) → Sound W R → Full R full → (X : List Seat) → getD X (seatOf (Readable l)) emptySeat .statements ≡ recordIn W R
@@ -278,20 +273,20 @@ pub record Needless (W : List ℕ) (g : Setting) (full : ℕ) (l : Held) : Type 
 
 -- ---- rows
 
-abbrev pub wordOf : Answer → Word
-wordOf Taken = word.Taken
-wordOf (Signed n) = word.Signed
-wordOf (Entered v) = word.Entered
-wordOf (Delivered m) = word.Delivered
-wordOf Left = word.Left
-wordOf Quiet = word.Quiet
-wordOf (Refused r) = word.Refused
+abbrev pub wordOfAnswer : Answer → Word
+wordOfAnswer Taken = word.Taken
+wordOfAnswer (Signed n) = word.Signed
+wordOfAnswer (Entered v) = word.Entered
+wordOfAnswer (Delivered m) = word.Delivered
+wordOfAnswer Left = word.Left
+wordOfAnswer Quiet = word.Quiet
+wordOfAnswer (Refused r) = word.Refused
 
-abbrev pub valueOf : Answer → ℕ → Value
-valueOf Taken n = value.Number n
-valueOf (Signed i) n = value.Number n
-valueOf (Entered v) n = value.View v
-valueOf (Delivered m) n = value.Number m
-valueOf Left n = value.Number 0
-valueOf Quiet n = value.Number 0
-valueOf (Refused r) n = value.Number (refusalNumber (refusalIs r))
+abbrev pub valueOfAnswer : Answer → ℕ → Value
+valueOfAnswer Taken n = value.Number n
+valueOfAnswer (Signed i) n = value.Number n
+valueOfAnswer (Entered v) n = value.View v
+valueOfAnswer (Delivered m) n = value.Number m
+valueOfAnswer Left n = value.Number 0
+valueOfAnswer Quiet n = value.Number 0
+valueOfAnswer (Refused r) n = value.Number (refusalNumber (refusalIs r))

@@ -39,14 +39,14 @@ abbrev pub valueIs : Value → spoken.Value
 valueIs (Number n) = number n
 valueIs (View v) = view (viewIs v)
 
-abbrev pub shownText : Value → List ℕ
-shownText v = valueText (valueIs v)
+abbrev pub valueShown : Value → List ℕ
+valueShown v = valueText (valueIs v)
 
 unfoldable pub rowOf : ℕ → ℕ → Word → Value → List ℕ
-rowOf n who w v = parted (decText n ∷ decText who ∷ wordIs w ∷ shownText v ∷ []) ++ (10 ∷ [])
+rowOf n who w v = parted (decText n ∷ decText who ∷ wordIs w ∷ valueShown v ∷ []) ++ (10 ∷ [])
 
 -- The row's fields are those of the reply.
-pub record Shows (r : Reply) (who : ℕ) (w : Word) (v : Value) : Type 0 where
+pub record RowShows (r : Reply) (who : ℕ) (w : Word) (v : Value) : Type 0 where
   pub named : r .who ≡ who
   pub word : wordFor (r .answer) ≡ w
   pub value : answerValue (r .number) (r .answer) ≡ valueIs v

@@ -1,17 +1,15 @@
 // A schedule to its rows.
 ghost use mathlib.Core.Path.{_≡_};
 ghost use mathlib.Core.Bool.{true, false};
-ghost use mathlib.Core.List.{List};
-ghost use Prim.Native.Nat.{ℕ, _+_, _<_, _≤_};
+ghost use Prim.Native.Nat.{_+_, _<_, _≤_};
 ghost use lib.ListN.{length};
-ghost use Rattle.protocol.specs.Controller.{refusalNumber};
 ghost use Rattle.protocol.specs.Call.{setupAllowed};
-ghost use Rattle.engine.specs.Meaning.{refusalIs};
+ghost use Rattle.text.specs.Written.{Wrote};
 ghost use Rattle.schedule.specs.declared.line.Parsed.the-variants.{Readable};
-ghost use Rattle.bench.specs.Rows.{Answered};
-ghost use Rattle.bench.specs.Seats.{Sound, Full, Fit, seatOf, isCall, wordOf, valueOf};
+ghost use Rattle.bench.specs.Rows.{refusedRow, Answered};
+ghost use Rattle.bench.specs.Seats.{Sound, Full, ReadFrom, seatOf, isCall, wordOfAnswer, valueOfAnswer};
 ghost use Rattle.bench.specs.Writing.{rowOf};
-ghost use Rattle.bench.specs.Running.{rowIs, Started, Room, Put, fullAfter, LineRun, Begins, Ran, Wrote, Long};
+ghost use Rattle.bench.specs.Running.{rowIs, Started, HasRoom, RowPut, fullAfter, LineRun, AtStart, Ran, PrintedInto, Long};
 ghost use Rattle.pool.specs.Pool.{poolLen};
 use crate::row;
 use crate::row::Value;
@@ -21,7 +19,6 @@ use crate::state::NOBODY;
 use crate::state::Setting;
 use engine::Answer;
 use engine::Controller;
-use engine::Refusal;
 use pool::POOL_WORDS;
 use pool::RECORD;
 use schedule::line;
@@ -32,11 +29,17 @@ use views::View;
 // A seat for each controller.
 const SEATS: usize = View::WIDTH as usize;
 
+// No longer schedule is run.
+const SCHEDULE_MAX: usize = 65536;
+
+// The number of the refusal of a line that is unreadable, and of a schedule that is not run.
+const UNREADABLE: u64 = 8;
+
 // Enough for the rows of any schedule.
 pub const ROWS_MAX: usize = 2621504;
 
 fn word_of(a: Answer) -> Word
-    ensures { λ r. ⌜ r ≡ wordOf a ⌝ }
+    ensures { λ r. ⌜ r ≡ wordOfAnswer a ⌝ }
 {
     match a {
         Answer::Taken => Word::Taken,
@@ -49,23 +52,8 @@ fn word_of(a: Answer) -> Word
     }
 }
 
-fn refusal_number(r: Refusal) -> u64
-    ensures { λ n. ⌜ n ≡ refusalNumber (refusalIs r) ⌝ }
-{
-    match r {
-        Refusal::BadSetup => 1,
-        Refusal::BadStatement => 2,
-        Refusal::Repeated => 3,
-        Refusal::Full => 4,
-        Refusal::BadRequest => 5,
-        Refusal::ManyCandidates => 6,
-        Refusal::Conflict => 7,
-        Refusal::OutOfPlace => 8,
-    }
-}
-
 fn value_of(a: Answer, n: u64) -> Value
-    ensures { λ r. ⌜ r ≡ valueOf a n ⌝ }
+    ensures { λ r. ⌜ r ≡ valueOfAnswer a n ⌝ }
 {
     match a {
         Answer::Taken => Value::Number(n),
@@ -74,7 +62,7 @@ fn value_of(a: Answer, n: u64) -> Value
         Answer::Delivered(m) => Value::Number(m),
         Answer::Left => Value::Number(0),
         Answer::Quiet => Value::Number(0),
-        Answer::Refused(r) => Value::Number(refusal_number(r)),
+        Answer::Refused(r) => Value::Number(engine::refusal_number(r)),
     }
 }
 
@@ -95,8 +83,8 @@ struct Moved {
 
 // Writes a row, and goes on with the line that starts so many bytes later.
 fn put_line(rows: &mut [u8], place: Place, next: usize, who: u64, word: Word, value: Value) -> Place
-    requires { ⌜ Room place next × (who ≤ 16) ⌝ }
-    ensures { λ r. ⌜ Put (now (rows .entry)) place next (rowOf (place .n) who word value) r (now (rows .exit)) ⌝ }
+    requires { ⌜ HasRoom place next × (who ≤ 16) ⌝ }
+    ensures { λ r. ⌜ RowPut (now (rows .entry)) place next (rowOf (place .n) who word value) r (now (rows .exit)) ⌝ }
 {
     let end = row::put_row_within(rows, place.out, place.n, who, word, value);
     Place {
@@ -109,8 +97,8 @@ fn put_line(rows: &mut [u8], place: Place, next: usize, who: u64, word: Word, va
 
 // The row of an answer.
 fn put_step(rows: &mut [u8], place: Place, next: usize, who: u64, a: Answer, number: u64) -> Place
-    requires { ⌜ Room place next × (who ≤ 16) ⌝ }
-    ensures { λ r. ⌜ Put (now (rows .entry)) place next (rowIs (place .n) who a number) r (now (rows .exit)) ⌝ }
+    requires { ⌜ HasRoom place next × (who ≤ 16) ⌝ }
+    ensures { λ r. ⌜ RowPut (now (rows .entry)) place next (rowIs (place .n) who a number) r (now (rows .exit)) ⌝ }
 {
     put_line(rows, place, next, who, word_of(a), value_of(a, number))
 }
@@ -177,7 +165,7 @@ fn run_line(
     text: &[u8],
     full: usize,
 ) -> Moved
-    requires { ⌜ Sound (now words) (now ids) × Fit line (now text) × (isCall line ≡ false) × Room place (length (now text) + 1) × Full (now ids) full ⌝ }
+    requires { ⌜ Sound (now words) (now ids) × ReadFrom line (now text) × (isCall line ≡ false) × HasRoom place (length (now text) + 1) × Full (now ids) full ⌝ }
     ensures { λ r. ⌜ LineRun (now (words .entry)) (now (ids .entry)) place (seatOf (Readable line)) (now (text .entry)) (now (rows .entry)) r (now (words .exit)) (now (ids .exit)) (now (rows .exit)) ⌝ }
 {
     let next = text.len() + 1;
@@ -195,7 +183,7 @@ fn run_line(
 
 // Where a run stands at first: the rows stand after the header.
 fn first() -> Place
-    ensures { λ r. ⌜ Begins r ⌝ }
+    ensures { λ r. ⌜ AtStart r ⌝ }
 {
     let none = Setting {
         ready: false,
@@ -207,7 +195,7 @@ fn first() -> Place
         setting: none,
         at: 0,
         n: 1,
-        out: 22,
+        out: row::HEADER,
     }
 }
 
@@ -230,7 +218,14 @@ fn run_lines(schedule: &[u8], rows: &mut [u8]) -> usize
         let next = read.next;
         let parsed = read.parsed;
         let Parsed::Readable(line) = parsed else {
-            let on = put_line(rows, place, next, NOBODY, Word::Refused, Value::Number(8));
+            let on = put_line(
+                rows,
+                place,
+                next,
+                NOBODY,
+                Word::Refused,
+                Value::Number(UNREADABLE),
+            );
             place = on;
             continue;
         };
@@ -271,17 +266,31 @@ fn run_lines(schedule: &[u8], rows: &mut [u8]) -> usize
     place.out
 }
 
+// The only row of a schedule that is not run.
+fn put_refused(rows: &mut [u8]) -> usize
+    ensures { λ r. ⌜ Wrote (now (rows .entry)) 22 refusedRow r (now (rows .exit)) × (length refusedRow ≤ 40) ⌝ }
+{
+    row::put_row_within(
+        rows,
+        row::HEADER,
+        0,
+        NOBODY,
+        Word::Refused,
+        Value::Number(UNREADABLE),
+    )
+}
+
 // Of the rows of a schedule, writes what has room, and answers how many bytes they all have. No schedule has more than 65,536 lines, and
 // no row more than 40 bytes.
 fn run_rows(schedule: &[u8], rows: &mut [u8]) -> usize
-    ensures { λ r. ⌜ Wrote (now (schedule .entry)) (now (rows .entry)) r (now (rows .exit)) ⌝ }
+    ensures { λ r. ⌜ PrintedInto (now (schedule .entry)) (now (rows .entry)) r (now (rows .exit)) ⌝ }
 {
     row::put_header(rows);
     if schedule.len() == 0 {
-        return row::put_row_within(rows, 22, 0, NOBODY, Word::Refused, Value::Number(8));
+        return put_refused(rows);
     }
-    if schedule.len() > 65536 {
-        return row::put_row_within(rows, 22, 0, NOBODY, Word::Refused, Value::Number(8));
+    if schedule.len() > SCHEDULE_MAX {
+        return put_refused(rows);
     }
     run_lines(schedule, rows)
 }

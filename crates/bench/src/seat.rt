@@ -3,9 +3,10 @@ ghost use mathlib.Core.Path.{_≡_};
 ghost use mathlib.Core.Bool.{true};
 ghost use Prim.Native.Nat.{_+_, _≤_};
 ghost use lib.ListN.{length};
-ghost use Rattle.bench.specs.Seats.{Sound, listed, Below, Marks, Marked, FirstFree, unmarked, Filled, refusedFor, takenAs, Gives, GivesAll};
+ghost use Rattle.bench.specs.Seats.{Sound, hasNumber, NumbersBelow, Marks, Marked, FirstFree, unmarked, RecordFilled, refusedFor, takenAs, Gives, GivesAll};
 use engine::Answer;
 use engine::Refusal;
+use pool::CAPACITY;
 use pool::POOL_WORDS;
 use pool::RECORD;
 
@@ -38,7 +39,7 @@ pub fn taken(n: u64, whole: bool) -> Given
 
 // Whether a record has the number n. The pool's statements differ, so that it has the statement just where it has the number.
 fn has_number(ids: &[u16; RECORD], n: u16) -> bool
-    ensures { λ r. ⌜ r ≡ listed (now (ids .entry)) n ⌝ }
+    ensures { λ r. ⌜ r ≡ hasNumber (now (ids .entry)) n ⌝ }
 {
     let end = pool::record_length(ids);
     let mut i = 0usize;
@@ -58,12 +59,12 @@ fn index(id: u16) -> usize
 }
 
 // Which numbers a record has.
-fn marks_of(ids: &[u16; RECORD]) -> [bool; 512]
-    requires { ⌜ Below (now ids) 512 ⌝ }
+fn marks_of(ids: &[u16; RECORD]) -> [bool; CAPACITY]
+    requires { ⌜ NumbersBelow (now ids) 512 ⌝ }
     ensures { λ r. ⌜ Marks (now (ids .entry)) r ⌝ }
 {
     let end = pool::record_length(ids);
-    let mut marks = [false; 512];
+    let mut marks = [false; CAPACITY];
     let mut i = 0usize;
     while i < end {
         let id = index(ids[i]);
@@ -74,7 +75,7 @@ fn marks_of(ids: &[u16; RECORD]) -> [bool; 512]
 }
 
 // Whether the eight numbers from i on have marks.
-fn has_eight(marks: &[bool; 512], i: usize) -> bool
+fn has_eight(marks: &[bool; CAPACITY], i: usize) -> bool
     requires { ⌜ i + 8 ≤ 512 ⌝ }
     ensures { λ r. ⌜ (r ≡ true → Marked (now (marks .entry)) i (i + 8)) ⌝ }
 {
@@ -83,7 +84,7 @@ fn has_eight(marks: &[bool; 512], i: usize) -> bool
 }
 
 // Passes over marks, eight at a time: most statements are there already.
-fn skip_eights(marks: &[bool; 512], from: usize, n: usize) -> usize
+fn skip_eights(marks: &[bool; CAPACITY], from: usize, n: usize) -> usize
     requires { ⌜ (from ≤ n) × (n ≤ 512) ⌝ }
     ensures { λ r. ⌜ (from ≤ r) × (r ≤ n) × Marked (now (marks .entry)) from r ⌝ }
 {
@@ -98,7 +99,7 @@ fn skip_eights(marks: &[bool; 512], from: usize, n: usize) -> usize
 }
 
 // The first number from `from` on that has no mark, or n.
-fn first_free(marks: &[bool; 512], from: usize, n: usize) -> usize
+fn first_free(marks: &[bool; CAPACITY], from: usize, n: usize) -> usize
     requires { ⌜ (from ≤ n) × (n ≤ 512) ⌝ }
     ensures { λ r. ⌜ FirstFree (now (marks .entry)) from n r ⌝ }
 {
@@ -113,7 +114,7 @@ fn first_free(marks: &[bool; 512], from: usize, n: usize) -> usize
 }
 
 // How many numbers below n have no mark.
-fn count_free(marks: &[bool; 512], n: usize) -> usize
+fn count_free(marks: &[bool; CAPACITY], n: usize) -> usize
     requires { ⌜ n ≤ 512 ⌝ }
     ensures { λ r. ⌜ (r ≡ length (unmarked (now (marks .entry)) n)) × (r ≤ n) ⌝ }
 {
@@ -127,9 +128,9 @@ fn count_free(marks: &[bool; 512], n: usize) -> usize
 }
 
 // Every number below n that has no mark goes to the end of the record, rising.
-fn fill(ids: &mut [u16; RECORD], marks: &[bool; 512], n: usize)
+fn fill(ids: &mut [u16; RECORD], marks: &[bool; CAPACITY], n: usize)
     requires { ⌜ n ≤ 512 ⌝ }
-    ensures { λ _. ⌜ Filled (now (ids .entry)) (now (marks .entry)) n (now (ids .exit)) ⌝ }
+    ensures { λ _. ⌜ RecordFilled (now (ids .entry)) (now (marks .entry)) n (now (ids .exit)) ⌝ }
 {
     let mut i = first_free(marks, 0, n);
     while i < n {
@@ -152,7 +153,7 @@ pub fn give(ids: &mut [u16; RECORD], words: &[u64; POOL_WORDS], ready: bool, n: 
     if has_number(ids, n as u16) {
         return refused(Refusal::Repeated);
     }
-    if pool::record_length(ids) >= 512 {
+    if pool::record_length(ids) >= CAPACITY {
         return refused(Refusal::Full);
     }
     pool::record_push(ids, n as u16);
@@ -174,7 +175,7 @@ pub fn all(ids: &mut [u16; RECORD], words: &[u64; POOL_WORDS], ready: bool) -> G
     if count == 0 {
         return taken(0, true);
     }
-    if had + count > 512 {
+    if had + count > CAPACITY {
         return refused(Refusal::Full);
     }
     fill(ids, &marks, n);

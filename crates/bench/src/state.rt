@@ -7,7 +7,7 @@ ghost use Rattle.statements.specs.Meaning.{stmtOf};
 ghost use Rattle.schedule.specs.declared.line.Parsed.the-variants.{Readable};
 ghost use Rattle.schedule.specs.Line as lines;
 ghost use Rattle.schedule.specs.Reading.{Lying};
-ghost use Rattle.bench.specs.Seats.{Distinct, Sound, Fit, seatOf, isCall, numberIs, changesIs, refusedFor, Called, ToldAs, SteppedBy, Pools, PoolsBy, NoStatement, Needless};
+ghost use Rattle.bench.specs.Seats.{Distinct, Sound, ReadFrom, seatOf, isCall, numberIs, changesIs, refusedFor, CalledByLine, ToldAs, SteppedBy, SteppedOnPool, SteppedOnPoolBy, NoStatement, LacksNothing};
 use crate::seat;
 use crate::seat::Given;
 use engine::Answer;
@@ -36,7 +36,7 @@ pub struct Setting {
 
 // What a line that calls no controller answers, and what it leaves: `fresh` where every controller is to start, and `whole` where the record
 // has all of the pool now.
-pub struct Stepped {
+pub struct Effect {
     pub who: u64,
     pub answer: Answer,
     pub number: u64,
@@ -69,7 +69,7 @@ pub fn call(
     line: Line,
 ) -> Outcome
     requires { ⌜ Sound (now words) (now ids) × (isCall line ≡ true) ⌝ }
-    ensures { λ r. ⌜ Called (now (words .entry)) (now (ids .entry)) c line r (now (words .exit)) (now (ids .exit)) ⌝ }
+    ensures { λ r. ⌜ CalledByLine (now (words .entry)) (now (ids .entry)) c line r (now (words .exit)) (now (ids .exit)) ⌝ }
 {
     match line {
         Line::Join(_) => c.join(),
@@ -110,11 +110,11 @@ pub fn number_of(a: Answer) -> u64
 }
 
 // A line that leaves the settings as they are.
-fn told(g: Setting, who: u64, r: Given) -> Stepped
+fn told(g: Setting, who: u64, r: Given) -> Effect
     ensures { λ s. ⌜ ToldAs g who r s ⌝ }
 {
     let a = r.answer;
-    Stepped {
+    Effect {
         who: who,
         answer: a,
         number: r.number,
@@ -124,7 +124,7 @@ fn told(g: Setting, who: u64, r: Given) -> Stepped
     }
 }
 
-fn refused(g: Setting, who: u64, r: Refusal) -> Stepped
+fn refused(g: Setting, who: u64, r: Refusal) -> Effect
     ensures { λ s. ⌜ ToldAs g who (refusedFor r) s ⌝ }
 {
     told(g, who, seat::refused(r))
@@ -137,9 +137,9 @@ fn set_up(
     members: u16,
     sender: u8,
     faulty: u16,
-) -> Stepped
+) -> Effect
     requires { ⌜ Distinct (now words) ⌝ }
-    ensures { λ s. ⌜ Pools (now (words .entry)) g (lines.setup members sender faulty) s (now (words .exit)) ⌝ }
+    ensures { λ s. ⌜ SteppedOnPool (now (words .entry)) g (lines.setup members sender faulty) s (now (words .exit)) ⌝ }
 {
     if sender >= View::WIDTH {
         return refused(g, NOBODY, Refusal::BadSetup);
@@ -152,7 +152,7 @@ fn set_up(
         return refused(g, who, Refusal::BadSetup);
     }
     pool::clear(words);
-    Stepped {
+    Effect {
         who: who,
         answer: Answer::Taken,
         number: 0,
@@ -179,9 +179,9 @@ fn is_marked(faulty: u16, k: u8) -> bool
 }
 
 // A lie changes the pool alone.
-fn lie(words: &mut [u64; POOL_WORDS], g: Setting, st: Statement) -> Stepped
+fn lie(words: &mut [u64; POOL_WORDS], g: Setting, st: Statement) -> Effect
     requires { ⌜ Distinct (now words) × (st .history .len ≤ 16) × (st .origin < 16) ⌝ }
-    ensures { λ s. ⌜ Pools (now (words .entry)) g (lines.lie (stmtOf st)) s (now (words .exit)) ⌝ }
+    ensures { λ s. ⌜ SteppedOnPool (now (words .entry)) g (lines.lie (stmtOf st)) s (now (words .exit)) ⌝ }
 {
     let who = st.origin as u64;
     if !g.ready {
@@ -202,7 +202,7 @@ fn lie(words: &mut [u64; POOL_WORDS], g: Setting, st: Statement) -> Stepped
 }
 
 // A lie whose text is no statement.
-fn no_statement(g: Setting) -> Stepped
+fn no_statement(g: Setting) -> Effect
     ensures { λ s. ⌜ NoStatement g s ⌝ }
 {
     if !g.ready {
@@ -212,9 +212,9 @@ fn no_statement(g: Setting) -> Stepped
 }
 
 // A line that is a lie. Its statement is read here, so that no other line pays for it.
-fn lie_line(words: &mut [u64; POOL_WORDS], g: Setting, text: &[u8]) -> Stepped
+fn lie_line(words: &mut [u64; POOL_WORDS], g: Setting, text: &[u8]) -> Effect
     requires { ⌜ Distinct (now words) × Lying (now text) ⌝ }
-    ensures { λ s. ⌜ PoolsBy (now (words .entry)) g (now (text .entry)) s (now (words .exit)) ⌝ }
+    ensures { λ s. ⌜ SteppedOnPoolBy (now (words .entry)) g (now (text .entry)) s (now (words .exit)) ⌝ }
 {
     let read = line::lied(text);
     if !read.ok {
@@ -226,7 +226,7 @@ fn lie_line(words: &mut [u64; POOL_WORDS], g: Setting, text: &[u8]) -> Stepped
 
 // Whether a line is an `all` that finds nothing missing. The record of the controller that it names has every number below `full`.
 pub fn lacks_nothing(line: Line, g: Setting, words: &[u64; POOL_WORDS], full: usize) -> bool
-    ensures { λ r. ⌜ (r ≡ true → Needless (now (words .entry)) g full line) ⌝ }
+    ensures { λ r. ⌜ (r ≡ true → LacksNothing (now (words .entry)) g full line) ⌝ }
 {
     if !g.ready {
         return false;
@@ -248,8 +248,8 @@ pub fn step(
     g: Setting,
     line: Line,
     text: &[u8],
-) -> Stepped
-    requires { ⌜ Sound (now words) (now ids) × Fit line (now text) × (isCall line ≡ false) ⌝ }
+) -> Effect
+    requires { ⌜ Sound (now words) (now ids) × ReadFrom line (now text) × (isCall line ≡ false) ⌝ }
     ensures { λ s. ⌜ SteppedBy (now (words .entry)) (now (ids .entry)) g (seatOf (Readable line)) (now (text .entry)) s (now (words .exit)) (now (ids .exit)) ⌝ }
 {
     match line {

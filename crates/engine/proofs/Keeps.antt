@@ -11,24 +11,22 @@ use native.Mathlib.Omega.{arith}
 use lib.Dec.{leb, ltb}
 use lib.ListN.{length, getD}
 use borrow.Author.Tests.{le-leb, lt-leb, lt-ltb, le-ltb}
-use Rattle.protocol.specs.Lists.{if_then_else_, any}
+use Rattle.protocol.specs.Lists.{any}
 use Rattle.protocol.specs.Statement.{Stmt, sameStmt}
 use Rattle.protocol.specs.Call.{isFull}
 use Rattle.protocol.specs.Pool.{numberOf, pooled, hasRoom}
-use Rattle.views.proofs.Tables.{table-length, table-cong}
+use Rattle.views.proofs.Tables.{table-cong}
 use Rattle.statements.specs.declared.Statement.{Statement}
 use Rattle.statements.specs.Meaning.{stmtOf}
 use Rattle.pool.specs.declared.Placed.{Placed as Answered}
 use Rattle.pool.specs.declared.Placed.the-variants as placed
-use Rattle.pool.specs.Pool.{stmtAt, poolLen, recordOf, recordLen, recordIn}
+use Rattle.pool.specs.Pool.{stmtAt, poolLen, recordUpTo, recordLen, recordIn, poolOf, AllIn}
 use Rattle.pool.specs.Changes as memory
-use Rattle.engine.specs.Meaning.{poolIs, AllIn}
-use Rattle.engine.specs.Promise.{Placed, Numbered}
+use Rattle.protocol.proofs.Found.{if-true, if-false}
+use Rattle.pool.proofs.Records.{pool-length, record-length}
+use Rattle.pool.proofs.Searches.{full≢at, at-injective}
+use Rattle.engine.specs.Steps.{PlacedAs, PlacedFor}
 use Rattle.engine.proofs.Pools.{Located, there, absent, number-none, in-pool, grown-same, grown-pool}
-
-record-length : (W R : List ℕ) → length (recordIn W R) ≡ recordLen R
-unfolding recordOf
-record-length W R = table-length (recordLen R) (λ i. stmtAt W (getD R i 0))
 
 -- ---- whether there is room
 
@@ -37,30 +35,30 @@ or-not true b e = refl
 or-not false b e = rw e
 
 module _ (W R : List ℕ) (s : Stmt) where
-  pub is-full : (512 ≤ recordLen R) ⊎ (hasRoom (poolIs W) s ≡ false) → isFull (hasRoom (poolIs W)) (recordIn W R) s ≡ true
+  pub is-full : (512 ≤ recordLen R) ⊎ (hasRoom (poolOf W) s ≡ false) → isFull (hasRoom (poolOf W)) (recordIn W R) s ≡ true
   unfolding isFull
   is-full (inl l) = rw (le-leb 512 (length (recordIn W R)) (omega (arith, record-length W R)))
-  is-full (inr e) = or-not (leb 512 (length (recordIn W R))) (hasRoom (poolIs W) s) e
+  is-full (inr e) = or-not (leb 512 (length (recordIn W R))) (hasRoom (poolOf W) s) e
 
-  pub not-full : recordLen R < 512 → hasRoom (poolIs W) s ≡ true → isFull (hasRoom (poolIs W)) (recordIn W R) s ≡ false
+  pub not-full : recordLen R < 512 → hasRoom (poolOf W) s ≡ true → isFull (hasRoom (poolOf W)) (recordIn W R) s ≡ false
   unfolding isFull
   not-full l e = rw (lt-leb 512 (length (recordIn W R)) (omega (arith, record-length W R)), e)
 
 -- ---- the number went to the end of the record
 
-module _ {W W′ R R′ : List ℕ} {s : Stmt} {n : ℕ} (k : Numbered W R s n W′) (p : memory.PushedTo R n R′) where
+module _ {W W′ R R′ : List ℕ} {s : Stmt} {n : ℕ} (k : PlacedAs W R s n W′) (p : memory.PushedTo R n R′) where
   pub all-in : AllIn W R → AllIn W′ R′
   unfolding AllIn
   all-in w i h = elim (decLt i (recordLen R)) [
-    | yes m ↦ let e = p .first i m in let b = w i m in omega (arith, k .more)
+    | yes m ↦ let e = p .first i m in let b = w i m in omega (arith, k .grows .more)
     | no m ↦
         (let q : recordLen R ≡ i = omega (arith, p .len) in
         let e = p .last (k .short) in subst (λ j. getD R′ j 0 < poolLen W′) q (omega (arith, k .within)))
   ]
 
   same-record : AllIn W R → recordIn W′ R ≡ recordIn W R
-  unfolding recordOf AllIn
-  same-record w = table-cong (recordLen R) (λ i. stmtAt W′ (getD R i 0)) (λ i. stmtAt W (getD R i 0)) (λ i h. k .same _ (w i h))
+  unfolding recordUpTo AllIn
+  same-record w = table-cong (recordLen R) (λ i. stmtAt W′ (getD R i 0)) (λ i. stmtAt W (getD R i 0)) (λ i h. k .grows .same _ (w i h))
 
   longer : recordIn W′ R′ ≡ recordIn W′ R ++ (s ∷ [])
   longer = p .means W′ ∙ rw (lt-ltb (recordLen R) 512 (k .short)) (ap (λ x. recordIn W′ R ++ (x ∷ [])) (k .is))
@@ -86,70 +84,52 @@ room-new : (s : Stmt) (P : List Stmt) (b : Bool) → any (sameStmt s) P ≡ fals
 unfolding hasRoom
 room-new s P b e f = rw (e, f)
 
-full≢at : {n : ℕ} → placed.Full ≡ placed.At n → ⊥
-full≢at e = let z : _≡_ {A = ℕ} 0 1 = cc in omega arith
-
-if-true : {A : Type 0} (b : Bool) (x y : A) → b ≡ true → (if b then x else y) ≡ x
-if-true b x y e = rw e
-
-if-false : {A : Type 0} (b : Bool) (x y : A) → b ≡ false → (if b then x else y) ≡ y
-if-false b x y e = rw e
-
-pool-length : (W : List ℕ) → length (poolIs W) ≡ poolLen W
-unfolding poolIs
-pool-length W = table-length (poolLen W) (stmtAt W)
-
-at-injective : {m n : ℕ} → placed.At m ≡ placed.At n → m ≡ n
-at-injective e = cc
-
 -- the record is full
-pub record-full : {W R : List ℕ} {s : Stmt} → 512 ≤ recordLen R → Placed W R s placed.Full W
+pub record-full : {W R : List ℕ} {s : Stmt} → 512 ≤ recordLen R → PlacedFor W R s placed.Full W
 record-full l = record { full = λ e. (inl l, refl); at = λ n e. absurd (full≢at e) }
 
 module _ (W W′ R : List ℕ) (st : Statement) (short : st .history .len ≤ 16) (l : recordLen R < 512) where
   -- the statement was in the pool
-  old : W′ ≡ memory.pooledIn W (stmtOf st) → (n i : ℕ) → W′ ≡ W → n ≡ i → i < poolLen W → stmtAt W i ≡ stmtOf st → numberOf (stmtOf st) (poolIs W) ≡ i → any (sameStmt (stmtOf st)) (poolIs W) ≡ true
-      → Numbered W R (stmtOf st) n W′
+  old : W′ ≡ memory.pooledIn W (stmtOf st) → (n i : ℕ) → W′ ≡ W → n ≡ i → i < poolLen W → stmtAt W i ≡ stmtOf st → numberOf (stmtOf st) (poolOf W) ≡ i → any (sameStmt (stmtOf st)) (poolOf W) ≡ true
+      → PlacedAs W R (stmtOf st) n W′
   old x n i w e b h m y = record {
     short = l;
-    room = room-old (stmtOf st) (poolIs W) y;
+    room = room-old (stmtOf st) (poolOf W) y;
     number = e ∙ sym m;
     is = ap₂ stmtAt w e ∙ h;
-    pool = record { is = ap poolIs w ∙ pooled-old (stmtOf st) (poolIs W) y; words = x };
-    more = subst (λ (U : List ℕ). poolLen W ≤ poolLen U) (sym w) (omega arith);
+    pool = record { is = ap poolOf w ∙ pooled-old (stmtOf st) (poolOf W) y; words = x };
+    grows = record { more = subst (λ (U : List ℕ). poolLen W ≤ poolLen U) (sym w) (omega arith); same = λ j t. ap (λ (U : List ℕ). stmtAt U j) w };
     within = subst (λ (U : List ℕ). n < poolLen U) (sym w) (omega arith);
-    same = λ j t. ap (λ (U : List ℕ). stmtAt U j) w;
   }
 
   -- it went to the end of the pool
-  new : W′ ≡ memory.pooledIn W (stmtOf st) → (n : ℕ) → memory.Grown W W′ st → n ≡ poolLen W → poolLen W < 512 → any (sameStmt (stmtOf st)) (poolIs W) ≡ false → Numbered W R (stmtOf st) n W′
+  new : W′ ≡ memory.pooledIn W (stmtOf st) → (n : ℕ) → memory.Grown W W′ st → n ≡ poolLen W → poolLen W < 512 → any (sameStmt (stmtOf st)) (poolOf W) ≡ false → PlacedAs W R (stmtOf st) n W′
   new x n g e b y = record {
     short = l;
-    room = room-new (stmtOf st) (poolIs W) true y (ap (λ m. ltb m 512) (pool-length W) ∙ lt-ltb (poolLen W) 512 b);
-    number = e ∙ sym (number-none (stmtOf st) (poolIs W) y ∙ pool-length W);
+    room = room-new (stmtOf st) (poolOf W) true y (ap (λ m. ltb m 512) (pool-length W) ∙ lt-ltb (poolLen W) 512 b);
+    number = e ∙ sym (number-none (stmtOf st) (poolOf W) y ∙ pool-length W);
     is = ap (stmtAt W′) e ∙ g .there short;
-    pool = record { is = grown-pool W W′ st short g b ∙ pooled-new (stmtOf st) (poolIs W) y; words = x };
-    more = omega (arith, g .len);
+    pool = record { is = grown-pool W W′ st short g b ∙ pooled-new (stmtOf st) (poolOf W) y; words = x };
+    grows = record { more = omega (arith, g .len); same = grown-same W W′ st short g b };
     within = omega (arith, g .len);
-    same = grown-same W W′ st short g b;
   }
 
   module _ (r : Answered) (a : memory.Appended W W′ st r) where
-    answer-is : {o : Option ℕ} → memory.numberOf W (stmtOf st) ≡ o → r ≡ memory.placedAt o (poolLen W)
+    answer-is : {o : Option ℕ} → memory.poolNumber W (stmtOf st) ≡ o → r ≡ memory.placedAt o (poolLen W)
     answer-is q = a .answer ∙ ap (λ o. memory.placedAt o (poolLen W)) q
 
-    at-end : memory.numberOf W (stmtOf st) ≡ none → poolLen W < 512 → r ≡ placed.At (poolLen W)
+    at-end : memory.poolNumber W (stmtOf st) ≡ none → poolLen W < 512 → r ≡ placed.At (poolLen W)
     at-end q b = answer-is q ∙ if-true (ltb (poolLen W) 512) (placed.At (poolLen W)) placed.Full (lt-ltb (poolLen W) 512 b)
 
-    no-end : memory.numberOf W (stmtOf st) ≡ none → 512 ≤ poolLen W → r ≡ placed.Full
+    no-end : memory.poolNumber W (stmtOf st) ≡ none → 512 ≤ poolLen W → r ≡ placed.Full
     no-end q b = answer-is q ∙ if-false (ltb (poolLen W) 512) (placed.At (poolLen W)) placed.Full (le-ltb (poolLen W) 512 b)
 
     -- what the pool answered, for a record that has room
-    pub pool-placed : Placed W R (stmtOf st) r W′
-    unfolding poolIs
+    pub pool-placed : PlacedFor W R (stmtOf st) r W′
+    unfolding poolOf
     pool-placed = go (in-pool W (stmtOf st))
       where
-        go : Located (stmtOf st) (stmtAt W) (poolLen W) (memory.numberOf W (stmtOf st)) → Placed W R (stmtOf st) r W′
+        go : Located (stmtOf st) (stmtAt W) (poolLen W) (memory.poolNumber W (stmtOf st)) → PlacedFor W R (stmtOf st) r W′
         go (there i q b h m y) = record {
           full = λ e. absurd (full≢at (sym e ∙ answer-is q));
           at = λ n e. old (a .is) n i (a .old i q) (at-injective (sym e ∙ answer-is q)) b h m y;
@@ -160,7 +140,7 @@ module _ (W W′ R : List ℕ) (st : Statement) (short : st .history .len ≤ 16
             at = λ n e. new (a .is) n (a .new q b) (at-injective (sym e ∙ at-end q b)) b y;
           }
           | no b ↦ record {
-            full = λ e. (inr (room-new (stmtOf st) (poolIs W) false y (ap (λ n. ltb n 512) (pool-length W) ∙ le-ltb (poolLen W) 512 (omega arith))), a .full (omega arith));
+            full = λ e. (inr (room-new (stmtOf st) (poolOf W) false y (ap (λ n. ltb n 512) (pool-length W) ∙ le-ltb (poolLen W) 512 (omega arith))), a .full (omega arith));
             at = λ n e. absurd (full≢at (sym (no-end q (omega arith)) ∙ e));
           }
         ]

@@ -2,5 +2,5 @@ pub mod Requests
 pub mod Pools
 pub mod Keeps
 pub mod Performs
-pub mod Looked
+pub mod Situations
 pub mod Turned

@@ -1,13 +1,12 @@
--- What the ways in which a turn ends come to.
+-- What the ways in which a turn or an addition ends come to.
 -- Assumes nothing.
-use mathlib.Core.Path.{_≡_, refl, sym, ap, ap₂, subst, _∙_}
+use mathlib.Core.Path.{_≡_, refl, sym, ap, subst, _∙_}
 use mathlib.Core.Bool.{Bool, true, false}
 use mathlib.Core.List.{List, [], _∷_, _++_}
 use mathlib.Core.Option.{some}
 use Prim.Native.Nat.{ℕ, _≤_}
 use native.Mathlib.Omega.{arith}
 use lib.Dec.{T}
-use Rattle.protocol.specs.Sets.{bit}
 use Rattle.protocol.specs.Lists.{if_then_else_, any}
 use Rattle.protocol.specs.View.{View}
 use Rattle.protocol.specs.Statement.{Stmt, sameStmt, fieldRules}
@@ -27,7 +26,7 @@ use Rattle.statements.proofs.FieldLaws.{views-length}
 use Rattle.statements.proofs.Fits.{keeps-fits}
 use Rattle.pool.specs.declared.Placed.{Placed as Answered}
 use Rattle.pool.specs.declared.Placed.the-variants.{At, Full}
-use Rattle.pool.specs.Pool.{recordIn}
+use Rattle.pool.specs.Pool.{recordIn, poolOf}
 use Rattle.pool.specs.Changes.{PushedTo}
 use Rattle.engine.specs.declared.Controller.{Controller}
 use Rattle.engine.specs.declared.Outcome.{Outcome}
@@ -37,23 +36,24 @@ use Rattle.rules.specs.declared.Action.the-variants.{Rest, Enter, Ack, Deliver}
 use Rattle.engine.specs.declared.Answer.the-variants.{Taken, Signed, Entered, Delivered, Refused}
 use Rattle.engine.specs.declared.Refusal.{Refusal}
 use Rattle.engine.specs.declared.Refusal.the-variants as refused
-use Rattle.engine.specs.Meaning.{controllerIs, poolIs, answerIs, refusalIs}
-use Rattle.rules.specs.Actions.{signedBy, actionIs}
+use Rattle.engine.specs.Meaning.{controllerIs, answerIs, refusalIs}
+use Rattle.rules.specs.Actions.{statementOf, actionIs}
 use Rattle.rules.specs.Rules.{SituationOf}
-use Rattle.engine.specs.Promise.{unchanged, grown, Meets, Turns, Adds, Placed, Numbered, restIs}
+use Rattle.engine.specs.Steps.{PlacedAs, PlacedFor, restIs}
+use Rattle.engine.specs.Promise.{unchanged, grown, Meets, Turns, Adds}
 use Rattle.engine.proofs.Requests.{settled, refused-so}
 use Rattle.engine.proofs.Keeps.{is-full, not-full, all-in, record-more}
 
 -- ---- a statement is signed
 
--- the controller with another binding
-abbrev pub boundTo : Controller → Binding → Controller
-boundTo c b = record {
+-- the controller with other views entered and another binding
+abbrev pub changed : Controller → History → Binding → Controller
+changed c h b = record {
   ready = c .ready;
   number = c .number;
   init = c .init;
   sender = c .sender;
-  entered = c .entered;
+  entered = h;
   binding = b;
   delivered = c .delivered;
   joining = c .joining;
@@ -61,29 +61,29 @@ boundTo c b = record {
   sending = c .sending;
 }
 
-module _ (W R W′ : List ℕ) (c : Controller) (s : Stmt) (x : Answered) (p : Placed W R s x W′) (e : x ≡ Full) where
-  pub full-is : call.isFull (hasRoom (poolIs W)) (recordIn W R) s ≡ true
+module _ (W R W′ : List ℕ) (c : Controller) (s : Stmt) (x : Answered) (p : PlacedFor W R s x W′) (e : x ≡ Full) where
+  pub full-is : call.isFull (hasRoom (poolOf W)) (recordIn W R) s ≡ true
   full-is = is-full W R s (p .full e .0)
 
   pub sign-full : (after : controller.Controller) (r : Outcome) → r .answer ≡ Refused refused.Full → r .controller ≡ c
-      → Turns W R c (turn.signing (controllerIs c) (recordIn W R) (hasRoom (poolIs W)) after s) r W′ R
+      → Turns W R c (turn.signing (controllerIs c) (recordIn W R) (hasRoom (poolOf W)) after s) r W′ R
   unfolding turn.signing
   sign-full after r a h =
       rw full-is (subst (λ (U : List ℕ). Meets W R c (call.refuse (controllerIs c) (recordIn W R) controller.full) unchanged r U R) (sym (p .full e .1)) (refused-so W R c r refused.Full a h))
 
-module _ (W R W′ : List ℕ) (c : Controller) (s : Stmt) (x : Answered) (n : ℕ) (p : Placed W R s x W′) (e : x ≡ At n) where
-  numbered : Numbered W R s n W′
+module _ (W R W′ : List ℕ) (c : Controller) (s : Stmt) (x : Answered) (n : ℕ) (p : PlacedFor W R s x W′) (e : x ≡ At n) where
+  numbered : PlacedAs W R s n W′
   numbered = p .at n e
 
-  pub room-is : call.isFull (hasRoom (poolIs W)) (recordIn W R) s ≡ false
+  pub room-is : call.isFull (hasRoom (poolOf W)) (recordIn W R) s ≡ false
   room-is = not-full W R s (numbered .short) (numbered .room)
 
   pub sign-kept : (b : Binding) (R′ : List ℕ) → PushedTo R n R′
-      → Turns W R c (turn.signing (controllerIs c) (recordIn W R) (hasRoom (poolIs W)) (controller.withBinding (bindingIs b) (controllerIs c)) s) (record { answer = Signed n; controller = boundTo c b }) W′ R′
+      → Turns W R c (turn.signing (controllerIs c) (recordIn W R) (hasRoom (poolOf W)) (controller.withBinding (bindingIs b) (controllerIs c)) s) (record { answer = Signed n; controller = changed c (c .entered) b }) W′ R′
   unfolding turn.signing answerIs controllerIs
   sign-kept b R′ q = rw room-is (record {
     answer = ap controller.signed (numbered .is);
-    number = λ z h. let y : s ≡ z = cc in ap Signed (numbered .number ∙ ap (λ t. numberOf t (poolIs W)) y);
+    number = λ z h. let y : s ≡ z = cc in ap Signed (numbered .number ∙ ap (λ t. numberOf t (poolOf W)) y);
     controller = refl;
     numbers = subst (λ i. PushedTo R i R′) (numbered .number) q;
     statements = λ w. (record-more numbered q w, all-in numbered q w);
@@ -93,62 +93,48 @@ module _ (W R W′ : List ℕ) (c : Controller) (s : Stmt) (x : Answered) (n : �
 
 -- ---- a view is entered, a payload delivered
 
-pub entering : (c : Controller) (b : Binding) (h : History) (d : List View) → viewsIs h ≡ d
-    → controllerIs (record {
-      ready = c .ready;
-      number = c .number;
-      init = c .init;
-      sender = c .sender;
-      entered = h;
-      binding = b;
-      delivered = c .delivered;
-      joining = c .joining;
-      leaving = c .leaving;
-      sending = c .sending;
-    }) ≡ controller.withEntered d (controller.withBinding (bindingIs b) (controllerIs c))
+pub entering : (c : Controller) (b : Binding) (h : History) (d : List View) → viewsIs h ≡ d → controllerIs (changed c h b) ≡ controller.withEntered d (controller.withBinding (bindingIs b) (controllerIs c))
 unfolding controllerIs
 entering c b h d e = rw e
 
 -- ---- each action
 
 module _ (W R : List ℕ) (c : Controller) (s : Situation) (H : List View) (a : Action) (r : Outcome) where
-  pub rest-is : (gone : Bool) → SituationOf (controllerIs c) (recordIn W R) s → a ≡ Rest → gone ≡ bit (viewIs (s .top) .left) (s .number) → r .answer ≡ restIs gone → r .controller ≡ c
-      → Turns W R c (turn.perform (controllerIs c) (recordIn W R) (hasRoom (poolIs W)) (actionIs s H a)) r W R
+  pub rest-is : SituationOf (controllerIs c) (recordIn W R) s → a ≡ Rest → r .answer ≡ restIs (s .left) → r .controller ≡ c
+      → Turns W R c (turn.perform (controllerIs c) (recordIn W R) (hasRoom (poolOf W)) (actionIs s H a)) r W R
   unfolding turn.perform actionIs answerIs
-  rest-is gone k d g e h = rw d (go gone _ (g ∙ sym (ap₂ (λ v n. bit (v .left) n) (k .top) (k .number))) e)
+  rest-is k d e h = rw (d, k .left) (go (s .left) e)
     where
-      go : (b x : Bool) → b ≡ x → r .answer ≡ restIs b → Turns W R c (record { answer = if x then controller.left else controller.quiet; controller = controllerIs c; statements = recordIn W R }) r W R
-      go true true g e = settled W R c r (controllerIs c) controller.left (ap (answerIs W) e) (ap controllerIs h) (λ s p. let z : _≡_ {A = ℕ} 0 1 = cc in omega arith) (λ t. absurd t)
-      go false false g e = settled W R c r (controllerIs c) controller.quiet (ap (answerIs W) e) (ap controllerIs h) (λ s p. let z : _≡_ {A = ℕ} 0 1 = cc in omega arith) (λ t. absurd t)
-      go true false g e = absurd (subst T g tt)
-      go false true g e = absurd (subst T (sym g) tt)
+      go : (b : Bool) → r .answer ≡ restIs b → Turns W R c (record { answer = if b then controller.left else controller.quiet; controller = controllerIs c; statements = recordIn W R }) r W R
+      go true e = settled W R c r (controllerIs c) controller.left (ap (answerIs W) e) (ap controllerIs h) (λ s p. let z : _≡_ {A = ℕ} 0 1 = cc in omega arith) (λ t. absurd t)
+      go false e = settled W R c r (controllerIs c) controller.quiet (ap (answerIs W) e) (ap controllerIs h) (λ s p. let z : _≡_ {A = ℕ} 0 1 = cc in omega arith) (λ t. absurd t)
 
   pub enter-is : (v : held.View) (b : Binding) → a ≡ Enter v b → r .answer ≡ Entered v
       → controllerIs (r .controller) ≡ controller.withEntered (turn.enteredAfter (viewIs v) (viewsIs (c .entered))) (controller.withBinding (bindingIs b) (controllerIs c))
-      → Turns W R c (turn.perform (controllerIs c) (recordIn W R) (hasRoom (poolIs W)) (actionIs s H a)) r W R
+      → Turns W R c (turn.perform (controllerIs c) (recordIn W R) (hasRoom (poolOf W)) (actionIs s H a)) r W R
   unfolding turn.perform actionIs answerIs controllerIs
   enter-is v b d e f = rw d (settled W R c r _ (controller.entered (viewIs v)) (ap (answerIs W) e) f (λ s p. let z : _≡_ {A = ℕ} 0 1 = cc in omega arith) (λ t. absurd t))
 
   pub deliver-is : (m : ℕ) → a ≡ Deliver m → r .answer ≡ Delivered m → controllerIs (r .controller) ≡ controller.withDelivered (controllerIs c)
-      → Turns W R c (turn.perform (controllerIs c) (recordIn W R) (hasRoom (poolIs W)) (actionIs s H a)) r W R
+      → Turns W R c (turn.perform (controllerIs c) (recordIn W R) (hasRoom (poolOf W)) (actionIs s H a)) r W R
   unfolding turn.perform actionIs answerIs
   deliver-is m d e f = rw d (settled W R c r (controller.withDelivered (controllerIs c)) (controller.delivered m) (ap (answerIs W) e) f (λ s p. let z : _≡_ {A = ℕ} 0 1 = cc in omega arith) (λ t. absurd t))
 
 -- the statement that is signed is the action's
 module _ (W R W′ R′ : List ℕ) (c : Controller) (s : Situation) (H : List View) (st : Statement) (r : Outcome) where
-  signing-is : {x : Stmt} (b : Binding) → Made x st → Turns W R c (turn.signing (controllerIs c) (recordIn W R) (hasRoom (poolIs W)) (controller.withBinding (bindingIs b) (controllerIs c)) (stmtOf st)) r W′ R′
-      → Turns W R c (turn.signing (controllerIs c) (recordIn W R) (hasRoom (poolIs W)) (controller.withBinding (bindingIs b) (controllerIs c)) x) r W′ R′
-  signing-is b made t = subst (λ x. Turns W R c (turn.signing (controllerIs c) (recordIn W R) (hasRoom (poolIs W)) (controller.withBinding (bindingIs b) (controllerIs c)) x) r W′ R′) (made .means) t
+  signing-is : {x : Stmt} (b : Binding) → Made x st → Turns W R c (turn.signing (controllerIs c) (recordIn W R) (hasRoom (poolOf W)) (controller.withBinding (bindingIs b) (controllerIs c)) (stmtOf st)) r W′ R′
+      → Turns W R c (turn.signing (controllerIs c) (recordIn W R) (hasRoom (poolOf W)) (controller.withBinding (bindingIs b) (controllerIs c)) x) r W′ R′
+  signing-is b made t = subst (λ x. Turns W R c (turn.signing (controllerIs c) (recordIn W R) (hasRoom (poolOf W)) (controller.withBinding (bindingIs b) (controllerIs c)) x) r W′ R′) (made .means) t
 
-  pub sign-is : (a : Action) → actionIs s H a ≡ some (turn.sign (signedBy s H a)) → Made (signedBy s H a) st
-      → Turns W R c (turn.signing (controllerIs c) (recordIn W R) (hasRoom (poolIs W)) (controller.withBinding (bindingIs (c .binding)) (controllerIs c)) (stmtOf st)) r W′ R′
-      → Turns W R c (turn.perform (controllerIs c) (recordIn W R) (hasRoom (poolIs W)) (actionIs s H a)) r W′ R′
+  pub sign-is : (a : Action) → actionIs s H a ≡ some (turn.sign (statementOf s H a)) → Made (statementOf s H a) st
+      → Turns W R c (turn.signing (controllerIs c) (recordIn W R) (hasRoom (poolOf W)) (controller.withBinding (bindingIs (c .binding)) (controllerIs c)) (stmtOf st)) r W′ R′
+      → Turns W R c (turn.perform (controllerIs c) (recordIn W R) (hasRoom (poolOf W)) (actionIs s H a)) r W′ R′
   unfolding turn.perform controllerIs
   sign-is a d made t = rw d (signing-is (c .binding) made t)
 
-  pub ack-is : (a : Action) (m : ℕ) → a ≡ Ack m → Made (signedBy s H (Ack m)) st
-      → Turns W R c (turn.signing (controllerIs c) (recordIn W R) (hasRoom (poolIs W)) (controller.withBinding (bindingIs (Bound m)) (controllerIs c)) (stmtOf st)) r W′ R′
-      → Turns W R c (turn.perform (controllerIs c) (recordIn W R) (hasRoom (poolIs W)) (actionIs s H a)) r W′ R′
+  pub ack-is : (a : Action) (m : ℕ) → a ≡ Ack m → Made (statementOf s H (Ack m)) st
+      → Turns W R c (turn.signing (controllerIs c) (recordIn W R) (hasRoom (poolOf W)) (controller.withBinding (bindingIs (Bound m)) (controllerIs c)) (stmtOf st)) r W′ R′
+      → Turns W R c (turn.perform (controllerIs c) (recordIn W R) (hasRoom (poolOf W)) (actionIs s H a)) r W′ R′
   unfolding turn.perform actionIs
   ack-is a m d made t = rw d (signing-is (Bound m) made t)
 
@@ -178,17 +164,17 @@ module _ (c : Controller) (X : List Stmt) (room : Stmt → Bool) (s : Stmt) wher
 
 module _ (W R : List ℕ) (c : Controller) (s : Stmt) where
   abbrev pub added : controller.Outcome
-  added = call.add (controllerIs c) (recordIn W R) (hasRoom (poolIs W)) s
+  added = call.add (controllerIs c) (recordIn W R) (hasRoom (poolOf W)) s
 
   -- an addition that is refused for q
   pub add-refused : (r : Outcome) (q : Refusal) → added ≡ call.refuse (controllerIs c) (recordIn W R) (refusalIs q) → r .answer ≡ Refused q → r .controller ≡ c → Adds W R c s added r W R
   add-refused r q e a h = subst (λ o. Adds W R c s o r W R) (sym e) (refused-so W R c r q a h)
 
-pub add-full : (W R W′ : List ℕ) (c : Controller) (s : Stmt) (x : Answered) (r : Outcome) → Placed W R s x W′ → x ≡ Full → added W R c s ≡ call.refuse (controllerIs c) (recordIn W R) controller.full
+pub add-full : (W R W′ : List ℕ) (c : Controller) (s : Stmt) (x : Answered) (r : Outcome) → PlacedFor W R s x W′ → x ≡ Full → added W R c s ≡ call.refuse (controllerIs c) (recordIn W R) controller.full
     → r .answer ≡ Refused refused.Full → r .controller ≡ c → Adds W R c s (added W R c s) r W′ R
 add-full W R W′ c s x r p f e a h = subst (λ (U : List ℕ). Adds W R c s (added W R c s) r U R) (sym (p .full f .1)) (add-refused W R c s r refused.Full e a h)
 
-module _ (W R W′ R′ : List ℕ) (c : Controller) (s : Stmt) (n : ℕ) (k : Numbered W R s n W′) (q : PushedTo R n R′) where
+module _ (W R W′ R′ : List ℕ) (c : Controller) (s : Stmt) (n : ℕ) (k : PlacedAs W R s n W′) (q : PushedTo R n R′) where
   taken-meets : (r : Outcome) → r .answer ≡ Taken → r .controller ≡ c
       → Meets W R c (record { answer = controller.taken; controller = controllerIs c; statements = recordIn W R ++ (s ∷ []) }) (grown s) r W′ R′
   unfolding answerIs

@@ -18,13 +18,8 @@ use Rattle.views.specs.Table.{table}
 use Rattle.views.proofs.Tables.{table-length, table-cong, any-append}
 use Rattle.statements.specs.declared.Statement.{Statement}
 use Rattle.statements.specs.Meaning.{stmtOf}
-use Rattle.pool.specs.Pool.{stmtAt, poolLen}
+use Rattle.pool.specs.Pool.{stmtAt, poolLen, poolOf}
 use Rattle.pool.specs.Changes as memory
-use Rattle.engine.specs.Meaning.{poolIs}
-
-or-yes : (a : Bool) → (a || true) ≡ true
-or-yes true = refl
-or-yes false = refl
 
 -- ---- lists: where the first s stands
 
@@ -111,8 +106,8 @@ located s f (suc n) = go (located s f n)
 
 -- ---- the pool in memory
 
-pub in-pool : (W : List ℕ) (s : Stmt) → Located s (stmtAt W) (poolLen W) (memory.numberOf W s)
-unfolding memory.numberOf
+pub in-pool : (W : List ℕ) (s : Stmt) → Located s (stmtAt W) (poolLen W) (memory.poolNumber W s)
+unfolding memory.poolNumber
 in-pool W s = located s (stmtAt W) (poolLen W)
 
 -- one statement more
@@ -121,7 +116,7 @@ module _ (W W′ : List ℕ) (st : Statement) (short : st .history .len ≤ 16) 
   pub grown-same : (m : ℕ) → m < poolLen W → stmtAt W′ m ≡ stmtAt W m
   grown-same m l = g .others m (λ e. omega arith)
 
-  pub grown-pool : poolIs W′ ≡ poolIs W ++ (stmtOf st ∷ [])
-  unfolding poolIs table
+  pub grown-pool : poolOf W′ ≡ poolOf W ++ (stmtOf st ∷ [])
+  unfolding poolOf table
   grown-pool = ap (λ n. table n (stmtAt W′)) (g .len ∙ add-one (poolLen W))
       ∙ ap₂ (λ l x. l ++ (x ∷ [])) (table-cong (poolLen W) (stmtAt W′) (stmtAt W) grown-same) (g .there short)

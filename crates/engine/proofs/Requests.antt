@@ -1,7 +1,7 @@
 -- What the calls that do not touch the pool come to.
 -- Assumes nothing.
 use mathlib.Core.Path.{_≡_, refl, sym, ap, subst, _∙_}
-use mathlib.Core.Bool.{Bool, true, false, _&&_}
+use mathlib.Core.Bool.{Bool, true, false, not, _&&_, _||_}
 use mathlib.Core.List.{List, [], _∷_}
 use Prim.Native.Nat.{ℕ, _%_, _^_, _≤_, _<_, min}
 use native.Mathlib.Omega.{arith}
@@ -9,7 +9,7 @@ use lib.Dec.{eqb, ltb}
 use lib.ListN.{length}
 use borrow.Author.Tests.{eq-eqb, ne-eqb, lt-ltb, le-ltb}
 use Rattle.protocol.specs.Sets.{bit}
-use Rattle.protocol.specs.Lists.{if_then_else_}
+use Rattle.protocol.specs.Lists.{if_then_else_, isSome}
 use Rattle.protocol.specs.View.{View, member}
 use Rattle.protocol.specs.Statement.{Stmt}
 use Rattle.protocol.specs.Controller as controller
@@ -21,16 +21,18 @@ use Rattle.views.specs.Held.{viewIs, viewsIs, heldAt}
 use Rattle.views.specs.declared.View as held
 use Rattle.views.specs.declared.History.{History}
 use Rattle.views.proofs.Tables.{table-length}
-use Rattle.pool.specs.Pool.{recordIn}
+use Rattle.pool.specs.Pool.{recordIn, AllIn}
 use Rattle.pool.specs.Changes.{Emptied}
 use Rattle.statements.specs.declared.Binding.the-variants.{Unbound}
 use Rattle.engine.specs.declared.Controller.{Controller}
 use Rattle.engine.specs.declared.Outcome.{Outcome}
 use Rattle.engine.specs.declared.Refusal.{Refusal}
-use Rattle.rules.specs.declared.Send.the-variants.{Nothing, Payload}
+use Rattle.engine.specs.declared.Refusal.the-variants.{BadRequest, OutOfPlace}
+use Rattle.rules.specs.Payloads.{payloadIs}
+use Rattle.rules.specs.declared.OptionalPayload.the-variants.{Nothing, Payload}
 use Rattle.engine.specs.declared.Answer.{Answer}
 use Rattle.engine.specs.declared.Answer.the-variants.{Taken, Refused}
-use Rattle.engine.specs.Meaning.{initialIs, controllerIs, AllIn, refusalIs, answerIs}
+use Rattle.engine.specs.Meaning.{initialIs, controllerIs, refusalIs, answerIs}
 use Rattle.engine.specs.Promise.{unchanged, Meets, IsRefused, Calls, startedOf, Starts}
 
 -- ---- pool and record stay as they were
@@ -94,82 +96,58 @@ began {f} {R} {R′} c d {e} {r} a h k n g W = subst (λ o. Meets W R c o (start
   refused = λ t. absurd t;
 })
 
--- ---- a request to join
+-- ---- requests
 
-module _ (c : Controller) (X : List Stmt) where
-  pub join-unready : c .ready ≡ false → call.requestJoin (controllerIs c) X ≡ call.refuse (controllerIs c) X controller.outOfPlace
-  unfolding call.requestJoin controllerIs
-  join-unready e = rw e
+-- a request of c that 5 refuses for p or for q, and that has d after it
+unfoldable pub request : Controller → Bool → Bool → Controller → List Stmt → controller.Outcome
+request c p q d X = call.afterSetup (controllerIs c) X (if p || q then call.refuse (controllerIs c) X controller.badRequest else call.note (controllerIs c) X (controllerIs d))
 
-  pub join-member : (b : Bool) → c .ready ≡ true → b ≡ member (viewIs (c .init)) (c .number) → b ≡ true → call.requestJoin (controllerIs c) X ≡ call.refuse (controllerIs c) X controller.badRequest
-  unfolding call.requestJoin controllerIs
-  join-member b e f g = rw (e, sym f ∙ g)
+module _ (c : Controller) (p q : Bool) (d : Controller) (r : Outcome) where
+  pub request-unready : (r .answer ≡ Refused OutOfPlace) × (r .controller ≡ c) → c .ready ≡ false → Calls (request c p q d) c r
+  unfolding request controllerIs
+  request-unready a e = refused c OutOfPlace (a .0) (a .1) (λ X. rw e)
 
-  pub join-again : (b : Bool) → c .ready ≡ true → b ≡ member (viewIs (c .init)) (c .number) → b ≡ false → c .joining ≡ true → call.requestJoin (controllerIs c) X ≡ call.refuse (controllerIs c) X controller.badRequest
-  unfolding call.requestJoin controllerIs
-  join-again b e f g h = rw (e, sym f ∙ g, h)
+  pub request-barred : (r .answer ≡ Refused BadRequest) × (r .controller ≡ c) → c .ready ≡ true → p ≡ true → Calls (request c p q d) c r
+  unfolding request controllerIs
+  request-barred a e f = refused c BadRequest (a .0) (a .1) (λ X. rw (e, f))
 
+  pub request-again : (r .answer ≡ Refused BadRequest) × (r .controller ≡ c) → c .ready ≡ true → p ≡ false → q ≡ true → Calls (request c p q d) c r
+  unfolding request controllerIs
+  request-again a e f g = refused c BadRequest (a .0) (a .1) (λ X. rw (e, f, g))
+
+  pub request-taken : (r .answer ≡ Taken) × (r .controller ≡ d) → c .ready ≡ true → p ≡ false → q ≡ false → Calls (request c p q d) c r
+  unfolding request controllerIs
+  request-taken a e f g = noted c d (a .0) (a .1) (λ X. rw (e, f, g))
+
+module _ (c : Controller) where
   abbrev pub joining : Controller
   joining = record { ready = c .ready; number = c .number; init = c .init; sender = c .sender; entered = c .entered; binding = c .binding; delivered = c .delivered; joining = true; leaving = c .leaving; sending = c .sending }
 
-  pub join-taken : (b : Bool) → c .ready ≡ true → b ≡ member (viewIs (c .init)) (c .number) → b ≡ false → c .joining ≡ false
-      → call.requestJoin (controllerIs c) X ≡ record { answer = controller.taken; controller = controllerIs joining; statements = X }
-  unfolding call.requestJoin controllerIs
-  join-taken b e f g h = rw (e, sym f ∙ g, h)
-
--- ---- a request to leave
-
-entered-none : (h : History) → h .len ≡ 0 → eqb (length (viewsIs h)) 0 ≡ true
-unfolding viewsIs
-entered-none h e = eq-eqb (length (table (min (h .len) 16) (heldAt (h .views)))) 0 (table-length (min (h .len) 16) (heldAt (h .views)) ∙ (let q : min (h .len) 16 ≡ 0 = omega arith in q))
-
-entered-some : (h : History) → (h .len ≡ 0 → ⊥) → eqb (length (viewsIs h)) 0 ≡ false
-unfolding viewsIs
-entered-some h n = ne-eqb (length (table (min (h .len) 16) (heldAt (h .views)))) 0 (λ q. let z : min (h .len) 16 ≡ 0 = sym (table-length (min (h .len) 16) (heldAt (h .views))) ∙ q in n (omega arith))
-
-module _ (c : Controller) (X : List Stmt) where
-  pub leave-unready : c .ready ≡ false → call.requestLeave (controllerIs c) X ≡ call.refuse (controllerIs c) X controller.outOfPlace
-  unfolding call.requestLeave controllerIs
-  leave-unready e = rw e
-
-  pub leave-early : c .ready ≡ true → c .entered .len ≡ 0 → call.requestLeave (controllerIs c) X ≡ call.refuse (controllerIs c) X controller.badRequest
-  unfolding call.requestLeave controllerIs
-  leave-early e f = rw (e, entered-none (c .entered) f)
-
-  pub leave-again : c .ready ≡ true → (c .entered .len ≡ 0 → ⊥) → c .leaving ≡ true → call.requestLeave (controllerIs c) X ≡ call.refuse (controllerIs c) X controller.badRequest
-  unfolding call.requestLeave controllerIs
-  leave-again e f h = rw (e, entered-some (c .entered) f, h)
+  pub joins : (r : Outcome) → Calls (request c (member (viewIs (c .init)) (c .number)) (c .joining) joining) c r → Calls (call.requestJoin (controllerIs c)) c r
+  unfolding request call.requestJoin controllerIs
+  joins r m = m
 
   abbrev pub leaving : Controller
   leaving = record { ready = c .ready; number = c .number; init = c .init; sender = c .sender; entered = c .entered; binding = c .binding; delivered = c .delivered; joining = c .joining; leaving = true; sending = c .sending }
 
-  pub leave-taken : c .ready ≡ true → (c .entered .len ≡ 0 → ⊥) → c .leaving ≡ false
-      → call.requestLeave (controllerIs c) X ≡ record { answer = controller.taken; controller = controllerIs leaving; statements = X }
-  unfolding call.requestLeave controllerIs
-  leave-taken e f h = rw (e, entered-some (c .entered) f, h)
+  pub leaves : (r : Outcome) → Calls (request c (eqb (length (viewsIs (c .entered))) 0) (c .leaving) leaving) c r → Calls (call.requestLeave (controllerIs c)) c r
+  unfolding request call.requestLeave controllerIs
+  leaves r m = m
 
--- ---- a request to send
+  abbrev pub sending : ℕ → Controller
+  sending m = record { ready = c .ready; number = c .number; init = c .init; sender = c .sender; entered = c .entered; binding = c .binding; delivered = c .delivered; joining = c .joining; leaving = c .leaving; sending = Payload m }
 
-module _ (c : Controller) (X : List Stmt) (m : ℕ) where
-  pub send-unready : c .ready ≡ false → call.requestSend (controllerIs c) X m ≡ call.refuse (controllerIs c) X controller.outOfPlace
-  unfolding call.requestSend controllerIs
-  send-unready e = rw e
+  pub sends : (m : ℕ) (r : Outcome) → Calls (request c (not (eqb (c .number) (c .sender))) (isSome (payloadIs (c .sending))) (sending m)) c r → Calls (λ X. call.requestSend (controllerIs c) X m) c r
+  unfolding request call.requestSend controllerIs
+  sends m r k = k
 
-  pub send-other : c .ready ≡ true → (c .number ≡ c .sender → ⊥) → call.requestSend (controllerIs c) X m ≡ call.refuse (controllerIs c) X controller.badRequest
-  unfolding call.requestSend controllerIs
-  send-other e f = rw (e, ne-eqb (c .number) (c .sender) f)
+pub entered-none : (h : History) → h .len ≡ 0 → eqb (length (viewsIs h)) 0 ≡ true
+unfolding viewsIs
+entered-none h e = eq-eqb (length (table (min (h .len) 16) (heldAt (h .views)))) 0 (table-length (min (h .len) 16) (heldAt (h .views)) ∙ (let q : min (h .len) 16 ≡ 0 = omega arith in q))
 
-  pub send-again : (p : ℕ) → c .ready ≡ true → c .number ≡ c .sender → c .sending ≡ Payload p → call.requestSend (controllerIs c) X m ≡ call.refuse (controllerIs c) X controller.badRequest
-  unfolding call.requestSend controllerIs
-  send-again p e f g = rw (e, eq-eqb (c .number) (c .sender) f, g)
-
-  abbrev pub sending : Controller
-  sending = record { ready = c .ready; number = c .number; init = c .init; sender = c .sender; entered = c .entered; binding = c .binding; delivered = c .delivered; joining = c .joining; leaving = c .leaving; sending = Payload m }
-
-  pub send-taken : c .ready ≡ true → c .number ≡ c .sender → c .sending ≡ Nothing
-      → call.requestSend (controllerIs c) X m ≡ record { answer = controller.taken; controller = controllerIs sending; statements = X }
-  unfolding call.requestSend controllerIs
-  send-taken e f g = rw (e, eq-eqb (c .number) (c .sender) f, g)
+pub entered-some : (h : History) → (h .len ≡ 0 → ⊥) → eqb (length (viewsIs h)) 0 ≡ false
+unfolding viewsIs
+entered-some h n = ne-eqb (length (table (min (h .len) 16) (heldAt (h .views)))) 0 (λ q. let z : min (h .len) 16 ≡ 0 = sym (table-length (min (h .len) 16) (heldAt (h .views))) ∙ q in n (omega arith))
 
 -- ---- setup
 
@@ -249,17 +227,18 @@ pub new-is : (h : History) → viewsIs h ≡ [] → controllerIs (record {
 unfolding controllerIs
 new-is h e = rw e
 
-pub start-is : (number members sender : ℕ) (h : History) → members < 65536 → viewsIs h ≡ initialIs (record { joined = members; left = 0 }) number → controllerIs (record {
+pub start-is : (number members sender : ℕ) (h : History) (blank : Controller) → controllerIs blank ≡ controller.notSetUp → members < 65536 → viewsIs h ≡ initialIs (record { joined = members; left = 0 }) number → controllerIs (record {
   ready = true;
   number = number;
   init = record { joined = members; left = 0 };
   sender = sender;
   entered = h;
-  binding = Unbound;
-  delivered = false;
-  joining = false;
-  leaving = false;
-  sending = Nothing;
+  binding = blank .binding;
+  delivered = blank .delivered;
+  joining = blank .joining;
+  leaving = blank .leaving;
+  sending = blank .sending;
 }) ≡ call.started number members sender
 unfolding controllerIs call.started
-start-is number members sender h l e = rw (let q : members % 65536 ≡ members = omega arith in q, entered-start members number h l e)
+start-is number members sender h blank n l e =
+    rw (let q : members % 65536 ≡ members = omega arith in q, entered-start members number h l e, ap (λ d. d .binding) n, ap (λ d. d .delivered) n, ap (λ d. d .joinRequested) n, ap (λ d. d .leaveRequested) n, ap (λ d. d .sendRequested) n)

@@ -14,17 +14,17 @@ use Rattle.protocol.specs.Controller as controller
 use Rattle.protocol.specs.Call as call
 use Rattle.protocol.specs.Pool.{hasRoom}
 use Rattle.protocol.specs.Turn as turn
-use Rattle.views.specs.View.{viewOf}
+use Rattle.views.specs.View.{viewOf, viewsIn}
 use Rattle.views.specs.Held.{viewIs}
-use Rattle.pool.specs.Pool.{recordIn}
+use Rattle.pool.specs.Pool.{recordIn, poolOf}
 use Rattle.evidence.specs.declared.Evidence.{Evidence}
 use Rattle.evidence.specs.declared.Ring.{Ring}
-use Rattle.evidence.specs.Evidence.{ringOf, EvidenceOf, Settled, Narrow}
+use Rattle.evidence.specs.Evidence.{ringIs, EvidenceOf, Settled, Narrow}
 use Rattle.evidence.proofs.Reporting.{count-most, length-most}
 use Rattle.evidence.proofs.Fitting.{candidates-narrow, greatest-narrow}
 use Rattle.rules.specs.declared.Action.{Action}
 use Rattle.rules.specs.declared.Situation.{Situation}
-use Rattle.rules.specs.Actions.{viewsIn, actionIs}
+use Rattle.rules.specs.Actions.{actionIs}
 use Rattle.rules.specs.Rules.{SituationOf, statements, candidateViews, greatestViews, Does}
 use Rattle.order.proofs.Counts.{some-view}
 use Rattle.engine.specs.declared.Controller.{Controller}
@@ -32,11 +32,11 @@ use Rattle.engine.specs.declared.Outcome.{Outcome}
 use Rattle.engine.specs.declared.Refusal.{Refusal}
 use Rattle.engine.specs.declared.Refusal.the-variants.{ManyCandidates, Conflict}
 use Rattle.engine.specs.declared.Answer.the-variants.{Refused}
-use Rattle.engine.specs.Meaning.{controllerIs, poolIs, refusalIs}
+use Rattle.engine.specs.Meaning.{controllerIs, refusalIs}
 use Rattle.engine.specs.Promise.{Turns}
-use Rattle.engine.specs.Looks.{RingOf, Looks}
+use Rattle.engine.specs.Situation.{RingOf, SituationFrom}
 use Rattle.engine.proofs.Requests.{refused-so}
-use Rattle.engine.proofs.Looked.{of-controller, init-fits, read-whole}
+use Rattle.engine.proofs.Situations.{of-controller, init-fits, read-whole}
 
 module _ (c : Controller) (X : List Stmt) (room : Stmt → Bool) where
   pub turn-unready : c .ready ≡ false → turn.turn (controllerIs c) X room ≡ call.refuse (controllerIs c) X controller.outOfPlace
@@ -63,17 +63,17 @@ unfolding controllerIs
 ring-is c w e = record { is = ap (λ v. record { width = 16; init = v }) e; sender = refl }
 
 -- a turn that is refused for q
-pub turn-refused : (W R : List ℕ) (c : Controller) (r : Outcome) (q : Refusal) → turn.turn (controllerIs c) (recordIn W R) (hasRoom (poolIs W)) ≡ call.refuse (controllerIs c) (recordIn W R) (refusalIs q)
-    → r .answer ≡ Refused q → r .controller ≡ c → Turns W R c (turn.turn (controllerIs c) (recordIn W R) (hasRoom (poolIs W))) r W R
+pub turn-refused : (W R : List ℕ) (c : Controller) (r : Outcome) (q : Refusal) → turn.turn (controllerIs c) (recordIn W R) (hasRoom (poolOf W)) ≡ call.refuse (controllerIs c) (recordIn W R) (refusalIs q)
+    → r .answer ≡ Refused q → r .controller ≡ c → Turns W R c (turn.turn (controllerIs c) (recordIn W R) (hasRoom (poolOf W))) r W R
 turn-refused W R c r q e a h = subst (λ o. Turns W R c o r W R) (sym e) (refused-so W R c r q a h)
 
 -- a turn that does the first rule
 turn-done : (W R W′ R′ : List ℕ) (c : Controller) (r : Outcome) (a : Option turn.Action)
-    → turn.turn (controllerIs c) (recordIn W R) (hasRoom (poolIs W)) ≡ turn.perform (controllerIs c) (recordIn W R) (hasRoom (poolIs W)) (turn.firstRule (controllerIs c) (recordIn W R))
-    → a ≡ turn.firstRule (controllerIs c) (recordIn W R) → Turns W R c (turn.perform (controllerIs c) (recordIn W R) (hasRoom (poolIs W)) a) r W′ R′ → Turns W R c (turn.turn (controllerIs c) (recordIn W R) (hasRoom (poolIs W))) r W′ R′
-turn-done W R W′ R′ c r a e f t = subst (λ o. Turns W R c o r W′ R′) (sym e) (subst (λ x. Turns W R c (turn.perform (controllerIs c) (recordIn W R) (hasRoom (poolIs W)) x) r W′ R′) f t)
+    → turn.turn (controllerIs c) (recordIn W R) (hasRoom (poolOf W)) ≡ turn.perform (controllerIs c) (recordIn W R) (hasRoom (poolOf W)) (turn.firstRule (controllerIs c) (recordIn W R))
+    → a ≡ turn.firstRule (controllerIs c) (recordIn W R) → Turns W R c (turn.perform (controllerIs c) (recordIn W R) (hasRoom (poolOf W)) a) r W′ R′ → Turns W R c (turn.turn (controllerIs c) (recordIn W R) (hasRoom (poolOf W))) r W′ R′
+turn-done W R W′ R′ c r a e f t = subst (λ o. Turns W R c o r W′ R′) (sym e) (subst (λ x. Turns W R c (turn.perform (controllerIs c) (recordIn W R) (hasRoom (poolOf W)) x) r W′ R′) f t)
 
-module _ (W R : List ℕ) (c : Controller) (r : Ring) (q : RingOf c r) (C G : List ℕ) (e : Evidence) (o : EvidenceOf (ringOf r) (r .sender) (recordIn W R) C G e) where
+module _ (W R : List ℕ) (c : Controller) (r : Ring) (q : RingOf c r) (C G : List ℕ) (e : Evidence) (o : EvidenceOf (ringIs r) (r .sender) (recordIn W R) C G e) where
   abbrev d : controller.Controller
   d = controllerIs c
 
@@ -87,24 +87,24 @@ module _ (W R : List ℕ) (c : Controller) (r : Ring) (q : RingOf c r) (C G : Li
   many-is b h k = sym (of-controller q o .many h) ∙ k
 
   module _ (y : c .ready ≡ true) (x : Outcome) where
-    pub turn-split : e .conflict ≡ true → x .answer ≡ Refused Conflict → x .controller ≡ c → Turns W R c (turn.turn d X (hasRoom (poolIs W))) x W R
-    turn-split h a b = turn-refused W R c x Conflict (turn-conflict c X (hasRoom (poolIs W)) y (conflict-is true h)) a b
+    pub turn-split : e .conflict ≡ true → x .answer ≡ Refused Conflict → x .controller ≡ c → Turns W R c (turn.turn d X (hasRoom (poolOf W))) x W R
+    turn-split h a b = turn-refused W R c x Conflict (turn-conflict c X (hasRoom (poolOf W)) y (conflict-is true h)) a b
 
-    pub turn-crowded : e .conflict ≡ false → e .many ≡ true → x .answer ≡ Refused ManyCandidates → x .controller ≡ c → Turns W R c (turn.turn d X (hasRoom (poolIs W))) x W R
-    turn-crowded h k a b = turn-refused W R c x ManyCandidates (turn-many c X (hasRoom (poolIs W)) y (conflict-is false h) (many-is true h k)) a b
+    pub turn-crowded : e .conflict ≡ false → e .many ≡ true → x .answer ≡ Refused ManyCandidates → x .controller ≡ c → Turns W R c (turn.turn d X (hasRoom (poolOf W))) x W R
+    turn-crowded h k a b = turn-refused W R c x ManyCandidates (turn-many c X (hasRoom (poolOf W)) y (conflict-is false h) (many-is true h k)) a b
 
   module _ (h : e .conflict ≡ false) (k : e .many ≡ false) where
-    settled : Settled (ringOf r) (r .sender) X C G e
+    settled : Settled (ringIs r) (r .sender) X C G e
     settled = record { of = o; agree = h; few = k }
 
-    -- what `look` asks
+    -- what `of_controller` asks
     pub looking : RingOf c r × (0 < e .length) × (e .length ≤ 16)
     looking = (q, some-view _ _ _ _ _ e settled, length-most _ _ _ _ _ e settled)
 
-    module _ (s : Situation) (l : Looks c r G e s) where
+    module _ (s : Situation) (l : SituationFrom c r G e s) where
       -- what the first rule asks
-      pub choosing : Settled (ringOf (s .ring)) (s .ring .sender) X C G (s .shown)
-      choosing = subst (λ r. Settled (ringOf r) (r .sender) X C G (s .shown)) (sym (l .ring)) (subst (Settled (ringOf r) (r .sender) X C G) (sym (l .shown)) settled)
+      pub choosing : Settled (ringIs (s .ring)) (s .ring .sender) X C G (s .shown)
+      choosing = subst (λ r. Settled (ringIs r) (r .sender) X C G (s .shown)) (sym (l .ring)) (subst (Settled (ringIs r) (r .sender) X C G) (sym (l .shown)) settled)
 
       situation : SituationOf d X s
       situation = l .situation W R C settled
@@ -134,5 +134,5 @@ module _ (W R : List ℕ) (c : Controller) (r : Ring) (q : RingOf c r) (C G : Li
       chosen {a} m = ap (λ H. actionIs s H a) listed ∙ m .means d X situation (refl, (listed, (tops, tt)))
 
       pub turn-acts : (W′ R′ : List ℕ) (x : Outcome) {a : Action} → c .ready ≡ true → Does (statements X ∷ candidateViews C ∷ greatestViews G ∷ []) s turn.firstRule a
-          → Turns W R c (turn.perform d X (hasRoom (poolIs W)) (actionIs s (viewsIn C (s .shown .count)) a)) x W′ R′ → Turns W R c (turn.turn d X (hasRoom (poolIs W))) x W′ R′
-      turn-acts W′ R′ x y m t = turn-done W R W′ R′ c x _ (turn-goes c X (hasRoom (poolIs W)) y (conflict-is false h) (many-is false h k)) (chosen m) t
+          → Turns W R c (turn.perform d X (hasRoom (poolOf W)) (actionIs s (viewsIn C (s .shown .count)) a)) x W′ R′ → Turns W R c (turn.turn d X (hasRoom (poolOf W))) x W′ R′
+      turn-acts W′ R′ x y m t = turn-done W R W′ R′ c x _ (turn-goes c X (hasRoom (poolOf W)) y (conflict-is false h) (many-is false h k)) (chosen m) t

@@ -1,23 +1,19 @@
 -- What every call promises: its answer, the whole controller and record after it, and the pool.
 -- Assumes nothing.
 use mathlib.Core.Path.{_≡_}
-use mathlib.Core.Logic.{_⊎_}
-use mathlib.Core.Bool.{Bool, true, false}
 use mathlib.Core.List.{List}
-use Prim.Native.Nat.{ℕ, _≤_, _<_}
+use Prim.Native.Nat.{ℕ}
 use Rattle.protocol.specs.Statement.{Stmt}
 use Rattle.protocol.specs.Controller as controller
 use Rattle.protocol.specs.Pool.{numberOf, pooled, hasRoom}
 use Rattle.protocol.specs.Run.{Call, setupCall, joinCall, leaveCall, sendCall, addCall, turnCall, outcome}
 use Rattle.engine.specs.declared.Controller.{Controller}
-use Rattle.pool.specs.declared.Placed as placing
-use Rattle.pool.specs.declared.Placed.the-variants.{At, Full}
-use Rattle.pool.specs.Pool.{stmtAt, poolLen, recordLen, recordIn}
+use Rattle.pool.specs.Pool.{recordIn, poolOf, AllIn}
 use Rattle.pool.specs.Changes.{pooledIn, PushedTo, Emptied}
 use Rattle.engine.specs.declared.Outcome.{Outcome}
 use Rattle.engine.specs.declared.Answer.{Answer}
-use Rattle.engine.specs.declared.Answer.the-variants.{Signed, Left, Quiet}
-use Rattle.engine.specs.Meaning.{controllerIs, poolIs, AllIn, answerIs}
+use Rattle.engine.specs.declared.Answer.the-variants.{Signed}
+use Rattle.engine.specs.Meaning.{controllerIs, answerIs}
 
 -- What a call does to a record: nothing, it empties it, or it puts a statement at its end.
 pub data Change : Type 0 where
@@ -27,7 +23,7 @@ pub data Change : Type 0 where
 
 -- s is in the pool now; every word of the memory is fixed.
 pub record Pooled (s : Stmt) (W W′ : List ℕ) : Type 0 where
-  pub is : poolIs W′ ≡ pooled s (poolIs W)
+  pub is : poolOf W′ ≡ pooled s (poolOf W)
   pub words : W′ ≡ pooledIn W s
 
 -- The pool after it: what goes into a record is in the pool.
@@ -40,7 +36,7 @@ PoolAfter W (grown s) W′ = Pooled s W W′
 abbrev pub NumbersAfter : List ℕ → List ℕ → Change → List ℕ → Type 0
 NumbersAfter W R unchanged R′ = R′ ≡ R
 NumbersAfter W R emptied R′ = Emptied R R′
-NumbersAfter W R (grown s) R′ = PushedTo R (numberOf s (poolIs W)) R′
+NumbersAfter W R (grown s) R′ = PushedTo R (numberOf s (poolOf W)) R′
 
 -- The answer was refused.
 abbrev pub IsRefused : controller.Answer → Type 0
@@ -67,7 +63,7 @@ signedOf (controller.refused r) = unchanged
 -- record names and the pool does not have may come to mean a new statement.
 pub record Meets (W R : List ℕ) (c : Controller) (o : controller.Outcome) (p : Change) (r : Outcome) (W′ R′ : List ℕ) : Type 0 where
   pub answer : answerIs W′ (r .answer) ≡ o .answer
-  pub number : (s : Stmt) → o .answer ≡ controller.signed s → r .answer ≡ Signed (numberOf s (poolIs W))
+  pub number : (s : Stmt) → o .answer ≡ controller.signed s → r .answer ≡ Signed (numberOf s (poolOf W))
   pub controller : controllerIs (r .controller) ≡ o .controller
   pub numbers : NumbersAfter W R p R′
   pub statements : AllIn W R → (recordIn W′ R′ ≡ o .statements) × AllIn W′ R′
@@ -93,22 +89,6 @@ startedOf (controller.refused r) = unchanged
 unfoldable pub Starts : (List Stmt → controller.Outcome) → List ℕ → Controller → Outcome → List ℕ → Type 0
 Starts f R c r R′ = (W : List ℕ) → Meets W R c (f (recordIn W R)) (startedOf (f (recordIn W R) .answer)) r W R′
 
--- Statement n of the pool W′ is s, the pool is W with s, and it had room for s, as has the record R.
-pub record Numbered (W R : List ℕ) (s : Stmt) (n : ℕ) (W′ : List ℕ) : Type 0 where
-  pub short : recordLen R < 512
-  pub room : hasRoom (poolIs W) s ≡ true
-  pub number : n ≡ numberOf s (poolIs W)
-  pub is : stmtAt W′ n ≡ s
-  pub pool : Pooled s W W′
-  pub more : poolLen W ≤ poolLen W′
-  pub within : n < poolLen W′
-  pub same : (m : ℕ) → m < poolLen W → stmtAt W′ m ≡ stmtAt W m
-
--- s went into the pool W under the number that r tells; or the record R, or the pool, had no room, and nothing changed.
-pub record Placed (W R : List ℕ) (s : Stmt) (r : placing.Placed) (W′ : List ℕ) : Type 0 where
-  pub full : r ≡ Full → ((512 ≤ recordLen R) ⊎ (hasRoom (poolIs W) s ≡ false)) × (W′ ≡ W)
-  pub at : (n : ℕ) → r ≡ At n → Numbered W R s n W′
-
 -- A turn: what it signs goes into the pool.
 abbrev pub Turns : List ℕ → List ℕ → Controller → controller.Outcome → Outcome → List ℕ → List ℕ → Type 0
 Turns W R c o r W′ R′ = Meets W R c o (signedOf (o .answer)) r W′ R′
@@ -127,11 +107,6 @@ addedOf (controller.refused r) s = unchanged
 abbrev pub Adds : List ℕ → List ℕ → Controller → Stmt → controller.Outcome → Outcome → List ℕ → List ℕ → Type 0
 Adds W R c s o r W′ R′ = Meets W R c o (addedOf (o .answer) s) r W′ R′
 
--- What a controller answers that has nothing to do.
-abbrev pub restIs : Bool → Answer
-restIs true = Left
-restIs false = Quiet
-
 -- ---- every call of a run
 
 -- What a call that answers so does to the record.
@@ -146,4 +121,4 @@ changeOf turnCall a = signedOf a
 -- The engine was called so, over the pool W and the record R, and returned r with the pool W′ and the record R′. Every contract of the engine's calls is of this form.
 abbrev pub Called : List ℕ → List ℕ → Controller → Call → Outcome → List ℕ → List ℕ → Type 0
 Called W R c k r W′ R′ =
-    Meets W R c (outcome (hasRoom (poolIs W)) (controllerIs c) (recordIn W R) k) (changeOf k (outcome (hasRoom (poolIs W)) (controllerIs c) (recordIn W R) k .answer)) r W′ R′
+    Meets W R c (outcome (hasRoom (poolOf W)) (controllerIs c) (recordIn W R) k) (changeOf k (outcome (hasRoom (poolOf W)) (controllerIs c) (recordIn W R) k .answer)) r W′ R′

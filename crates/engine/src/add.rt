@@ -2,8 +2,8 @@
 ghost use Rattle.protocol.specs.Call.{add};
 ghost use Rattle.protocol.specs.Pool.{hasRoom};
 ghost use Rattle.statements.specs.Meaning.{stmtOf};
-ghost use Rattle.pool.specs.Pool.{recordIn};
-ghost use Rattle.engine.specs.Meaning.{controllerIs, poolIs};
+ghost use Rattle.pool.specs.Pool.{recordIn, poolOf};
+ghost use Rattle.engine.specs.Meaning.{controllerIs};
 ghost use Rattle.engine.specs.Promise.{Adds};
 use crate::Controller;
 use crate::Outcome;
@@ -22,7 +22,7 @@ impl Controller {
         words: &mut [u64; POOL_WORDS],
         st: Statement,
     ) -> Outcome
-        ensures { λ r. ⌜ Adds (now (words .entry)) (now (ids .entry)) self (stmtOf st) (add (controllerIs self) (recordIn (now (words .entry)) (now (ids .entry))) (hasRoom (poolIs (now (words .entry)))) (stmtOf st)) r (now (words .exit)) (now (ids .exit)) ⌝ }
+        ensures { λ r. ⌜ Adds (now (words .entry)) (now (ids .entry)) self (stmtOf st) (add (controllerIs self) (recordIn (now (words .entry)) (now (ids .entry))) (hasRoom (poolOf (now (words .entry)))) (stmtOf st)) r (now (words .exit)) (now (ids .exit)) ⌝ }
     {
         if !self.ready {
             return calls::refuse(self, Refusal::OutOfPlace);

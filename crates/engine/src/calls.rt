@@ -10,7 +10,7 @@ use crate::Controller;
 use crate::Outcome;
 use crate::Refusal;
 use pool::RECORD;
-use rules::Send;
+use rules::OptionalPayload;
 use statements::Binding;
 use views::History;
 use views::View;
@@ -54,17 +54,14 @@ fn start(number: u8, members: u16, sender: u8) -> Controller
         left: 0,
     };
     let entered = entered_first(init, number);
+    let blank = Controller::new();
     Controller {
         ready: true,
         number: number,
         init: init,
         sender: sender,
         entered: entered,
-        binding: Binding::Unbound,
-        delivered: false,
-        joining: false,
-        leaving: false,
-        sending: Send::Nothing,
+        ..blank
     }
 }
 
@@ -85,7 +82,7 @@ impl Controller {
             delivered: false,
             joining: false,
             leaving: false,
-            sending: Send::Nothing,
+            sending: OptionalPayload::Nothing,
         }
     }
 
@@ -157,11 +154,11 @@ impl Controller {
             return refuse(self, Refusal::BadRequest);
         }
         let sending = self.sending;
-        let Send::Nothing = sending else {
+        let OptionalPayload::Nothing = sending else {
             return refuse(self, Refusal::BadRequest);
         };
         take(Controller {
-            sending: Send::Payload(payload),
+            sending: OptionalPayload::Payload(payload),
             ..self
         })
     }

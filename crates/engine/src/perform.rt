@@ -6,11 +6,13 @@ ghost use Rattle.protocol.specs.Controller.{withBinding, withEntered, withDeliv
 ghost use Rattle.views.specs.Held.{viewIs, viewsIs};
 ghost use Rattle.protocol.specs.Turn as protocol;
 ghost use Rattle.statements.specs.Meaning.{stmtOf, bindingIs};
-ghost use Rattle.pool.specs.Pool.{recordIn};
-ghost use Rattle.engine.specs.Meaning.{controllerIs, poolIs};
-ghost use Rattle.rules.specs.Actions.{viewsIn, actionIs};
+ghost use Rattle.pool.specs.Pool.{recordIn, poolOf};
+ghost use Rattle.engine.specs.Meaning.{controllerIs};
+ghost use Rattle.views.specs.View.{viewsIn};
+ghost use Rattle.rules.specs.Actions.{actionIs};
 ghost use Rattle.rules.specs.Rules.{SituationOf};
-ghost use Rattle.engine.specs.Promise.{Turns, restIs};
+ghost use Rattle.engine.specs.Steps.{restIs};
+ghost use Rattle.engine.specs.Promise.{Turns};
 use crate::Answer;
 use crate::Controller;
 use crate::Outcome;
@@ -34,7 +36,7 @@ fn sign(
     st: Statement,
 ) -> Outcome
     requires { ⌜ st .history .len ≤ 16 ⌝ }
-    ensures { λ r. ⌜ Turns (now (words .entry)) (now (ids .entry)) c (protocol.signing (controllerIs c) (recordIn (now (words .entry)) (now (ids .entry))) (hasRoom (poolIs (now (words .entry)))) (withBinding (bindingIs b) (controllerIs c)) (stmtOf st)) r (now (words .exit)) (now (ids .exit)) ⌝ }
+    ensures { λ r. ⌜ Turns (now (words .entry)) (now (ids .entry)) c (protocol.signing (controllerIs c) (recordIn (now (words .entry)) (now (ids .entry))) (hasRoom (poolOf (now (words .entry)))) (withBinding (bindingIs b) (controllerIs c)) (stmtOf st)) r (now (words .exit)) (now (ids .exit)) ⌝ }
 {
     let placed = keep::place(words, ids, st);
     let pool::Placed::At(n) = placed else {
@@ -101,13 +103,10 @@ pub fn perform(
     a: Action,
 ) -> Outcome
     requires { ⌜ (s .shown .count ≤ 16) × SituationOf (controllerIs c) (recordIn (now words) (now ids)) s ⌝ }
-    ensures { λ r. ⌜ Turns (now (words .entry)) (now (ids .entry)) c (protocol.perform (controllerIs c) (recordIn (now (words .entry)) (now (ids .entry))) (hasRoom (poolIs (now (words .entry)))) (actionIs s (viewsIn (now (candidates .entry)) (s .shown .count)) a)) r (now (words .exit)) (now (ids .exit)) ⌝ }
+    ensures { λ r. ⌜ Turns (now (words .entry)) (now (ids .entry)) c (protocol.perform (controllerIs c) (recordIn (now (words .entry)) (now (ids .entry))) (hasRoom (poolOf (now (words .entry)))) (actionIs s (viewsIn (now (candidates .entry)) (s .shown .count)) a)) r (now (words .exit)) (now (ids .exit)) ⌝ }
 {
     match a {
-        Action::Rest => {
-            let t = s.top;
-            rest(c, rules::has_left(t, s.number))
-        }
+        Action::Rest => rest(c, s.left),
         Action::Enter(v, b) => enter(c, v, b),
         Action::Deliver(m) => deliver(c, m),
         Action::Ack(m) => {

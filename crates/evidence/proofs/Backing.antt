@@ -19,7 +19,7 @@ use Rattle.protocol.proofs.Monotone.{quorum-map}
 use Rattle.protocol.proofs.Decided.{says-kind, says-backed}
 use Rattle.protocol.proofs.Grounds.{Top, says-top}
 use Rattle.views.specs.Sets.{IsSet}
-use Rattle.views.specs.View.{viewOf, ring, quorumHas}
+use Rattle.views.specs.View.{viewOf, ringOfWord, quorumHas}
 use Rattle.protocol.specs.Sets.{bit}
 use Rattle.views.proofs.Views.{signed-by-set}
 use Rattle.votes.specs.Votes.{alike, entry}
@@ -48,18 +48,18 @@ stores-payload m k p s e f g = rw (sym e, eq-eqb k 8 f, sym g)
 
 module _ (init : ℕ) (X : List Stmt) where
   abbrev backing : ℕ → View → (Stmt → Bool) → Bool
-  backing k t p = (eqb k 7 || eqb k 8) && signedByQuorum 16 X t p && isTop (ring init) X t
+  backing k t p = (eqb k 7 || eqb k 8) && signedByQuorum 16 X t p && isTop (ringOfWord init) X t
 
   backed-by : (s : Stmt) → isBacked init X s ≡ backing (s .kind) (s .at) (alike s)
   unfolding isBacked isKind
   backed-by s = refl
 
   pub backed-low : (k : ℕ) (s : Stmt) → k ≡ s .kind → k < 7 → false ≡ isBacked init X s
-  backed-low k s e l = sym (backed-by s ∙ ap₂ (λ a b. (a || b) && signedByQuorum 16 X (s .at) (alike s) && isTop (ring init) X (s .at))
+  backed-low k s e l = sym (backed-by s ∙ ap₂ (λ a b. (a || b) && signedByQuorum 16 X (s .at) (alike s) && isTop (ringOfWord init) X (s .at))
       (ne-eqb (s .kind) 7 (λ q. omega arith)) (ne-eqb (s .kind) 8 (λ q. omega arith)))
 
   pub backed-high : (k : ℕ) (s : Stmt) → k ≡ s .kind → 8 < k → false ≡ isBacked init X s
-  backed-high k s e l = sym (backed-by s ∙ ap₂ (λ a b. (a || b) && signedByQuorum 16 X (s .at) (alike s) && isTop (ring init) X (s .at))
+  backed-high k s e l = sym (backed-by s ∙ ap₂ (λ a b. (a || b) && signedByQuorum 16 X (s .at) (alike s) && isTop (ringOfWord init) X (s .at))
       (ne-eqb (s .kind) 7 (λ q. omega arith)) (ne-eqb (s .kind) 8 (λ q. omega arith)))
 
   seven-or-eight : (k : ℕ) → 7 ≤ k → k ≤ 8 → (eqb k 7 || eqb k 8) ≡ true
@@ -69,14 +69,14 @@ module _ (init : ℕ) (X : List Stmt) where
     quorum : q ≡ signedByQuorum 16 X (s .at) (alike s)
     quorum = signed-by-set X (s .at) (alike s) seen q signers (asked ∙ ap (λ v. quorumHas v (bit seen)) at)
 
-    by-kind : isBacked init X s ≡ (q && isTop (ring init) X (s .at))
-    by-kind = backed-by s ∙ ap₂ (λ a b. a && b && isTop (ring init) X (s .at)) (seven-or-eight (s .kind) (omega arith) (omega arith)) (sym quorum)
+    by-kind : isBacked init X s ≡ (q && isTop (ringOfWord init) X (s .at))
+    by-kind = backed-by s ∙ ap₂ (λ a b. a && b && isTop (ringOfWord init) X (s .at)) (seven-or-eight (s .kind) (omega arith) (omega arith)) (sym quorum)
 
     pub backed-few : q ≡ false → false ≡ isBacked init X s
-    backed-few f = sym (by-kind ∙ ap (λ b. b && isTop (ring init) X (s .at)) f)
+    backed-few f = sym (by-kind ∙ ap (λ b. b && isTop (ringOfWord init) X (s .at)) f)
 
-    pub backed-top : (r : Bool) → q ≡ true → r ≡ isTop (ring init) X (viewOf t) → r ≡ isBacked init X s
-    backed-top r f g = g ∙ ap (isTop (ring init) X) at ∙ sym (by-kind ∙ ap (λ b. b && isTop (ring init) X (s .at)) f)
+    pub backed-top : (r : Bool) → q ≡ true → r ≡ isTop (ringOfWord init) X (viewOf t) → r ≡ isBacked init X s
+    backed-top r f g = g ∙ ap (isTop (ringOfWord init) X) at ∙ sym (by-kind ∙ ap (λ b. b && isTop (ringOfWord init) X (s .at)) f)
 
   -- those that say the same are backed alike
   pub backed-alike : {a s : Stmt} → Alike a s → isBacked init X a ≡ isBacked init X s
@@ -88,9 +88,9 @@ module _ (init : ℕ) (X : List Stmt) where
       same : (x : Stmt) → alike a x ≡ alike s x
       same x = says-unique (says-alike a x) (says-map (λ p. alike-both (alike-turned al) p) (λ p. alike-both al p) (says-alike s x))
 
-  pub says-backed-by : (s : Stmt) → Says (isBacked init X s) ((((s .kind ≡ 7) ⊎ (s .kind ≡ 8)) × Quorum 16 (s .at) (Signed X (Alike s))) × Top (ring init) X (s .at))
+  pub says-backed-by : (s : Stmt) → Says (isBacked init X s) ((((s .kind ≡ 7) ⊎ (s .kind ≡ 8)) × Quorum 16 (s .at) (Signed X (Alike s))) × Top (ringOfWord init) X (s .at))
   unfolding isBacked
-  says-backed-by s = says-and (says-and (says-or (says-kind 7 s) (says-kind 8 s)) (says-backed (says-alike s))) (says-top (ring init) X (s .at))
+  says-backed-by s = says-and (says-and (says-or (says-kind 7 s) (says-kind 8 s)) (says-backed (says-alike s))) (says-top (ringOfWord init) X (s .at))
 
   -- ---- an ack or a store at t for m
 
@@ -130,13 +130,13 @@ module _ (init : ℕ) (X : List Stmt) where
 
   -- what is backed is cast by a quorum of a sealed top
   pub cast-quorum : (k : ℕ) (s : Stmt) → Late k → s .kind ≡ k → T (isBacked init X s)
-      → (G : List View) × Shown (ring init) X (sealed G) × Quorum 16 (top (ring init) G) (Signed X (Cast k (top (ring init) G) (s .payload)))
+      → (G : List View) × Shown (ringOfWord init) X (sealed G) × Quorum 16 (top (ringOfWord init) G) (Signed X (Cast k (top (ringOfWord init) G) (s .payload)))
   cast-quorum k s l e b =
       let ((_, q), (G, g, h)) = says-backed-by s .sound b in
       (G, g, subst (λ t. Quorum 16 t (Signed X (Cast k t (s .payload)))) (sym h) (signed-map (λ x. cast-of k l e) q))
 
-  pub quorum-cast : (k m : ℕ) (s : Stmt) {G : List View} → Late k → Shown (ring init) X (sealed G) → Quorum 16 (top (ring init) G) (Signed X (Cast k (top (ring init) G) m))
-      → Cast k (top (ring init) G) m s → T (isBacked init X s)
+  pub quorum-cast : (k m : ℕ) (s : Stmt) {G : List View} → Late k → Shown (ringOfWord init) X (sealed G) → Quorum 16 (top (ringOfWord init) G) (Signed X (Cast k (top (ringOfWord init) G) m))
+      → Cast k (top (ringOfWord init) G) m s → T (isBacked init X s)
   quorum-cast k m s {G} l g q c = says-backed-by s .complete (
     (elim l [ inl e ↦ inl (c .kind ∙ e) | inr e ↦ inr (c .kind ∙ e) ], subst (λ t. Quorum 16 t (Signed X (Alike s))) (sym (c .at)) (signed-map (λ x d. alike-of k l c d) q)),
     (G, g, sym (c .at)),

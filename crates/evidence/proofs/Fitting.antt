@@ -14,11 +14,10 @@ use Rattle.protocol.specs.Evidence.{wished, Candidate, candidates, isConflict, 
 use Rattle.protocol.proofs.Bits.{Fits}
 use Rattle.protocol.proofs.Asked.{candidates-exact, greatest-holds}
 use Rattle.protocol.proofs.FieldRules.{sealed-candidate}
-use Rattle.views.specs.View.{viewOf, viewIn, ring}
+use Rattle.views.specs.View.{viewOf, viewIn, ringOfWord, viewsOf}
 use Rattle.views.proofs.Sets.{setOf-lt}
 use Rattle.views.proofs.Views.{view-whole}
 use Rattle.pool.specs.Pool.{recordIn}
-use Rattle.ranking.specs.Slots.{viewsOf}
 use Rattle.ranking.proofs.Members.{table-in}
 use Rattle.ranking.proofs.Ranks.{record-fits, candidate-fits}
 use Rattle.evidence.specs.declared.Evidence.{Evidence}
@@ -32,24 +31,24 @@ module _ (init sender : ℕ) (W ids C G : List ℕ) (e : Evidence) where
   abbrev X : List Stmt
   X = recordIn W ids
 
-  pub wished-fits : EvidenceOf (ring init) sender X C G e → Fits 16 (viewOf (e .wished))
+  pub wished-fits : EvidenceOf (ringOfWord init) sender X C G e → Fits 16 (viewOf (e .wished))
   unfolding wished
-  wished-fits of = subst (Fits 16) (sym (of .wished)) (record { joined = setOf-lt 16 (joinedBy (ring init) X); left = setOf-lt 16 (leftBy (ring init) X) })
+  wished-fits of = subst (Fits 16) (sym (of .wished)) (record { joined = setOf-lt 16 (joinedBy (ringOfWord init) X); left = setOf-lt 16 (leftBy (ringOfWord init) X) })
 
-  pub wished-narrow : EvidenceOf (ring init) sender X C G e → viewIn (e .wished) ≡ viewOf (e .wished)
+  pub wished-narrow : EvidenceOf (ringOfWord init) sender X C G e → viewIn (e .wished) ≡ viewOf (e .wished)
   wished-narrow of = view-whole (e .wished) refl (wished-fits of)
 
-  module _ (fits : Fits 16 (viewOf init)) (settled : Settled (ring init) sender X C G e) where
-    fits-of : {v : View} → Candidate (ring init) X v → Fits 16 v
+  module _ (fits : Fits 16 (viewOf init)) (settled : Settled (ringOfWord init) sender X C G e) where
+    fits-of : {v : View} → Candidate (ringOfWord init) X v → Fits 16 v
     fits-of {v} k = elim (candidate-fits init X (record-fits W ids (getD ids 512 0)) k) [ inl e ↦ subst (Fits 16) (sym e) fits | inr (_, f) ↦ f ]
 
     pub candidates-fit : (v : View) → v ∈ viewsOf C (e .count) → Fits 16 v
-    candidates-fit v m = fits-of (candidates-exact (ring init) X v .0 (subst (λ l. v ∈ l) (settled .of .candidates (settled .agree) (settled .few)) m))
+    candidates-fit v m = fits-of (candidates-exact (ringOfWord init) X v .0 (subst (λ l. v ∈ l) (settled .of .candidates (settled .agree) (settled .few)) m))
 
     pub greatest-fit : (v : View) → v ∈ viewsOf G (e .length) → Fits 16 v
     greatest-fit v m =
-        let clear : T (not (isConflict (ring init) sender X)) = subst (λ b. T (not b)) (sym (settled .agree) ∙ settled .of .conflict) tt in
-        fits-of (sealed-candidate (greatest-holds (ring init) sender X clear .0) (subst (λ l. v ∈ l) (settled .of .greatest (settled .agree)) m))
+        let clear : T (not (isConflict (ringOfWord init) sender X)) = subst (λ b. T (not b)) (sym (settled .agree) ∙ settled .of .conflict) tt in
+        fits-of (sealed-candidate (greatest-holds (ringOfWord init) sender X clear .0) (subst (λ l. v ∈ l) (settled .of .greatest (settled .agree)) m))
 
     pub candidates-narrow : Narrow C (e .count)
     candidates-narrow = narrow-all C (e .count) candidates-fit

@@ -13,7 +13,7 @@ use lib.Seq.{getD-set-same, getD-set-other}
 use Rattle.protocol.specs.Statement.{Stmt}
 use Rattle.protocol.specs.Evidence.{signs}
 use Rattle.views.specs.Sets.{IsSet}
-use Rattle.pool.specs.Pool.{recordOf, recordLen, recordIn}
+use Rattle.pool.specs.Pool.{recordUpTo, recordLen, recordIn}
 use Rattle.votes.specs.Votes.{isVote, alike, entry, placeOf, tagOf, signersOf, voteAt, Groups, GroupsIn}
 use Rattle.votes.specs.Chosen.{Picked}
 use Rattle.votes.proofs.Alike.{Vote, says-vote, says-alike}
@@ -30,7 +30,7 @@ module _ (W ids : List ℕ) (len n : ℕ) (G G′ : List ℕ) (same : (g : ℕ) 
     place = λ g l. subst (λ x. placeOf x < min len 512) (sym (same g l)) (r .place g l);
     vote = λ g l. subst (λ x. T (isVote (entry W ids (placeOf x)))) (sym (same g l)) (r .vote g l);
     tag = λ g l. subst (λ x. tagOf x ≡ entry W ids (placeOf x) .kind) (sym (same g l)) (r .tag g l);
-    signers = λ g l. subst (λ x. IsSet (signersOf x) (signs (alike (entry W ids (placeOf x))) (recordOf W ids len))) (sym (same g l)) (r .signers g l);
+    signers = λ g l. subst (λ x. IsSet (signersOf x) (signs (alike (entry W ids (placeOf x))) (recordUpTo W ids len))) (sym (same g l)) (r .signers g l);
     covers = λ i l v. let (g, k, a) = r .covers i l v in (g, k, subst (λ x. T (alike (entry W ids (placeOf x)) (entry W ids i))) (sym (same g k)) a);
   }
 

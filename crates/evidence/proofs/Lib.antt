@@ -1,4 +1,4 @@
-pub mod Sifted
+pub mod Listing
 pub mod Payloads
 pub mod Backing
 pub mod Kept

@@ -12,12 +12,12 @@ use Rattle.protocol.specs.Statement as statement
 use Rattle.protocol.specs.Statement.{Stmt, bindingOf}
 use Rattle.protocol.specs.Turn.{merge, mergeAll}
 use Rattle.views.specs.Table.{table}
-use Rattle.pool.specs.Pool.{recordOf}
+use Rattle.pool.specs.Pool.{recordUpTo}
 use Rattle.pool.proofs.Records.{entry, so-far, whole}
 use Rattle.statements.specs.declared.Binding.{Binding}
 use Rattle.statements.specs.declared.Binding.the-variants.{Unbound, Bound, Barred}
 use Rattle.statements.specs.Meaning.{bindingIs}
-use Rattle.evidence.proofs.Sifted.{filter-append}
+use Rattle.evidence.proofs.Listing.{filter-append}
 
 -- ---- the binding that a report tells
 
@@ -83,26 +83,26 @@ module _ (p : Stmt → Bool) where
   one-in b s e = rw e
 
   module _ (W ids : List ℕ) where
-    pub merge-first : (b : statement.Binding) (len i : ℕ) → i ≡ min len 512 → mergeAll b (filter p (recordOf W ids len)) ≡ mergeAll b (filter p (recordOf W ids i))
+    pub merge-first : (b : statement.Binding) (len i : ℕ) → i ≡ min len 512 → mergeAll b (filter p (recordUpTo W ids len)) ≡ mergeAll b (filter p (recordUpTo W ids i))
     merge-first b len i e = ap (λ l. mergeAll b (filter p l)) (sym (whole W ids len i e))
 
-    shorter : (i : ℕ) → 0 < i → i ≤ 512 → recordOf W ids i ≡ recordOf W ids (i - 1) ++ (entry W ids (i - 1) ∷ [])
+    shorter : (i : ℕ) → 0 < i → i ≤ 512 → recordUpTo W ids i ≡ recordUpTo W ids (i - 1) ++ (entry W ids (i - 1) ∷ [])
     unfolding table
     shorter i l h =
         let q : i ≡ suc (i - 1) = omega arith in
         so-far W ids i h ∙ ap (λ n. table n (entry W ids)) q ∙ ap (λ l. l ++ (entry W ids (i - 1) ∷ [])) (sym (so-far W ids (i - 1) (omega arith)))
 
-    pub merge-skip : (b : statement.Binding) (i : ℕ) (r : Bool) → 0 < i → i ≤ 512 → r ≡ p (entry W ids (i - 1)) → r ≡ false → mergeAll b (filter p (recordOf W ids i)) ≡ mergeAll b (filter p (recordOf W ids (i - 1)))
+    pub merge-skip : (b : statement.Binding) (i : ℕ) (r : Bool) → 0 < i → i ≤ 512 → r ≡ p (entry W ids (i - 1)) → r ≡ false → mergeAll b (filter p (recordUpTo W ids i)) ≡ mergeAll b (filter p (recordUpTo W ids (i - 1)))
     merge-skip b i r l h e f =
-        ap (λ l. mergeAll b (filter p l)) (shorter i l h) ∙ merge-step b (recordOf W ids (i - 1)) (entry W ids (i - 1))
-        ∙ ap (λ c. mergeAll c (filter p (recordOf W ids (i - 1)))) (one-out b (entry W ids (i - 1)) (sym e ∙ f))
+        ap (λ l. mergeAll b (filter p l)) (shorter i l h) ∙ merge-step b (recordUpTo W ids (i - 1)) (entry W ids (i - 1))
+        ∙ ap (λ c. mergeAll c (filter p (recordUpTo W ids (i - 1)))) (one-out b (entry W ids (i - 1)) (sym e ∙ f))
 
     pub merge-more : (b c t : statement.Binding) (i : ℕ) (r : Bool) → 0 < i → i ≤ 512 → r ≡ p (entry W ids (i - 1)) → r ≡ true → t ≡ bindingOf (entry W ids (i - 1)) → c ≡ merge t b
-        → mergeAll b (filter p (recordOf W ids i)) ≡ mergeAll c (filter p (recordOf W ids (i - 1)))
+        → mergeAll b (filter p (recordUpTo W ids i)) ≡ mergeAll c (filter p (recordUpTo W ids (i - 1)))
     merge-more b c t i r l h e f g q =
-        ap (λ l. mergeAll b (filter p l)) (shorter i l h) ∙ merge-step b (recordOf W ids (i - 1)) (entry W ids (i - 1))
-        ∙ ap (λ c. mergeAll c (filter p (recordOf W ids (i - 1)))) (one-in b (entry W ids (i - 1)) (sym e ∙ f) ∙ sym (q ∙ ap (λ t. merge t b) g))
+        ap (λ l. mergeAll b (filter p l)) (shorter i l h) ∙ merge-step b (recordUpTo W ids (i - 1)) (entry W ids (i - 1))
+        ∙ ap (λ c. mergeAll c (filter p (recordUpTo W ids (i - 1)))) (one-in b (entry W ids (i - 1)) (sym e ∙ f) ∙ sym (q ∙ ap (λ t. merge t b) g))
 
-    pub merge-end : (b : statement.Binding) (i : ℕ) → i ≡ 0 → mergeAll b (filter p (recordOf W ids i)) ≡ b
+    pub merge-end : (b : statement.Binding) (i : ℕ) → i ≡ 0 → mergeAll b (filter p (recordUpTo W ids i)) ≡ b
     unfolding filter mergeAll table
     merge-end b i e = ap (λ l. mergeAll b (filter p l)) (so-far W ids i (omega arith) ∙ ap (λ n. table n (entry W ids)) e)

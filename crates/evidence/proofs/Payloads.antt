@@ -19,7 +19,7 @@ use Rattle.protocol.proofs.Says.{says-map, says-unique, says-not, says-eqb, say
 use Rattle.protocol.proofs.Decided.{says-prepared, says-twoPrepares}
 use Rattle.views.specs.Table.{table}
 use Rattle.views.proofs.Tables.{any-zero, any-suc, any-more, any-at, table-cong}
-use Rattle.pool.specs.Pool.{recordOf}
+use Rattle.pool.specs.Pool.{recordUpTo}
 use Rattle.pool.proofs.Records.{entry, none-first, any-next, whole}
 use Rattle.evidence.specs.Shown.{preparesIt, payloadCount, listed, twofold, PreparedList}
 use Rattle.ranking.proofs.Members.{table-out}
@@ -73,7 +73,7 @@ module _ (W ids : List ℕ) (sender : ℕ) where
   pub record ListedTo (P : List ℕ) (n i : ℕ) : Type 0 where
     pub long : length P ≡ 513
     pub most : n ≤ i
-    pub are : (m : ℕ) → any (its m) (recordOf W ids i) ≡ listed P n m
+    pub are : (m : ℕ) → any (its m) (recordUpTo W ids i) ≡ listed P n m
 
   pub list-first : (P : List ℕ) → length P ≡ 513 → ListedTo P 0 0
   list-first P l = record { long = l; most = omega arith; are = λ m. none-first W ids (its m) ∙ sym (listed-zero P m) }
@@ -93,7 +93,7 @@ module _ (W ids : List ℕ) (sender : ℕ) where
   }
 
   -- the count goes into the last place
-  pub list-whole : (len : ℕ) {P : List ℕ} {n i : ℕ} → i ≡ min len 512 → ListedTo P n i → PreparedList sender (recordOf W ids len) (set P 512 n)
+  pub list-whole : (len : ℕ) {P : List ℕ} {n i : ℕ} → i ≡ min len 512 → ListedTo P n i → PreparedList sender (recordUpTo W ids len) (set P 512 n)
   unfolding isPrepared
   list-whole len {P} {n} {i} e w = record { are = λ m. ap (any (its m)) (sym (whole W ids len i e)) ∙ w .are m ∙ sym (listed-counted P n m (omega (arith, w .most)) (w .long)) }
 

@@ -20,15 +20,14 @@ use Rattle.protocol.proofs.Histories.{sealed-short}
 use Rattle.protocol.proofs.Decided.{says-same, says-in, says-shown, says-certified}
 use Rattle.protocol.proofs.Asked.{says-holds, candidates-exact, certificates-in, certificates-out, one-payload, greatest-holds}
 use Rattle.views.specs.Sets.{IsSet}
-use Rattle.views.specs.View.{viewOf, ring, quorumHas}
-use Rattle.views.proofs.Tables.{table-length}
+use Rattle.views.specs.View.{viewOf, ringOfWord, quorumHas, viewsOf}
+use Rattle.views.proofs.Tables.{views-count}
 use Rattle.views.proofs.Views.{fails, signed-by-set}
 use Rattle.evidence.specs.declared.Evidence.{Evidence}
-use Rattle.ranking.specs.Slots.{viewsOf}
 use Rattle.evidence.specs.Shown.{payloadCount, listed, twofold, PreparedList}
 use Rattle.evidence.specs.Evidence.{Settled, reportedOn, reportedAll, countsBelow, reportsBelow}
 use Rattle.evidence.specs.Reports.{bindingHolds, keptHolds, countsBy, countsAt, hasReports, countsUnder}
-use Rattle.evidence.proofs.Sifted.{any-filter, any-same}
+use Rattle.evidence.proofs.Listing.{any-filter, any-same}
 use Rattle.evidence.proofs.Payloads.{twofold-is}
 
 -- ---- what a report says
@@ -163,9 +162,9 @@ module _ (e : Evidence) (C P : List ℕ) (H : List View) (t k u : ℕ) (s : Stmt
 
 -- ---- what the evidence tells
 
-module _ (init sender : ℕ) (X : List Stmt) (C Gr : List ℕ) (e : Evidence) (settled : Settled (ring init) sender X C Gr e) where
+module _ (init sender : ℕ) (X : List Stmt) (C Gr : List ℕ) (e : Evidence) (settled : Settled (ringOfWord init) sender X C Gr e) where
   abbrev R : Ring
-  R = ring init
+  R = ringOfWord init
 
   abbrev G : List View
   G = viewsOf Gr (e .length)
@@ -173,18 +172,14 @@ module _ (init sender : ℕ) (X : List Stmt) (C Gr : List ℕ) (e : Evidence) (s
   no-conflict : T (not (isConflict R sender X))
   no-conflict = subst (λ b. T (not b)) (sym (settled .agree) ∙ settled .of .conflict) tt
 
-  views-length : (a : List ℕ) (n : ℕ) → length (viewsOf a n) ≡ n
-  unfolding viewsOf
-  views-length a n = table-length n (λ i. viewOf (getD a i 0))
-
   pub count-most : e .count ≤ 16
   count-most =
       let c = settled .of .candidates (settled .agree) (settled .few) in
       let l : length (candidates R X) ≤ 16 = ltb-false 16 _ (sym (settled .of .many (settled .agree)) ∙ settled .few) in
-      omega (arith, views-length C (e .count), ap length c)
+      omega (arith, views-count C (e .count), ap length c)
 
   pub length-most : e .length ≤ 16
-  length-most = omega (arith, views-length Gr (e .length), ap length (settled .of .greatest (settled .agree)), sealed-short (greatest-holds R sender X no-conflict .0))
+  length-most = omega (arith, views-count Gr (e .length), ap length (settled .of .greatest (settled .agree)), sealed-short (greatest-holds R sender X no-conflict .0))
 
   certified-by : (m : ℕ) → isCertified R sender X m ≡ (e .certified && eqb m (e .payload))
   certified-by m = go (e .certified) refl

@@ -19,15 +19,15 @@ use Rattle.protocol.proofs.Bits.{Fits}
 use Rattle.protocol.proofs.Quorums.{someone}
 use Rattle.protocol.proofs.Decided.{says-sames, says-shown}
 use Rattle.protocol.proofs.Asked.{greatest-holds}
-use Rattle.views.specs.View.{viewOf, ring}
-use Rattle.pool.specs.Pool.{wordOf, recordIn}
+use Rattle.views.specs.View.{viewOf, ringOfWord, viewsOf, wordOf}
+use Rattle.pool.specs.Pool.{recordIn}
 use Rattle.tables.specs.Index.{keyAt}
 use Rattle.votes.specs.Tables.{IsWord, upTo, choiceAt, agreementAt, gives, sealsAt, sealsAs, Tables, Verdicts}
 use Rattle.ranking.specs.declared.Ranked.{Ranked}
 use Rattle.ranking.specs.declared.Summit.{Summit}
 use Rattle.evidence.specs.declared.certificates.Certified.{Certified}
-use Rattle.ranking.specs.Slots.{choiceMark, viewsOf}
-use Rattle.ranking.specs.Ranking.{Choices, Agreements, CandidatesOf, HistoriesOf}
+use Rattle.ranking.specs.Slots.{choiceMark}
+use Rattle.ranking.specs.Ranking.{MarkedChoices, MarkedAgreements, CandidatesOf, HistoriesOf}
 use Rattle.evidence.specs.Shown.{CertificatesOf}
 use Rattle.evidence.specs.Evidence.{EvidenceOf}
 use Rattle.ranking.proofs.Members.{table-in, table-out}
@@ -47,7 +47,7 @@ word-for v f = (wordOf v, omega (arith, f .joined, f .left), λ i. record { join
     high : wordOf v / 4294967296 % 4294967296 ≡ v .left
     high = omega (arith, f .joined, f .left)
 
-module _ (W ids : List ℕ) (init : ℕ) (K R : List ℕ) (nc na : ℕ) (M : List ℕ) (tables : Tables W (recordIn W ids) init K R nc na) (verdicts : Verdicts W (recordIn W ids) init K R nc na M) where
+module _ (W ids : List ℕ) (init : ℕ) (K R : List ℕ) (choiceCount agreementCount : ℕ) (M : List ℕ) (tables : Tables W (recordIn W ids) init K R choiceCount agreementCount) (verdicts : Verdicts W (recordIn W ids) init K R choiceCount agreementCount M) where
   abbrev X : List Stmt
   X = recordIn W ids
 
@@ -62,31 +62,31 @@ module _ (W ids : List ℕ) (init : ℕ) (K R : List ℕ) (nc na : ℕ) (M : Lis
   of-some p n i l h = says-any (λ i. says-self (p i)) (upTo n) .complete (i, table-in n (λ i. i) i l, h)
 
   -- a candidate is the view of a word
-  word-of : {v : View} → Candidate (ring init) X v → (v ≡ viewOf init) ⊎ ((w : ℕ) × IsWord w × (viewOf w ≡ v))
+  word-of : {v : View} → Candidate (ringOfWord init) X v → (v ≡ viewOf init) ⊎ ((w : ℕ) × IsWord w × (viewOf w ≡ v))
   word-of (initial e) = inl e
   word-of (chosen g b n i q) =
       let (_, (s, m, _, a)) = someone q in
       let (w, l, e) = word-for (s .view) (record-fits W ids (getD ids 512 0) s m) in
       inr (w, l, e ∙ a .view)
 
-  says-gives : (w c : ℕ) → Says (gives W X init K R w c) ((keyAt K 0 c ≡ w) × T (isTop (ring init) X (choiceAt W R c .at)))
+  says-gives : (w c : ℕ) → Says (gives W X init K R w c) ((keyAt K 0 c ≡ w) × T (isTop (ringOfWord init) X (choiceAt W R c .at)))
   unfolding gives
-  says-gives w c = says-and says-eqb (says-self (isTop (ring init) X (choiceAt W R c .at)))
+  says-gives w c = says-and says-eqb (says-self (isTop (ringOfWord init) X (choiceAt W R c .at)))
 
-  pub choices-marked : Choices init X K M nc
+  pub choices-marked : MarkedChoices init X K M choiceCount
   choices-marked = record {
-    sound = λ c l e. says-shown (ring init) X (candidate (viewOf (keyAt K 0 c))) .sound (subst T (verdicts .candidate c l) (says-eqb .complete e));
+    sound = λ c l e. says-shown (ringOfWord init) X (candidate (viewOf (keyAt K 0 c))) .sound (subst T (verdicts .candidate c l) (says-eqb .complete e));
     complete = λ v k. elim (word-of k) [ inl e ↦ inl e | inr (w, l, e) ↦ go v k w l e ];
     fits = record-fits W ids (getD ids 512 0);
   }
     where
-      go : (v : View) → Candidate (ring init) X v → (w : ℕ) → IsWord w → viewOf w ≡ v
-          → (v ≡ viewOf init) ⊎ ((c : ℕ) × (c < nc) × (choiceMark M c ≡ 1) × (viewOf (keyAt K 0 c) ≡ v))
+      go : (v : View) → Candidate (ringOfWord init) X v → (w : ℕ) → IsWord w → viewOf w ≡ v
+          → (v ≡ viewOf init) ⊎ ((c : ℕ) × (c < choiceCount) × (choiceMark M c ≡ 1) × (viewOf (keyAt K 0 c) ≡ v))
       go v k w l e =
-          let shown : (u : View) → u ≡ v → T (isCandidate (ring init) X u) = λ u q. subst (λ u. T (isCandidate (ring init) X u)) (sym q) (says-shown (ring init) X (candidate v) .complete k) in
-          elim (says-or (says-eqb {m = w} {n = init}) (says-self (any (gives W X init K R w) (upTo nc))) .sound (subst T (tables .candidates w l) (shown (viewOf w) e))) [
+          let shown : (u : View) → u ≡ v → T (isCandidate (ringOfWord init) X u) = λ u q. subst (λ u. T (isCandidate (ringOfWord init) X u)) (sym q) (says-shown (ringOfWord init) X (candidate v) .complete k) in
+          elim (says-or (says-eqb {m = w} {n = init}) (says-self (any (gives W X init K R w) (upTo choiceCount))) .sound (subst T (tables .candidates w l) (shown (viewOf w) e))) [
             | inl q ↦ inl (sym e ∙ ap viewOf q)
-            | inr t ↦ (let (c, h, g) = some-of (gives W X init K R w) nc t in
+            | inr t ↦ (let (c, h, g) = some-of (gives W X init K R w) choiceCount t in
                 let is : viewOf (keyAt K 0 c) ≡ v = ap viewOf (says-gives w c .sound g .0) ∙ e in
                 inr (c, h, eqb→eq _ _ (subst T (sym (verdicts .candidate c h)) (shown _ is)), is))
           ]
@@ -95,19 +95,19 @@ module _ (W ids : List ℕ) (init : ℕ) (K R : List ℕ) (nc na : ℕ) (M : Lis
   unfolding sealsAs
   says-seals H a = says-and (says-sames (agreementAt W R a .views) H) (says-self (sealsAt W X init K R a))
 
-  says-listed : (H : List View) → Says (sameViews H (viewOf init ∷ []) || any (sealsAs W X init K R H) (upTo na)) ((H ≡ viewOf init ∷ []) ⊎ T (any (sealsAs W X init K R H) (upTo na)))
-  says-listed H = says-or (says-sames H (viewOf init ∷ [])) (says-self (any (sealsAs W X init K R H) (upTo na)))
+  says-listed : (H : List View) → Says (sameViews H (viewOf init ∷ []) || any (sealsAs W X init K R H) (upTo agreementCount)) ((H ≡ viewOf init ∷ []) ⊎ T (any (sealsAs W X init K R H) (upTo agreementCount)))
+  says-listed H = says-or (says-sames H (viewOf init ∷ [])) (says-self (any (sealsAs W X init K R H) (upTo agreementCount)))
 
-  pub agreements-marked : Agreements init X W R M na
+  pub agreements-marked : MarkedAgreements init X W R M agreementCount
   agreements-marked = record {
     sound = λ a l e.
         let H = agreementAt W R a .views in
-        says-shown (ring init) X (sealed H) .sound (subst T (sym (tables .histories H))
-        (says-listed H .complete (inr (of-some (sealsAs W X init K R H) na a l (says-seals H a .complete (refl, subst T (verdicts .sealed a l) (says-eqb .complete e)))))));
+        says-shown (ringOfWord init) X (sealed H) .sound (subst T (sym (tables .histories H))
+        (says-listed H .complete (inr (of-some (sealsAs W X init K R H) agreementCount a l (says-seals H a .complete (refl, subst T (verdicts .sealed a l) (says-eqb .complete e)))))));
     complete = λ H k.
-        elim (says-listed H .sound (subst T (tables .histories H) (says-shown (ring init) X (sealed H) .complete k))) [
+        elim (says-listed H .sound (subst T (tables .histories H) (says-shown (ringOfWord init) X (sealed H) .complete k))) [
           | inl e ↦ inl e
-          | inr t ↦ (let (a, l, g) = some-of (sealsAs W X init K R H) na t in
+          | inr t ↦ (let (a, l, g) = some-of (sealsAs W X init K R H) agreementCount t in
               let (e, h) = says-seals H a .sound g in
               inr (a, l, eqb→eq _ _ (subst T (sym (verdicts .sealed a l)) h), e))
         ];
@@ -120,16 +120,16 @@ none true b c e = absurd (subst T e tt)
 none false true c e = absurd (subst T e tt)
 none false false c e = (refl, refl, e)
 
-conflict-of : (init sender : ℕ) (X : List Stmt) {a b c : Bool} → a ≡ not (pairwise (comparable 16) (candidates (ring init) X))
-    → b ≡ not (pairwise (λ H K. holds H K || holds K H) (sealedHistories (ring init) X)) → c ≡ not (pairwise eqb (certificates (ring init) sender X))
-    → (a || b || c) ≡ isConflict (ring init) sender X
+conflict-of : (init sender : ℕ) (X : List Stmt) {a b c : Bool} → a ≡ not (pairwise (comparable 16) (candidates (ringOfWord init) X))
+    → b ≡ not (pairwise (λ H K. holds H K || holds K H) (sealedHistories (ringOfWord init) X)) → c ≡ not (pairwise eqb (certificates (ringOfWord init) sender X))
+    → (a || b || c) ≡ isConflict (ringOfWord init) sender X
 unfolding isConflict
 conflict-of init sender X e f g = ap₂ (λ x y. x || y) (ap₂ _||_ e f) g
 
 pub tied : (wish : ℕ) (r : Ranked) (h : Summit) (c : Certified) (stored b : Bool) → b ≡ (r .conflict || h .conflict || c .conflict)
-    → (init sender : ℕ) (X : List Stmt) (C G : List ℕ) → viewOf wish ≡ wished (ring init) X → CandidatesOf init X C r → HistoriesOf init X G h → CertificatesOf init sender X c
-    → stored ≡ isStored (ring init) X (c .payload)
-    → EvidenceOf (ring init) sender X C G (record {
+    → (init sender : ℕ) (X : List Stmt) (C G : List ℕ) → viewOf wish ≡ wished (ringOfWord init) X → CandidatesOf init X C r → HistoriesOf init X G h → CertificatesOf init sender X c
+    → stored ≡ isStored (ringOfWord init) X (c .payload)
+    → EvidenceOf (ringOfWord init) sender X C G (record {
       conflict = b;
       many = r .many;
       wished = wish;
@@ -145,14 +145,14 @@ tied wish r h c stored b e init sender X C G w p q s t = record {
   many = λ f. p .many (parts f .0);
   candidates = λ f. p .views (parts f .0);
   greatest = λ f.
-      let (g, k) = greatest-holds (ring init) sender X (subst (λ b. T (not b)) (sym f ∙ is) tt) in
+      let (g, k) = greatest-holds (ringOfWord init) sender X (subst (λ b. T (not b)) (sym f ∙ is) tt) in
       let z = parts f .1 in
-      held-same init X (q .sealed z) g (q .holds z (greatest (ring init) X) g) (k (viewsOf G (h .length)) (q .sealed z));
+      held-same init X (q .sealed z) g (q .holds z (greatest (ringOfWord init) X) g) (k (viewsOf G (h .length)) (q .sealed z));
   certificate = λ f. s .certificate (parts f .2);
   stored = λ f y. t;
 }
   where
-    is : b ≡ isConflict (ring init) sender X
+    is : b ≡ isConflict (ringOfWord init) sender X
     is = e ∙ conflict-of init sender X (p .conflict) (q .conflict) (s .conflict)
 
     parts : b ≡ false → (r .conflict ≡ false) × (h .conflict ≡ false) × (c .conflict ≡ false)

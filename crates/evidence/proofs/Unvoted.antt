@@ -17,7 +17,7 @@ use Rattle.protocol.proofs.Quorums.{someone}
 use Rattle.protocol.proofs.Histories.{within-of}
 use Rattle.protocol.proofs.Decided.{says-kind, says-shown, says-stored}
 use Rattle.protocol.proofs.Asked.{says-pairwise, candidates-exact, certificates-out}
-use Rattle.views.specs.View.{viewOf, ring}
+use Rattle.views.specs.View.{viewOf, ringOfWord}
 use Rattle.views.proofs.Views.{passes, fails}
 use Rattle.votes.specs.Votes.{isVote}
 use Rattle.votes.proofs.Alike.{Vote, says-vote}
@@ -37,30 +37,30 @@ module _ (init : ℕ) (X : List Stmt) (none : any isVote X ≡ false) where
   silent : {s : Stmt} → s ∈ X → Vote s → ⊥
   silent {s} m v = subst T none (says-any says-vote X .complete (s, m, v))
 
-  only-candidate : {v : View} → Candidate (ring init) X v → v ≡ viewOf init
+  only-candidate : {v : View} → Candidate (ringOfWord init) X v → v ≡ viewOf init
   only-candidate (initial e) = e
   only-candidate (chosen g b n i q) = let (_, (s, m, _, a)) = someone q in absurd (silent m (inl (inl (inl (a .kind)))))
 
-  only-sealed : {H : List View} → Sealed (ring init) X H → H ≡ viewOf init ∷ []
+  only-sealed : {H : List View} → Sealed (ringOfWord init) X H → H ≡ viewOf init ∷ []
   only-sealed (start e) = e
   only-sealed (agreed g h i n c q) = let (_, (s, m, _, a)) = someone q in absurd (silent m (inl (inl (inr (a .kind)))))
 
-  candidates-are : candidates (ring init) X ≡ viewOf init ∷ []
+  candidates-are : candidates (ringOfWord init) X ≡ viewOf init ∷ []
   unfolding candidates filter insertAll insert
   candidates-are =
-      ap (λ l. insertAll (ring init) [] (filter (isCandidate (ring init) X) (viewOf init ∷ map (λ s. s .view) l)))
+      ap (λ l. insertAll (ringOfWord init) [] (filter (isCandidate (ringOfWord init) X) (viewOf init ∷ map (λ s. s .view) l)))
       (filter-none (isKind 3) X (λ s m. fails (says-kind 3 s) (λ k. silent m (inl (inl (inl k))))))
-      ∙ ap (λ b. insertAll (ring init) [] (if b then viewOf init ∷ [] else [])) (passes (says-shown (ring init) X (candidate (viewOf init))) (initial refl))
+      ∙ ap (λ b. insertAll (ringOfWord init) [] (if b then viewOf init ∷ [] else [])) (passes (says-shown (ringOfWord init) X (candidate (viewOf init))) (initial refl))
 
   candidates-of : (C : List ℕ) → length C ≡ 16 → CandidatesOf init X (set C 0 init) (record { conflict = false; many = false; count = 1 })
   candidates-of C long = record {
-    conflict = ap not (sym (passes (says-pairwise says-comparable (candidates (ring init) X)) (λ u i v j. inl (within-of (inl (is u i ∙ sym (is v j)))))));
+    conflict = ap not (sym (passes (says-pairwise says-comparable (candidates (ringOfWord init) X)) (λ u i v j. inl (within-of (inl (is u i ∙ sym (is v j)))))));
     many = λ z. ap (λ l. ltb 16 (length l)) (sym candidates-are);
     views = λ z h. alone-views C init long ∙ sym candidates-are;
   }
     where
-      is : (v : View) → v ∈ candidates (ring init) X → v ≡ viewOf init
-      is v m = only-candidate (candidates-exact (ring init) X v .0 m)
+      is : (v : View) → v ∈ candidates (ringOfWord init) X → v ≡ viewOf init
+      is v m = only-candidate (candidates-exact (ringOfWord init) X v .0 m)
 
   histories-of : (G : List ℕ) → length G ≡ 16 → HistoriesOf init X (set G 0 init) (record { conflict = false; length = 1 })
   histories-of G long = alone init X [] [] [] 0 (record { sound = λ a l. absurd (omega arith); complete = λ H k. inl (only-sealed k) }) G 0 long refl
@@ -68,22 +68,22 @@ module _ (init : ℕ) (X : List Stmt) (none : any isVote X ≡ false) where
 
   certificates-of : (sender : ℕ) → CertificatesOf init sender X (record { conflict = false; some = false; payload = 0 })
   certificates-of sender = record {
-    conflict = ap not (sym (passes (says-pairwise (λ a b. says-eqb {m = a} {n = b}) (certificates (ring init) sender X)) (λ a i. absurd (uncertified i))));
-    certificate = λ z. go (certificates (ring init) sender X) refl;
+    conflict = ap not (sym (passes (says-pairwise (λ a b. says-eqb {m = a} {n = b}) (certificates (ringOfWord init) sender X)) (λ a i. absurd (uncertified i))));
+    certificate = λ z. go (certificates (ringOfWord init) sender X) refl;
   }
     where
-      uncertified : {m : ℕ} → m ∈ certificates (ring init) sender X → ⊥
-      uncertified i = let (_, (s, m, _, a)) = someone (certificates-out (ring init) sender X i .acked) in silent m (inl (inr (a .kind)))
+      uncertified : {m : ℕ} → m ∈ certificates (ringOfWord init) sender X → ⊥
+      uncertified i = let (_, (s, m, _, a)) = someone (certificates-out (ringOfWord init) sender X i .acked) in silent m (inl (inr (a .kind)))
 
-      go : (l : List ℕ) → certificates (ring init) sender X ≡ l → when false 0 ≡ first l
+      go : (l : List ℕ) → certificates (ringOfWord init) sender X ≡ l → when false 0 ≡ first l
       go [] h = refl
       go (m ∷ l) h = absurd (uncertified (subst (λ l. m ∈ l) (sym h) (List·Memᴰ·head refl)))
 
-  unstored : (m : ℕ) → false ≡ isStored (ring init) X m
-  unstored m = sym (fails (says-stored (ring init) X m) (λ (H, h, q). let (_, (s, i, _, a)) = someone q in silent i (inr (a .kind))))
+  unstored : (m : ℕ) → false ≡ isStored (ringOfWord init) X m
+  unstored m = sym (fails (says-stored (ringOfWord init) X m) (λ (H, h, q). let (_, (s, i, _, a)) = someone q in silent i (inr (a .kind))))
 
-  pub unvoted : (wish sender : ℕ) (C G : List ℕ) {C′ G′ : List ℕ} → (length C ≡ 16) × (C′ ≡ set C 0 init) → (length G ≡ 16) × (G′ ≡ set G 0 init) → viewOf wish ≡ wished (ring init) X
-      → EvidenceOf (ring init) sender X C′ G′ (record { conflict = false; many = false; wished = wish; count = 1; length = 1; certified = false; payload = 0; stored = false })
+  pub unvoted : (wish sender : ℕ) (C G : List ℕ) {C′ G′ : List ℕ} → (length C ≡ 16) × (C′ ≡ set C 0 init) → (length G ≡ 16) × (G′ ≡ set G 0 init) → viewOf wish ≡ wished (ringOfWord init) X
+      → EvidenceOf (ringOfWord init) sender X C′ G′ (record { conflict = false; many = false; wished = wish; count = 1; length = 1; certified = false; payload = 0; stored = false })
   unvoted wish sender C G {C′} {G′} (c, d) (g, h) w =
       tied wish (record { conflict = false; many = false; count = 1 }) (record { conflict = false; length = 1 }) (record { conflict = false; some = false; payload = 0 }) false false refl init sender X C′ G′ w
       (subst (λ C. CandidatesOf init X C (record { conflict = false; many = false; count = 1 })) (sym d) (candidates-of C c))

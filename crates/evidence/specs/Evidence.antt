@@ -12,14 +12,13 @@ use Rattle.protocol.specs.View.{View, Ring, below}
 use Rattle.protocol.specs.History.{top}
 use Rattle.protocol.specs.Statement.{Stmt}
 use Rattle.protocol.specs.Evidence.{wished, candidates, greatest, certificates, isConflict, isStored, signedByQuorum, isCountedOn}
-use Rattle.views.specs.View.{viewOf, viewIn, ring}
-use Rattle.ranking.specs.Slots.{viewsOf}
+use Rattle.views.specs.View.{viewOf, viewIn, ringOfWord, viewsOf}
 use Rattle.evidence.specs.declared.Evidence.{Evidence}
 use Rattle.evidence.specs.declared.Ring as declared
 
 -- The ring that a struct stands for.
-abbrev pub ringOf : declared.Ring → Ring
-ringOf r = ring (r .init)
+abbrev pub ringIs : declared.Ring → Ring
+ringIs r = ringOfWord (r .init)
 
 -- The payload of the certificate, if there is one.
 abbrev pub certificateOf : Evidence → Option ℕ

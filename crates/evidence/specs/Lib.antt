@@ -1,3 +1,4 @@
-pub mod Shown
+-- ---- inside: what functions tell each other, and what loops keep; Evidence is what the crate tells those above it
 pub mod Evidence
+pub mod Shown
 pub mod Reports

@@ -9,8 +9,7 @@ use Rattle.protocol.specs.View.{View, sameView, member, within, below}
 use Rattle.protocol.specs.History.{holds}
 use Rattle.protocol.specs.Statement.{Stmt, isKind}
 use Rattle.protocol.specs.Evidence.{signedByQuorum}
-use Rattle.views.specs.View.{viewOf}
-use Rattle.ranking.specs.Slots.{viewsOf}
+use Rattle.views.specs.View.{viewOf, viewsOf}
 use Rattle.evidence.specs.declared.Evidence.{Evidence}
 use Rattle.evidence.specs.Shown.{payloadCount, listed, twofold}
 

@@ -11,15 +11,15 @@ use Rattle.protocol.specs.Statement.{Stmt, isKind}
 use Rattle.protocol.specs.Evidence.{signedByQuorum, prepares, isPrepared, certificates}
 use Rattle.protocol.specs.Grounds.{isTop}
 use Rattle.views.specs.Table.{table}
-use Rattle.views.specs.View.{ring}
-use Rattle.pool.specs.Pool.{recordOf}
+use Rattle.views.specs.View.{ringOfWord}
+use Rattle.pool.specs.Pool.{recordUpTo}
 use Rattle.votes.specs.Votes.{alike, entry, placeOf, tagOf, voteAt, GroupsIn}
 use Rattle.evidence.specs.declared.certificates.Certified.{Certified}
 
 module _ (init : ℕ) (X : List Stmt) where
   -- An ack or a store, by a quorum of a sealed top.
   unfoldable pub isBacked : Stmt → Bool
-  isBacked s = (isKind 7 s || isKind 8 s) && signedByQuorum 16 X (s .at) (alike s) && isTop (ring init) X (s .at)
+  isBacked s = (isKind 7 s || isKind 8 s) && signedByQuorum 16 X (s .at) (alike s) && isTop (ringOfWord init) X (s .at)
 
 -- The groups of a record in G, after which a word without a tag stands if there is room: so their number need not be known.
 pub record Ended (W ids G : List ℕ) : Type 0 where
@@ -32,8 +32,8 @@ module _ (W ids : List ℕ) (len init : ℕ) where
   pub record Backed (G : List ℕ) (n : ℕ) : Type 0 where
     pub most : n ≤ 512
     pub place : (g : ℕ) → g < n → placeOf (getD G g 0) < min len 512
-    pub sound : (g : ℕ) → g < n → T (isBacked init (recordOf W ids len) (voteAt W ids G g))
-    pub covers : (i : ℕ) → i < min len 512 → T (isBacked init (recordOf W ids len) (entry W ids i)) → (g : ℕ) × (g < n) × T (alike (voteAt W ids G g) (entry W ids i))
+    pub sound : (g : ℕ) → g < n → T (isBacked init (recordUpTo W ids len) (voteAt W ids G g))
+    pub covers : (i : ℕ) → i < min len 512 → T (isBacked init (recordUpTo W ids len) (entry W ids i)) → (g : ℕ) × (g < n) × T (alike (voteAt W ids G g) (entry W ids i))
 
 -- The same of a record in memory.
 abbrev pub BackedIn : List ℕ → List ℕ → ℕ → List ℕ → ℕ → Type 0
@@ -73,5 +73,5 @@ unfoldable pub storesIt : ℕ → Stmt → Bool
 storesIt m s = isKind 8 s && eqb (s .payload) m
 
 pub record CertificatesOf (init sender : ℕ) (X : List Stmt) (r : Certified) : Type 0 where
-  pub conflict : r .conflict ≡ not (pairwise eqb (certificates (ring init) sender X))
-  pub certificate : r .conflict ≡ false → when (r .some) (r .payload) ≡ first (certificates (ring init) sender X)
+  pub conflict : r .conflict ≡ not (pairwise eqb (certificates (ringOfWord init) sender X))
+  pub certificate : r .conflict ≡ false → when (r .some) (r .payload) ≡ first (certificates (ringOfWord init) sender X)

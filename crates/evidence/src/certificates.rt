@@ -2,10 +2,9 @@
 ghost use mathlib.Core.Path.{_≡_};
 ghost use mathlib.Core.List.{List};
 ghost use Prim.Native.Nat.{ℕ, _<_};
-ghost use lib.ListN.{length};
 ghost use Rattle.protocol.specs.Evidence.{signs, isStored};
 ghost use Rattle.views.specs.Sets.{IsSet};
-ghost use Rattle.views.specs.View.{ring};
+ghost use Rattle.views.specs.View.{ringOfWord};
 ghost use Rattle.pool.specs.Pool.{stmtAt, recordLen, recordIn};
 ghost use Rattle.votes.specs.Votes.{alike, entry, placeOf, tagOf, signersOf, GroupsIn};
 ghost use Rattle.sealing.specs.Memos.{Judged};
@@ -17,6 +16,7 @@ use pool::RECORD;
 use sealing::MEMO;
 use tables::KEYS;
 use tables::ROWS;
+use votes::GROUPS;
 
 // The payload that has a certificate, if one has, or that two have.
 pub struct Certified {
@@ -32,20 +32,12 @@ struct Acked {
     payload: u64,
 }
 
-// How many groups there is room for: a proof that one was written asks for it.
-fn room(groups: &[u64; 512]) -> usize
-    ensures { λ r. ⌜ length (now (groups .entry)) ≡ 512 ⌝ }
-{
-    let s = &groups[..];
-    s.len()
-}
-
 // Puts a word without a tag after the n groups, if there is room: it ends them, so that their number need not travel with them.
-pub fn end(groups: &mut [u64; 512], n: usize)
+pub fn end(groups: &mut [u64; GROUPS], n: usize)
     ensures { λ _. ⌜ ((W ids : List ℕ) → GroupsIn W ids (now (groups .entry)) n → Ended W ids (now (groups .exit))) ⌝ }
 {
-    room(groups);
-    if n >= 512 {
+    votes::groups_room(groups);
+    if n >= GROUPS {
         return;
     }
     groups[n] = 0;
@@ -87,15 +79,15 @@ pub fn keep_backed(
     keys: &[u64; KEYS],
     rows: &[u16; ROWS],
     memo: &[u8; MEMO],
-    groups: &mut [u64; 512],
+    groups: &mut [u64; GROUPS],
 ) -> usize
     requires { ⌜ Judged (now words) (recordIn (now words) (now ids)) init (now keys) (now rows) (now memo) × Ended (now words) (now ids) (now groups) ⌝ }
     ensures { λ r. ⌜ BackedIn (now (words .entry)) (now (ids .entry)) init (now (groups .exit)) r ⌝ }
 {
-    room(groups);
+    votes::groups_room(groups);
     let mut n = 0usize;
     let mut g = 0usize;
-    while g < 512 {
+    while g < GROUPS {
         let x = groups[g];
         if votes::tag_of(x) == 0 {
             return n;
@@ -127,7 +119,7 @@ fn certify(
     ids: &[u16; RECORD],
     init: u64,
     sender: u8,
-    groups: &[u64; 512],
+    groups: &[u64; GROUPS],
     n: usize,
     prepared: &[u64; PAYLOADS],
 ) -> Certified
@@ -173,7 +165,7 @@ fn certify_many(
     ids: &[u16; RECORD],
     init: u64,
     sender: u8,
-    groups: &[u64; 512],
+    groups: &[u64; GROUPS],
     n: usize,
 ) -> Certified
     requires { ⌜ BackedIn (now words) (now ids) init (now groups) n ⌝ }
@@ -189,7 +181,7 @@ fn only_acked(
     words: &[u64; POOL_WORDS],
     ids: &[u16; RECORD],
     init: u64,
-    groups: &[u64; 512],
+    groups: &[u64; GROUPS],
     n: usize,
 ) -> Acked
     requires { ⌜ BackedIn (now words) (now ids) init (now groups) n ⌝ }
@@ -234,7 +226,7 @@ pub fn certificate(
     ids: &[u16; RECORD],
     init: u64,
     sender: u8,
-    groups: &[u64; 512],
+    groups: &[u64; GROUPS],
     n: usize,
 ) -> Certified
     requires { ⌜ BackedIn (now words) (now ids) init (now groups) n ⌝ }
@@ -275,12 +267,12 @@ pub fn is_stored(
     words: &[u64; POOL_WORDS],
     ids: &[u16; RECORD],
     init: u64,
-    groups: &[u64; 512],
+    groups: &[u64; GROUPS],
     n: usize,
     m: u64,
 ) -> bool
     requires { ⌜ BackedIn (now words) (now ids) init (now groups) n ⌝ }
-    ensures { λ r. ⌜ r ≡ isStored (ring init) (recordIn (now (words .entry)) (now (ids .entry))) m ⌝ }
+    ensures { λ r. ⌜ r ≡ isStored (ringOfWord init) (recordIn (now (words .entry)) (now (ids .entry))) m ⌝ }
 {
     let mut g = 0usize;
     while g < n {

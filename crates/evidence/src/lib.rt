@@ -3,11 +3,11 @@ mod binding;
 mod certificates;
 mod prepares;
 mod reports;
-mod whole;
+mod summary;
 
 pub use reports::merged;
 pub use reports::reported;
-pub use whole::of_record;
+pub use summary::of_record;
 
 // What of a ring never changes: its initial view, as a word, and who sends.
 pub struct Ring {

@@ -5,11 +5,12 @@ ghost use lib.ListN.{length};
 ghost use Rattle.protocol.specs.Evidence.{prepares, isPrepared};
 ghost use Rattle.pool.specs.Pool.{stmtAt, recordIn};
 ghost use Rattle.evidence.specs.Shown.{preparesIt, payloadCount, listed, twofold, PreparedList};
+use pool::CAPACITY;
 use pool::POOL_WORDS;
 use pool::RECORD;
 
-// Payloads in memory: 512 of them, and how many of them count. A count above 512 counts as 512.
-pub const PAYLOADS: usize = 513;
+// Payloads in memory: one for each statement of a record, and after them how many count. A count above the most counts as the most.
+pub const PAYLOADS: usize = CAPACITY + 1;
 
 // Whether statement s is a prepare of the sender.
 pub fn is_prepare(words: &[u64; POOL_WORDS], s: u16, sender: u8) -> bool
@@ -46,7 +47,7 @@ pub fn is_prepared(words: &[u64; POOL_WORDS], ids: &[u16; RECORD], sender: u8, m
     false
 }
 
-// How many words there are for payloads: a proof that one was written asks for it.
+// How many words there are for payloads. A proof that one was written asks for it.
 fn room(prepared: &[u64; PAYLOADS]) -> usize
     ensures { λ r. ⌜ length (now (prepared .entry)) ≡ 513 ⌝ }
 {
@@ -78,20 +79,14 @@ pub fn list(
         n += 1;
         i += 1;
     }
-    prepared[512] = n as u64;
-}
-
-fn wide(x: u64) -> usize
-    ensures { λ r. ⌜ r ≡ x ⌝ }
-{
-    x as usize
+    prepared[CAPACITY] = n as u64;
 }
 
 // How many payloads are listed.
 fn payload_count(prepared: &[u64; PAYLOADS]) -> usize
     ensures { λ r. ⌜ (r ≡ payloadCount (now (prepared .entry))) × (r ≤ 512) ⌝ }
 {
-    pool::limit(wide(prepared[512]))
+    pool::limit(prepared[CAPACITY])
 }
 
 // Whether m is one of the payloads.

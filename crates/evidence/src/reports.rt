@@ -1,7 +1,7 @@
 // Which reports count, whether each view below the top has a quorum of them, and what they bind to.
 ghost use mathlib.Core.Path.{_≡_};
 ghost use Prim.Native.Nat.{_≤_, _<_};
-ghost use lib.ListN.{length, getD};
+ghost use lib.ListN.{length};
 ghost use Rattle.protocol.specs.Lists.{any, filter};
 ghost use Rattle.protocol.specs.View.{sameView, member};
 ghost use Rattle.protocol.specs.History.{holds, top};
@@ -10,17 +10,17 @@ ghost use Rattle.protocol.specs.Evidence.{signs};
 ghost use Rattle.protocol.specs.Turn.{mergeAll};
 ghost use Rattle.protocol.proofs.Bits.{Fits};
 ghost use Rattle.views.specs.Sets.{IsSet};
-ghost use Rattle.views.specs.View.{viewOf, ring};
+ghost use Rattle.views.specs.View.{viewOf, ringOfWord, viewsOf};
 ghost use Rattle.pool.specs.Pool.{stmtAt, recordIn};
-ghost use Rattle.ranking.specs.Slots.{viewsOf};
 ghost use Rattle.statements.specs.Meaning.{bindingIs};
-ghost use Rattle.evidence.specs.Evidence.{ringOf, Settled, reportedAll, reportsBelow};
+ghost use Rattle.evidence.specs.Evidence.{ringIs, Settled, reportedAll, reportsBelow};
 ghost use Rattle.evidence.specs.Reports.{bindingHolds, keptHolds, countsBy, countsAt, hasReports, countsUnder};
 use crate::Evidence;
 use crate::Ring;
 use crate::binding;
 use crate::prepares;
 use crate::prepares::PAYLOADS;
+use pool::CAPACITY;
 use pool::POOL_WORDS;
 use pool::RECORD;
 use statements::Binding;
@@ -34,14 +34,6 @@ fn is_member(v: u64, k: u64) -> bool
     View::of_word(v).has_member(k as u8)
 }
 
-// View i of a list.
-fn view_in(list: &[u64; View::LIMIT], i: usize) -> u64
-    requires { ⌜ i < 16 ⌝ }
-    ensures { λ r. ⌜ r ≡ getD (now (list .entry)) i 0 ⌝ }
-{
-    list[i]
-}
-
 // Whether v is one of the first n views.
 fn is_in(list: &[u64; View::LIMIT], n: usize, v: u64) -> bool
     requires { ⌜ n ≤ 16 ⌝ }
@@ -49,7 +41,7 @@ fn is_in(list: &[u64; View::LIMIT], n: usize, v: u64) -> bool
 {
     let mut i = 0usize;
     while i < n {
-        if view_in(list, i) == v {
+        if views::list_at(list, i) == v {
             return true;
         }
         i += 1;
@@ -60,12 +52,12 @@ fn is_in(list: &[u64; View::LIMIT], n: usize, v: u64) -> bool
 // The last of the first n views; the initial view, if there is none.
 fn top_of(list: &[u64; View::LIMIT], n: usize, init: u64) -> u64
     requires { ⌜ n ≤ 16 ⌝ }
-    ensures { λ r. ⌜ viewOf r ≡ top (ring init) (viewsOf (now (list .entry)) n) ⌝ }
+    ensures { λ r. ⌜ viewOf r ≡ top (ringOfWord init) (viewsOf (now (list .entry)) n) ⌝ }
 {
     if n == 0 {
         return init;
     }
-    view_in(list, n - 1)
+    views::list_at(list, n - 1)
 }
 
 // Whether all views of statement s are among the first n.
@@ -137,20 +129,12 @@ fn counts(
     kept_holds(words, e, s)
 }
 
-// How many numbers there is room for: a proof that one was written asks for it.
-fn room(listed: &[u16; RECORD]) -> usize
-    ensures { λ r. ⌜ length (now (listed .entry)) ≡ 513 ⌝ }
-{
-    let s = &listed[..];
-    s.len()
-}
-
 // Lists the reports of the record, which are few, so that what asks for reports reads no others.
 // Every number is written, and stays only if it is that of a report, so that the loop has no branch.
 fn reports_in(words: &[u64; POOL_WORDS], ids: &[u16; RECORD], listed: &mut [u16; RECORD])
     ensures { λ _. ⌜ recordIn (now (words .entry)) (now (listed .exit)) ≡ filter (isKind 5) (recordIn (now (words .entry)) (now (ids .entry))) ⌝ }
 {
-    room(listed);
+    pool::record_room(listed);
     let end = pool::record_length(ids);
     let mut count = 0usize;
     let mut i = 0usize;
@@ -161,7 +145,7 @@ fn reports_in(words: &[u64; POOL_WORDS], ids: &[u16; RECORD], listed: &mut [u16;
         count += hit as usize;
         i += 1;
     }
-    listed[512] = count as u16;
+    listed[CAPACITY] = count as u16;
 }
 
 // Who signed a report on u that counts, of those listed.
@@ -221,8 +205,8 @@ pub fn reported(
     candidates: &[u64; View::LIMIT],
     greatest: &[u64; View::LIMIT],
 ) -> bool
-    requires { ⌜ Settled (ringOf ring) (ring .sender) (recordIn (now words) (now ids)) (now candidates) (now greatest) e ⌝ }
-    ensures { λ r. ⌜ r ≡ reportedAll (ringOf ring) (ring .sender) (recordIn (now (words .entry)) (now (ids .entry))) ⌝ }
+    requires { ⌜ Settled (ringIs ring) (ring .sender) (recordIn (now words) (now ids)) (now candidates) (now greatest) e ⌝ }
+    ensures { λ r. ⌜ r ≡ reportedAll (ringIs ring) (ring .sender) (recordIn (now (words .entry)) (now (ids .entry))) ⌝ }
 {
     let mut prepared = [0u64; PAYLOADS];
     prepares::list(words, ids, ring.sender, &mut prepared);
@@ -232,7 +216,7 @@ pub fn reported(
     let t = top_of(greatest, n, ring.init);
     let mut i = 0usize;
     while i < n {
-        let u = view_in(greatest, i);
+        let u = views::list_at(greatest, i);
         if !is_reported_on(words, e, candidates, &prepared, &listed, t, u) {
             return false;
         }
@@ -277,8 +261,8 @@ pub fn merged(
     greatest: &[u64; View::LIMIT],
     own: Binding,
 ) -> Binding
-    requires { ⌜ Settled (ringOf ring) (ring .sender) (recordIn (now words) (now ids)) (now candidates) (now greatest) e ⌝ }
-    ensures { λ r. ⌜ bindingIs r ≡ mergeAll (bindingIs own) (reportsBelow (ringOf ring) (ring .sender) (recordIn (now (words .entry)) (now (ids .entry)))) ⌝ }
+    requires { ⌜ Settled (ringIs ring) (ring .sender) (recordIn (now words) (now ids)) (now candidates) (now greatest) e ⌝ }
+    ensures { λ r. ⌜ bindingIs r ≡ mergeAll (bindingIs own) (reportsBelow (ringIs ring) (ring .sender) (recordIn (now (words .entry)) (now (ids .entry)))) ⌝ }
 {
     let mut prepared = [0u64; PAYLOADS];
     prepares::list(words, ids, ring.sender, &mut prepared);

@@ -18,17 +18,17 @@ use Rattle.protocol.specs.Promises.{observed, Promises, NoConflict}
 use Rattle.protocol.proofs.Steps.{Next, waits, acts, Start, starts, begun, called, next}
 use Rattle.protocol.proofs.Promises.{promises, no-conflict}
 use Rattle.protocol.proofs.Carried.{carried, carried-no-conflict}
-use Rattle.views.specs.Table.{table}
-use Rattle.views.proofs.Tables.{table-length, table-cong}
-use Rattle.pool.specs.Pool.{stmtAt, poolLen, recordOf as recordAt, recordLen, recordIn}
+use Rattle.views.proofs.Tables.{table-cong}
+use Rattle.pool.specs.Pool.{stmtAt, recordUpTo as recordAt, recordLen, recordIn, poolOf, AllIn, Grows}
 use Rattle.pool.specs.Changes.{Emptied}
 use Rattle.engine.specs.declared.Controller.{Controller}
 use Rattle.engine.specs.declared.Outcome.{Outcome}
 use Rattle.engine.specs.declared.Answer as held
 use Rattle.engine.specs.declared.Answer.the-variants.{Taken, Signed, Entered, Delivered, Left, Quiet, Refused}
-use Rattle.engine.specs.Meaning.{controllerIs, poolIs, AllIn, answerIs}
+use Rattle.engine.specs.Meaning.{controllerIs, answerIs}
 use Rattle.engine.specs.Promise.{PoolAfter, NumbersAfter, Meets, changeOf, signedOf, startedOf}
-use Rattle.guarantee.specs.Calls.{Grows, Engine, EngineRun, EngineRuns, EngineAnswers, engineCalls}
+use Rattle.pool.proofs.Records.{pool-length}
+use Rattle.guarantee.specs.Calls.{Engine, EngineRun, EngineRuns, EngineAnswers, engineCalls}
 
 -- ---- pools
 
@@ -57,25 +57,21 @@ number-within s (x ∷ P) = go (sameStmt s x) (any (sameStmt s) P) refl (number-
     go false true e l = let q : length (pooled s P) ≡ length P = ap (λ b. length (if b then P else P ++ (s ∷ []))) e in omega arith
     go false false e l = let q : length (pooled s P) ≡ length (P ++ (s ∷ [])) = ap (λ b. length (if b then P else P ++ (s ∷ []))) e in omega arith
 
-pub pool-length : (W : List ℕ) → length (poolIs W) ≡ poolLen W
-unfolding poolIs
-pool-length W = table-length (poolLen W) (stmtAt W)
-
 -- what a turn answered means the same over a pool that has grown
 module _ {W R left R′ W′ : List ℕ} {c : Controller} {o : controller.Outcome} {r : Outcome} (m : Meets W R c o (signedOf (o .answer)) r left R′) (g : Grows left W′) where
   signed-same : (i : ℕ) → r .answer ≡ Signed i → answerIs W′ (Signed i) ≡ answerIs left (Signed i)
   unfolding answerIs
   signed-same i e =
       let s : o .answer ≡ controller.signed (stmtAt left i) = sym (m .answer) ∙ ap (answerIs left) e in
-      let n : i ≡ numberOf (stmtAt left i) (poolIs W) = at-number (sym e ∙ m .number (stmtAt left i) s) in
-      let p : poolIs left ≡ pooled (stmtAt left i) (poolIs W) = grown-to s in
-      let q : length (poolIs left) ≡ length (pooled (stmtAt left i) (poolIs W)) = ap length p in
-      ap controller.signed (g .same i (omega (arith, pool-length left, number-within (stmtAt left i) (poolIs W))))
+      let n : i ≡ numberOf (stmtAt left i) (poolOf W) = at-number (sym e ∙ m .number (stmtAt left i) s) in
+      let p : poolOf left ≡ pooled (stmtAt left i) (poolOf W) = grown-to s in
+      let q : length (poolOf left) ≡ length (pooled (stmtAt left i) (poolOf W)) = ap length p in
+      ap controller.signed (g .same i (omega (arith, pool-length left, number-within (stmtAt left i) (poolOf W))))
     where
       at-number : {i j : ℕ} → Signed i ≡ Signed j → i ≡ j
       at-number e = cc
 
-      grown-to : {s : Stmt} → o .answer ≡ controller.signed s → poolIs left ≡ pooled s (poolIs W)
+      grown-to : {s : Stmt} → o .answer ≡ controller.signed s → poolOf left ≡ pooled s (poolOf W)
       grown-to {s} e = subst (λ a. PoolAfter W (signedOf a) left) e (m .pool) .is
 
   same-answer : answerIs W′ (r .answer) ≡ o .answer
@@ -113,7 +109,7 @@ setup-anew k members sender X (starts t e) = go (setupAllowed k members sender) 
 module _ {run : Run} (is : IsRun run) {k : ℕ} (ok : T (run .follows k)) {e : ℕ → Engine} (engine : EngineRun run k e) where
   -- the call of event n, as the run has it
   engine-outcome : (n : ℕ) (c : Call) → event run n ≡ some (call k c) → Agrees run k e n
-      → outcome (hasRoom (poolIs (e n .pool))) (controllerIs (e n .last .controller)) (recordIn (e n .pool) (e n .ids)) c ≡ returned run k (suc n)
+      → outcome (hasRoom (poolOf (e n .pool))) (controllerIs (e n .last .controller)) (recordIn (e n .pool) (e n .ids)) c ≡ returned run k (suc n)
   engine-outcome n c h a =
       ap (λ f. outcome f (controllerIs (e n .last .controller)) (recordIn (e n .pool) (e n .ids)) c) (sym (engine .room n c h))
       ∙ ap₂ (λ d X. outcome (run .room n) d X c) (a .controller) (a .statements) ∙ sym (called is k n c h)

@@ -22,9 +22,10 @@ use Rattle.engine.specs.declared.Answer.{Answer}
 use Rattle.engine.specs.declared.Answer.the-variants.{Taken, Signed, Entered, Delivered, Left, Quiet, Refused}
 use Rattle.views.specs.Held.{viewIs}
 use Rattle.pool.specs.Changes.{PushedTo, Emptied}
-use Rattle.engine.specs.Meaning.{controllerIs, poolIs, refusalIs, answerIs}
+use Rattle.pool.specs.Pool.{poolOf, Grows}
+use Rattle.engine.specs.Meaning.{controllerIs, refusalIs, answerIs}
 use Rattle.engine.specs.Promise.{Change, unchanged, emptied, grown, PoolAfter, NumbersAfter, IsRefused, Meets, changeOf}
-use Rattle.guarantee.specs.Calls.{Grows, Engine, EngineCalls, EngineRun}
+use Rattle.guarantee.specs.Calls.{Engine, EngineCalls, EngineRun}
 use Rattle.guarantee.proofs.Memory.{at, memory, fits, numbers, within, short, stmt-at, pool-is, memory-more, grows, pushed, empty-again, few, record-is, all-in}
 
 -- What there is of one controller after an event: the pool that the event left, what its host then put into it, what the last call on the controller answered, the controller
@@ -132,7 +133,7 @@ module _ (P P′ : List Stmt) (f : T (fits P)) (f′ : T (fits P′)) where
   answer-in Left t = refl
   answer-in Quiet t = refl
 
-  number-in : (a : Answer) → T (numbered P P′ a) → (s : Stmt) → answerIn P′ a ≡ controller.signed s → a ≡ Signed (numberOf s (poolIs (memory P)))
+  number-in : (a : Answer) → T (numbered P P′ a) → (s : Stmt) → answerIn P′ a ≡ controller.signed s → a ≡ Signed (numberOf s (poolOf (memory P)))
   number-in (Signed n) t s e =
       let q : at P′ n ≡ s = cc in
       ap Signed (says-and (says-self (ltb n (length P′))) (says-eqb {m = n} {n = numberOf (at P′ n) P}) .sound t .1 ∙ ap₂ numberOf q (sym (pool-is P f)))
@@ -157,7 +158,7 @@ module _ (P P′ : List Stmt) (f : T (fits P)) (f′ : T (fits P′)) where
   numbers-after l l′ h unchanged t e = ap numbers e
   numbers-after l l′ h emptied t e = subst (λ k. Emptied (numbers l) (numbers k)) (sym e) (empty-again l (says-eqb {m = length l} {n = 0} .sound t))
   numbers-after l l′ h (grown s) t e =
-      subst (λ k. PushedTo (numbers l) (numberOf s (poolIs (memory P))) (numbers k)) (ap (λ Q. l ++ (numberOf s Q ∷ [])) (pool-is P f) ∙ sym e) (pushed l (numberOf s (poolIs (memory P))) h)
+      subst (λ k. PushedTo (numbers l) (numberOf s (poolOf (memory P))) (numbers k)) (ap (λ Q. l ++ (numberOf s Q ∷ [])) (pool-is P f) ∙ sym e) (pushed l (numberOf s (poolOf (memory P))) h)
 
 allowed-parts : (P : List Stmt) (l : List ℕ) → T (allowed P l) → T (fits P) × T (within P l)
 unfolding allowed

@@ -6,7 +6,8 @@ use Rattle.protocol.specs.Run.{Run, IsRun}
 use Rattle.protocol.specs.Promises.{observed, Promises, NoConflict, NeverBarred}
 use Rattle.protocol.proofs.Promises.{promises, no-conflict}
 use Rattle.protocol.proofs.Sender.{never-barred}
-use Rattle.guarantee.specs.Calls.{Engine, EngineRuns, engineCalls, Host, HostRuns, hostCalls}
+use Rattle.guarantee.specs.Hosts.{Host, HostRuns, hostCalls}
+use Rattle.guarantee.specs.Calls.{Engine, EngineRuns, engineCalls}
 use Rattle.guarantee.specs.Rows.{Guarantee, InMemory}
 use Rattle.guarantee.proofs.Calls.{calls-keep, calls-no-conflict}
 use Rattle.guarantee.proofs.Hosts.{hosts-keep, hosts-no-conflict}

@@ -24,7 +24,8 @@ use Rattle.engine.specs.Meaning.{answerIs, refusalIs}
 use Rattle.pool.specs.Pool.{recordIn}
 use Rattle.host.specs.Memory.{controllerAt}
 use Rattle.host.specs.Host.{answerNumber, valueNumber}
-use Rattle.guarantee.specs.Calls.{Engine, EngineCalls, EngineWaits, EngineRun, Host, HostRun, HostRuns, said, HostAnswers, hostCalls}
+use Rattle.guarantee.specs.Hosts.{Host, HostRun, HostRuns, said, HostAnswers, hostCalls}
+use Rattle.guarantee.specs.Calls.{Engine, EngineCalls, EngineWaits, EngineRun}
 use Rattle.guarantee.proofs.Laws.{refusal-at}
 use Rattle.guarantee.proofs.Calls.{agrees, answers}
 

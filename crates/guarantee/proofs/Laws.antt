@@ -17,12 +17,9 @@ use Rattle.protocol.proofs.Found.{none≢some, some-injective, filter-out}
 use Rattle.protocol.proofs.Counting.{count-mono}
 use Rattle.protocol.proofs.Different.{Different}
 use Rattle.protocol.proofs.Steps.{no-members}
-use Rattle.guarantee.specs.Calls.{refusalOf}
+use Rattle.guarantee.specs.Hosts.{refusalOf}
 
 -- ---- tests
-
-pub holds : (b : Bool) → T b → b ≡ true
-holds true t = refl
 
 pub fails : (b : Bool) → ¬ T b → b ≡ false
 fails true f = absurd (f tt)
@@ -95,10 +92,6 @@ module _ {A B : Type 0} (f : A → B) where
   at-map [] i e = absurd (none≢some e)
   at-map (x ∷ l) zero e = (x, refl, some-injective e)
   at-map (x ∷ l) (suc i) e = at-map l i e
-
-  pub map-twice : {C : Type 0} (g : B → C) (l : List A) → map g (map f l) ≡ map (λ a. g (f a)) l
-  map-twice g [] = refl
-  map-twice g (a ∷ l) = ap (λ t. g (f a) ∷ t) (map-twice g l)
 
 -- ---- refusals by their numbers
 

@@ -27,7 +27,7 @@ use Rattle.protocol.proofs.Different.{Different}
 use Rattle.views.specs.Table.{table}
 use Rattle.views.proofs.Tables.{table-at, table-length}
 use Rattle.schedule.specs.Line.{Line, setup, join, leave, send, give, all, turn, lie, noStatement, Reads}
-use Rattle.bench.specs.Bench.{Seat, emptySeat, Bench, newBench, Stepped, nobody, seat, at, refuse, setUp, missing, giveTo, giveAll, afterTurn, turnAt, lieOf, step}
+use Rattle.bench.specs.Bench.{Seat, emptySeat, Bench, newBench, Stepped, nobody, seat, at, refuseLine, setUp, missing, giveTo, giveAll, afterTurn, turnAt, lieOf, step}
 use Rattle.guarantee.specs.Events.{follower, isFollower, callOn, eventsOf}
 use Rattle.guarantee.proofs.Laws.{either, getD-in}
 use Rattle.guarantee.proofs.Seats.{seatOf, Setup, Seated, Clean, started-in-ring, Proper}
@@ -180,7 +180,7 @@ module _ (b : Bench) (k : ℕ) where
   count = length (seat b k .statements) + length (missing b k)
 
   abbrev AllIs : Stepped → Type 0
-  AllIs r = (r ≡ refuse b k full) ⊎ ((count ≤ 512) × (r ≡ at b k (record { answer = taken; controller = seat b k .controller; statements = filled b k .statements }) (b .pool) (length (missing b k))))
+  AllIs r = (r ≡ refuseLine b k full) ⊎ ((count ≤ 512) × (r ≡ at b k (record { answer = taken; controller = seat b k .controller; statements = filled b k .statements }) (b .pool) (length (missing b k))))
 
   all-is : b .isSetUp ≡ true → AllIs (giveAll b k)
   unfolding giveAll
@@ -191,7 +191,7 @@ module _ (b : Bench) (s : Stmt) where
   lied = record { reply = record { who = s .origin; answer = taken; number = length (b .pool) }; bench = record { isSetUp = b .isSetUp; faulty = b .faulty; seats = b .seats; pool = b .pool ++ (s ∷ []) } }
 
   abbrev LieIs : Stepped → Type 0
-  LieIs r = ((x : Refusal) × (¬ Acts (refused x)) × (r ≡ refuse b (s .origin) x)) ⊎ ((not (bit (b .faulty) (s .origin)) ≡ false) × (any (sameStmt s) (b .pool) ≡ false) × (r ≡ lied))
+  LieIs r = ((x : Refusal) × (¬ Acts (refused x)) × (r ≡ refuseLine b (s .origin) x)) ⊎ ((not (bit (b .faulty) (s .origin)) ≡ false) × (any (sameStmt s) (b .pool) ≡ false) × (r ≡ lied))
 
   lie-is : LieIs (lieOf b s)
   unfolding lieOf
@@ -222,7 +222,7 @@ setupOf {b} {members} {sender} {faulty} s = record { members = members; sender =
 module _ (b : Bench) (members sender faulty : ℕ) where
   -- by whether the bench is set up, and whether the setup is allowed
   abbrev setupBy : Bool → Bool → Stepped
-  setupBy x y = if x || not y then refuse b (if ltb sender controllers then sender else nobody) badSetup else record { reply = record { who = sender; answer = taken; number = 0 }; bench = startedBench members sender faulty }
+  setupBy x y = if x || not y then refuseLine b (if ltb sender controllers then sender else nobody) badSetup else record { reply = record { who = sender; answer = taken; number = 0 }; bench = startedBench members sender faulty }
 
   pub setup-taken : step b (some (setup members sender faulty)) .reply .answer ≡ taken → Starts b members sender faulty
   unfolding step setUp
@@ -306,7 +306,7 @@ module _ (u : Setup) where
 
     -- ---- what a line does
 
-    refusal : (l : Option Line) (w : ℕ) (r : Refusal) → ¬ Acts (refused r) → step b l ≡ refuse b w r → eventsOf b l ≡ [] → Effect b l
+    refusal : (l : Option Line) (w : ℕ) (r : Refusal) → ¬ Acts (refused r) → step b l ≡ refuseLine b w r → eventsOf b l ≡ [] → Effect b l
     refusal l w r idle e f = rests (record { same = ap (λ x. x .bench) e; idle = subst (λ x. ¬ Acts (x .reply .answer)) (sym e) idle; events = f })
 
     called : (l : Option Line) (k : ℕ) (a : Call) (Q : List Stmt) (n : ℕ) → k < 16 → Proper (b .pool) a → step b l ≡ at b k (out b k a) Q n → Grown (b .pool) (signedIn (out b k a .answer)) Q
@@ -330,7 +330,7 @@ module _ (u : Setup) where
         called l k a (b .pool) 0 near proper e (grown-none (b .pool) none) (λ s f. absurd (rest (subst Acts (sym f) tt))) (events ∙ ap (λ S. if isFollower b k then call k a ∷ [] else map signing S) (sym none))
 
     -- a refusal leaves the seat as it was
-    refuse-at : (k : ℕ) (r : Refusal) → refuse b k r ≡ at b k (refusedBy (seat b k .controller) (seat b k .statements) r) (b .pool) 0
+    refuse-at : (k : ℕ) (r : Refusal) → refuseLine b k r ≡ at b k (refusedBy (seat b k .controller) (seat b k .statements) r) (b .pool) 0
     refuse-at k r = ap (λ S. record { reply = record { who = k; answer = refused r; number = 0 }; bench = record { isSetUp = b .isSetUp; faulty = b .faulty; seats = S; pool = b .pool } }) (sym (set-getD (b .seats) k emptySeat))
 
     -- a give of what the pool has is an addition
@@ -339,7 +339,7 @@ module _ (u : Setup) where
     give-adds k n near h =
         let inRing = ok .each k near .inRing in
         let i : s ∈ b .pool = getD-in (b .pool) n noStmt h in
-        ap₂ (λ x y. if x then (if y then refuse b k outOfPlace else given (any (sameStmt s) X) (leb 512 (length X))) else refuse b k outOfPlace) (ok .isSetUp) (lt-leb (length (b .pool)) n h)
+        ap₂ (λ x y. if x then (if y then refuseLine b k outOfPlace else given (any (sameStmt s) X) (leb 512 (length X))) else refuseLine b k outOfPlace) (ok .isSetUp) (lt-leb (length (b .pool)) n h)
         ∙ cases (any (sameStmt s) X) (leb 512 (length X)) ∙ ap (λ o. at b k o (b .pool) 0) (sym (add-is c X (b .pool) s (inRing .isSetUp) (ap (λ R. R .width) (inRing .ring)) (ok .clean s i) i))
       where
         s : Stmt
@@ -352,14 +352,14 @@ module _ (u : Setup) where
         X = seat b k .statements
 
         given : Bool → Bool → Stepped
-        given x y = if x then refuse b k repeated else if y then refuse b k full else at b k (added c X s) (b .pool) 0
+        given x y = if x then refuseLine b k repeated else if y then refuseLine b k full else at b k (added c X s) (b .pool) 0
 
         cases : (x y : Bool) → given x y ≡ at b k (if x then refusedBy c X repeated else if y then refusedBy c X full else added c X s) (b .pool) 0
         cases true y = refuse-at k repeated
         cases false true = refuse-at k full
         cases false false = refl
 
-    give-past : (k n : ℕ) → length (b .pool) ≤ n → giveTo b k n ≡ refuse b k outOfPlace
+    give-past : (k n : ℕ) → length (b .pool) ≤ n → giveTo b k n ≡ refuseLine b k outOfPlace
     unfolding giveTo
     give-past k n h = rw (ok .isSetUp, le-leb (length (b .pool)) n h) refl
 
@@ -438,4 +438,4 @@ module _ (u : Setup) where
     effect (some (all k)) g = all-effect k g
     effect (some (turn k)) g = turn-effect k g
     effect (some (lie s)) g = lie-effect s g
-    effect (some noStatement) g = refusal (some noStatement) nobody badStatement (λ t. t) (ap (λ x. if x then refuse b nobody badStatement else refuse b nobody outOfPlace) (ok .isSetUp)) refl
+    effect (some noStatement) g = refusal (some noStatement) nobody badStatement (λ t. t) (ap (λ x. if x then refuseLine b nobody badStatement else refuseLine b nobody outOfPlace) (ok .isSetUp)) refl

@@ -23,8 +23,9 @@ use Rattle.protocol.proofs.Different.{Different}
 use Rattle.protocol.proofs.Asked.{says-has}
 use Rattle.schedule.specs.Line.{Line}
 use Rattle.bench.specs.Bench.{Seat, emptySeat, Bench, seat, missing, step}
+use Rattle.protocol.proofs.Says.{is-true}
 use Rattle.guarantee.specs.Events.{follower, Occurrence, isFollower, eventsOf, roomAt, runWith}
-use Rattle.guarantee.proofs.Laws.{holds, fails, either, at-seam, one-longer, map-at, filter-different}
+use Rattle.guarantee.proofs.Laws.{fails, either, at-seam, one-longer, map-at, filter-different}
 use Rattle.guarantee.proofs.Seats.{seatOf, Setup}
 use Rattle.guarantee.proofs.Pools.{Grown, grown-more, grown-none, add-taken}
 use Rattle.guarantee.proofs.Lines.{After, Calls, Gives, Effect, rests, calls, gives, lies, Valid, yes-follows, no-follows}
@@ -79,7 +80,7 @@ module _ (every : List Occurrence) (u : Setup) where
     module _ (s : Seat) (before : seatOf (returned R k p) ≡ s) where
       call-mine : returned R k (suc p) ≡ outcome (hasRoom P) (s .controller) (s .statements) a
       unfolding afterEvent
-      call-mine = next-is p o here k ∙ rw (holds (eqb k k) (eqb-refl k)) refl ∙ ap (λ t. outcome (hasRoom P) (t .controller) (t .statements) a) before
+      call-mine = next-is p o here k ∙ rw (is-true (eqb k k) (eqb-refl k)) refl ∙ ap (λ t. outcome (hasRoom P) (t .controller) (t .statements) a) before
 
       call-signed : signedBefore R (suc p) ≡ signedBefore R p ++ signedIn (outcome (hasRoom P) (s .controller) (s .statements) a .answer)
       unfolding signedBy roomAt

@@ -6,35 +6,35 @@ use mathlib.Core.List.{List, [], _∷_, _++_, map, foldl, foldl-append, append-n
 use Prim.Native.Nat.{ℕ, zero, suc, _+_, _-_, _/_, _%_, _≤_, _<_, min}
 use native.Mathlib.Omega.{arith}
 use lib.Dec.{T, eqb, ltb}
-use lib.ListN.{length, getD, set, replicate, length-append, length-map, length-replicate, getD-replicate, List·getD-append, List·getD-map}
+use lib.ListN.{length, getD, set, replicate, length-append, length-map, length-replicate, List·getD-append, List·getD-map}
 use lib.Seq.{set-append-seam, ext-getD, getD-set-same}
 use Rattle.protocol.specs.Lists.{if_then_else_, any, all, isSome}
 use Rattle.protocol.specs.View.{View}
-use Rattle.protocol.specs.Statement.{Stmt, noStmt, sameStmt, fieldRules}
+use Rattle.protocol.specs.Statement.{Stmt, noStmt, sameStmt, fieldRules, bindingNumber}
 use Rattle.protocol.specs.Pool.{pooled}
 use Rattle.protocol.proofs.Says.{says-self, says-and, says-leb}
 use Rattle.views.specs.declared.View as held
 use Rattle.views.specs.Table.{table}
-use Rattle.views.specs.View.{viewOf}
+use Rattle.views.specs.View.{viewOf, wordOf}
 use Rattle.views.specs.Held.{viewIs}
 use Rattle.views.proofs.Tables.{table-length, table-at}
 use Rattle.statements.specs.declared.Binding.{Binding}
 use Rattle.statements.specs.declared.Binding.the-variants.{Unbound, Bound, Barred}
 use Rattle.statements.specs.declared.Statement.{Statement}
-use Rattle.statements.specs.Meaning.{firstViews, bindingNumber, payloadOf, stmtOf, FitsView, EachFits, Fits}
+use Rattle.statements.specs.Meaning.{firstViews, bindingIs, payloadOf, stmtOf, FitsView, EachFits, Fits}
 use Rattle.statements.proofs.FieldLaws.{views-length}
 use Rattle.statements.proofs.Fits.{keeps-fits}
-use Rattle.pool.specs.Pool.{wordOf, stmtAt, poolWords, poolLen, poolOf, recordOf, recordLen, recordIn}
-use Rattle.pool.specs.Changes.{headOf, headWord, Put, foundOf, pooledIn, PushedTo, Emptied}
+use Rattle.pool.specs.Pool.{stmtAt, poolWords, poolLen, poolOf, recordUpTo, recordLen, recordIn, AllIn, Grows}
+use Rattle.pool.specs.Steps.{Put, foundOf}
+use Rattle.pool.specs.Changes.{headOf, headWord, pooledIn, PushedTo, Emptied}
 use Rattle.pool.specs.Changes as memories
 use Rattle.pool.proofs.Parts.{head-back}
-use Rattle.pool.proofs.Writes.{stmts, flag-is, put-is}
+use Rattle.pool.proofs.Writes.{stmts, put-is}
 use Rattle.pool.proofs.Searches.{append-new, pooled-beside, fresh}
 use Rattle.pool.proofs.Lists.{push-room-in, emptied}
-use Rattle.engine.specs.Meaning.{poolIs, AllIn}
 use Rattle.engine.proofs.Pools.{there, absent, in-pool, grown-pool}
-use Rattle.guarantee.specs.Calls.{Grows}
-use Rattle.guarantee.proofs.Calls.{pool-length}
+use Rattle.pool.proofs.Records.{pool-length}
+use Rattle.statements.proofs.Statements.{flag-is}
 
 -- ---- lists by place
 
@@ -64,7 +64,7 @@ unfolding firstViews
 views-back [] f = refl
 views-back (v ∷ l) f = ap₂ (λ u k. u ∷ k) (held-back v (f .0)) (views-back l (f .1))
 
-binding-back : (n m : ℕ) → n ≤ 2 → (b : Binding) × (bindingNumber b ≡ n) × (payloadOf b m ≡ m)
+binding-back : (n m : ℕ) → n ≤ 2 → (b : Binding) × (bindingNumber (bindingIs b) ≡ n) × (payloadOf b m ≡ m)
 binding-back zero m h = (Unbound, refl, refl)
 binding-back (suc zero) m h = (Bound m, refl, refl)
 binding-back (suc (suc zero)) m h = (Barred, refl, refl)
@@ -114,13 +114,13 @@ module _ (W : List ℕ) (st : Statement) (long : length W ≡ poolWords) (room :
   )
 
   -- one statement more, where the pool does not have it
-  pool-more : T (not (any (sameStmt (stmtOf st)) (poolIs W))) → poolIs (pooledIn W (stmtOf st)) ≡ poolIs W ++ (stmtOf st ∷ [])
-  unfolding poolIs
+  pool-more : T (not (any (sameStmt (stmtOf st)) (poolOf W))) → poolOf (pooledIn W (stmtOf st)) ≡ poolOf W ++ (stmtOf st ∷ [])
+  unfolding poolOf
   pool-more t = elim (in-pool W (stmtOf st)) [
     | there i q b h m y ↦ absurd (subst (λ b. T (not b)) y t)
     | absent q y ↦
         (let a = append-new W st (poolLen W) (put .0) long (ap foundOf (sym q)) refl room (put .1) in
-        ap poolIs (sym (a .is)) ∙ grown-pool W _ st (omega (arith, f .count, count)) (a .new q room) room)
+        ap poolOf (sym (a .is)) ∙ grown-pool W _ st (omega (arith, f .count, count)) (a .new q room) room)
   ]
 
 -- ---- the memory of a pool
@@ -145,22 +145,22 @@ newAfter Q (s ∷ P) = (fieldRules 16 s && not (any (sameStmt s) Q)) && newAfter
 unfoldable pub fits : List Stmt → Bool
 fits P = ltb (length P) 512 && newAfter [] P
 
-all-in-pool : (P Q : List Stmt) (W : List ℕ) → length W ≡ poolWords → poolIs W ≡ Q → length Q + length P < 512 → T (newAfter Q P) → poolIs (foldl pooledIn W P) ≡ Q ++ P
+all-in-pool : (P Q : List Stmt) (W : List ℕ) → length W ≡ poolWords → poolOf W ≡ Q → length Q + length P < 512 → T (newAfter Q P) → poolOf (foldl pooledIn W P) ≡ Q ++ P
 all-in-pool [] Q W l e h t = e ∙ sym (append-nil Q)
 all-in-pool (s ∷ P) Q W l e h t =
     let ((r, n), u) = says-and (says-and (says-self (fieldRules 16 s)) (says-self (not (any (sameStmt s) Q)))) (says-self (newAfter (Q ++ (s ∷ [])) P)) .sound t in
     let (st, q) = struct-of s (keeps-fits s r) in
-    let more = subst (λ x. Fits x → T (not (any (sameStmt x) (poolIs W))) → poolIs (pooledIn W x) ≡ poolIs W ++ (x ∷ [])) q (pool-more W st l (omega (arith, pool-length W, ap length e))) (keeps-fits s r) in
+    let more = subst (λ x. Fits x → T (not (any (sameStmt x) (poolOf W))) → poolOf (pooledIn W x) ≡ poolOf W ++ (x ∷ [])) q (pool-more W st l (omega (arith, pool-length W, ap length e))) (keeps-fits s r) in
     all-in-pool P (Q ++ (s ∷ [])) (pooledIn W s) (pooled-beside W s .long ∙ l) (more (subst (λ X. T (not (any (sameStmt s) X))) (sym e) n) ∙ ap (λ X. X ++ (s ∷ [])) e) (omega (arith, length-append Q (s ∷ []))) u
     ∙ append-assoc Q (s ∷ []) P
 
-no-pool : (length zeros ≡ poolWords) × (poolIs zeros ≡ [])
-unfolding zeros poolIs poolOf
+no-pool : (length zeros ≡ poolWords) × (poolOf zeros ≡ [])
+unfolding zeros poolOf
 no-pool = (length-replicate {A = ℕ} poolWords 0, fresh poolWords .1)
 
 -- a statement is found where the pool has it
-there-is : (W : List ℕ) (s : Stmt) → isSome (memories.numberOf W s) ≡ any (sameStmt s) (poolIs W)
-unfolding poolIs
+there-is : (W : List ℕ) (s : Stmt) → isSome (memories.poolNumber W s) ≡ any (sameStmt s) (poolOf W)
+unfolding poolOf
 there-is W s = elim (in-pool W s) [ there i q b h m y ↦ ap isSome q ∙ sym y | absent q y ↦ ap isSome q ∙ sym y ]
 
 module _ (P : List Stmt) (t : T (fits P)) where
@@ -171,7 +171,7 @@ module _ (P : List Stmt) (t : T (fits P)) where
   pub short : length P < 512
   short = fit-parts .0
 
-  pub pool-is : poolIs (memory P) ≡ P
+  pub pool-is : poolOf (memory P) ≡ P
   unfolding memory
   pool-is = all-in-pool P [] zeros (no-pool .0) (no-pool .1) (omega (arith, short)) (fit-parts .1)
 
@@ -179,7 +179,7 @@ module _ (P : List Stmt) (t : T (fits P)) where
   len-is = sym (pool-length (memory P)) ∙ ap length pool-is
 
   pub stmt-at : (n : ℕ) → n < length P → stmtAt (memory P) n ≡ at P n
-  unfolding poolIs
+  unfolding poolOf
   stmt-at n l = sym (table-at (poolLen (memory P)) (stmtAt (memory P)) noStmt n (omega (arith, len-is))) ∙ ap (λ Q. at Q n) pool-is
 
   -- the memory, word for word, after s went in
@@ -267,7 +267,7 @@ module _ (P : List Stmt) (l : List ℕ) (t : T (fits P)) (u : T (within P l)) wh
   below i h = says-leb {m = suc (getD l i 0)} {n = length P} .sound (all-at (λ i. ltb i (length P)) l 0 (says-and (says-self (ltb (length l) 512)) (says-self (all (λ i. ltb i (length P)) l)) .sound u .1) i h)
 
   pub record-is : recordIn (memory P) (numbers l) ≡ map (at P) l
-  unfolding recordOf
+  unfolding recordUpTo
   record-is =
       table-is (recordLen (numbers l)) (λ i. stmtAt (memory P) (getD (numbers l) i 0)) (map (at P) l) (at P 0) (record-len l few ∙ sym (length-map l (at P))) (λ i h.
       let k : i < length l = omega (arith, record-len l few) in

@@ -28,8 +28,8 @@ use Rattle.views.specs.Held.{viewsIs}
 use Rattle.views.specs.declared.View as held
 use Rattle.statements.specs.declared.Binding.{Binding}
 use Rattle.statements.specs.declared.Binding.the-variants.{Unbound, Bound}
-use Rattle.rules.specs.declared.Send.{Send}
-use Rattle.rules.specs.declared.Send.the-variants.{Nothing, Payload}
+use Rattle.rules.specs.declared.OptionalPayload.{OptionalPayload}
+use Rattle.rules.specs.declared.OptionalPayload.the-variants.{Nothing, Payload}
 use Rattle.pool.specs.Pool.{stmtAt}
 use Rattle.engine.specs.declared.Controller.{Controller}
 use Rattle.engine.specs.declared.Answer.{Answer}
@@ -77,7 +77,7 @@ abbrev bothJoined : held.View
 bothJoined = record { joined = 3; left = 0 }
 
 -- A controller that has entered the first n views of an array, which begins with its initial view.
-abbrev controllerWith : Bool → ℕ → held.View → ℕ → Send → Binding → Bool → Controller
+abbrev controllerWith : Bool → ℕ → held.View → ℕ → OptionalPayload → Binding → Bool → Controller
 controllerWith ready k init n sending binding done = record {
   ready = ready;
   number = k;
@@ -96,7 +96,7 @@ abbrev fresh : State
 fresh = record { left = []; more = []; answer = Quiet; controller = controllerWith false 0 nobody 0 Nothing Unbound false; ids = [] }
 
 -- Controller k with what is to be sent, its binding, and whether it has delivered; then the pool, what the host put into it, the answer, and the record's numbers.
-abbrev state : ℕ → Send → Binding → Bool → List Stmt → List Stmt → Answer → List ℕ → State
+abbrev state : ℕ → OptionalPayload → Binding → Bool → List Stmt → List Stmt → Answer → List ℕ → State
 state k sending binding done left more answer ids = record { left = left; more = more; answer = answer; controller = controllerWith true k bothJoined 1 sending binding done; ids = ids }
 
 -- Controller 0 after the setup, and after each event on it.

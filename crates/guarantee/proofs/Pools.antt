@@ -17,7 +17,8 @@ use Rattle.protocol.specs.Call.{isFull, add, refuse as refusedBy}
 use Rattle.protocol.specs.Pool.{numberOf, pooled, hasRoom}
 use Rattle.protocol.proofs.Different.{Different, ordered-append}
 use Rattle.protocol.proofs.Asked.{says-has, says-same-stmt}
-use Rattle.guarantee.proofs.Laws.{holds, either, at-seam}
+use Rattle.protocol.proofs.Says.{is-true}
+use Rattle.guarantee.proofs.Laws.{either, at-seam}
 
 -- Q is P with the statements S; those that it lacked stand at its end
 pub record Grown (P S Q : List Stmt) : Type 0 where
@@ -84,7 +85,7 @@ added c X s = record { answer = taken; controller = c; statements = X ++ (s ∷ 
 module _ (c : Controller) (X P : List Stmt) (s : Stmt) (ready : c .isSetUp ≡ true) (width : c .ring .width ≡ controllers) (clean : T (fieldRules controllers s)) (has : s ∈ P) where
   pub add-is : add c X (hasRoom P) s ≡ (if any (sameStmt s) X then refusedBy c X repeated else if leb 512 (length X) then refusedBy c X full else added c X s)
   unfolding add isFull hasRoom
-  add-is = rw (ready, width, holds (fieldRules controllers s) clean, holds (any (sameStmt s) P) (says-has .complete has), or-false (leb 512 (length X))) refl
+  add-is = rw (ready, width, is-true (fieldRules controllers s) clean, is-true (any (sameStmt s) P) (says-has .complete has), or-false (leb 512 (length X))) refl
 
   pub add-taken : any (sameStmt s) X ≡ false → length X < 512 → add c X (hasRoom P) s ≡ added c X s
   add-taken e h = add-is ∙ rw (e, lt-leb 512 (length X) h) refl

@@ -27,9 +27,10 @@ use Rattle.protocol.proofs.Model.{entered-top, top-is-view}
 use Rattle.protocol.proofs.Promises.{promises, no-conflict}
 use Rattle.schedule.specs.Line.{Line}
 use Rattle.bench.specs.Bench.{step}
-use Rattle.guarantee.specs.Events.{follower, isFollower, afterLine, occurs, line, after}
+use Rattle.protocol.proofs.Says.{is-true}
+use Rattle.guarantee.specs.Events.{follower, isFollower, afterLine, occurs, lineAt, after}
 use Rattle.guarantee.specs.Rows.{RepliedTo, finalPool, FewFaulty, Says, rows, Kept}
-use Rattle.guarantee.proofs.Laws.{longer-on, holds, at-in, at-left, map-at}
+use Rattle.guarantee.proofs.Laws.{longer-on, at-in, at-left, map-at}
 use Rattle.guarantee.proofs.Lines.{Acts, Calls, out, follower-is}
 use Rattle.guarantee.proofs.Benches.{grows, Admitted, acting-line}
 use Rattle.guarantee.proofs.Links.{Comes}
@@ -54,7 +55,7 @@ module _ (S : Schedule) where
   at-turn : (n k : ℕ) (l : Option Line) → getElem? L n ≡ some l → first < n → T (follower faulty k) → Calls (after L n) l k turnCall → AtTurn n k (step (after L n) l .reply .answer)
   unfolding occurs
   at-turn n k l e h t c =
-      let f : isFollower (after L n) k ≡ true = follower-is (u S) (valid S n h) k ∙ holds (follower faulty k) t in
+      let f : isFollower (after L n) k ≡ true = follower-is (u S) (valid S n h) k ∙ is-true (follower faulty k) t in
       let are : occurs (after L n) (some l) ≡ record { event = call k turnCall; pool = after L n .pool } ∷ [] =
       ap (map (λ e. record { event = e; pool = after L n .pool })) (c .events ∙ ap (λ x. if x then call k turnCall ∷ [] else map signing (signedIn (out (after L n) k turnCall .answer))) f) in
       let next : at (suc n) ≡ suc (at n) = place-next L n l e ∙ ap (λ O. at n + length O) are ∙ omega arith in
@@ -80,9 +81,9 @@ module _ (S : Schedule) where
   -- after more lines the pool has more at its end
   pool-longer : (m n : ℕ) → first < m → m ≤ n → (D : List Stmt) × (after L n .pool ≡ after L m .pool ++ D)
   unfolding after afterLine
-  pool-longer m n h l = longer-on (λ n. after L n .pool) m (λ j i. next j (omega arith) (line L j) refl) n l
+  pool-longer m n h l = longer-on (λ n. after L n .pool) m (λ j i. next j (omega arith) (lineAt L j) refl) n l
     where
-      next : (j : ℕ) → first < j → (x : Option (Option Line)) → line L j ≡ x → (D : List Stmt) × (afterLine (after L j) x .pool ≡ after L j .pool ++ D)
+      next : (j : ℕ) → first < j → (x : Option (Option Line)) → lineAt L j ≡ x → (D : List Stmt) × (afterLine (after L j) x .pool ≡ after L j .pool ++ D)
       next j h none e = ([], sym (append-nil (after L j .pool)))
       next j h (some l) e = grows (u S) (valid S j h) l (effect-at S j l e h)
 

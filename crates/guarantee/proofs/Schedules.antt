@@ -27,7 +27,7 @@ use Rattle.protocol.proofs.Counting.{count-mono}
 use Rattle.protocol.proofs.Monotone.{mono}
 use Rattle.schedule.specs.Line.{Line, setup}
 use Rattle.bench.specs.Bench.{newBench, step}
-use Rattle.guarantee.specs.Events.{follower, Occurrence, afterLine, occurs, eventsOf, line, after, occurred, runOf}
+use Rattle.guarantee.specs.Events.{follower, Occurrence, afterLine, occurs, eventsOf, lineAt, after, occurred, runOf}
 use Rattle.guarantee.specs.Link.{eventsBefore, RowOf, MakesUp}
 use Rattle.guarantee.specs.Rows.{RepliedTo, SetUpBy, finalPool, FewFaulty}
 use Rattle.guarantee.proofs.Laws.{longer-on, at-in, at-cases, at-map, once-in}
@@ -42,14 +42,14 @@ module _ (L : List (Option Line)) where
   -- what came before goes on
   prefix : (m n : ℕ) → m ≤ n → (D : List Occurrence) × (occurred L n ≡ occurred L m ++ D)
   unfolding occurred
-  prefix m n h = longer-on (occurred L) m (λ j _. (occurs (after L j) (line L j), refl)) n h
+  prefix m n h = longer-on (occurred L) m (λ j _. (occurs (after L j) (lineAt L j), refl)) n h
 
   pub place-up : (m n : ℕ) → m ≤ n → eventsBefore L m ≤ eventsBefore L n
   place-up m n h = let (D, e) = prefix m n h in omega (arith, ap length e, length-append (occurred L m) D)
 
   pub place-next : (n : ℕ) (l : Option Line) → getElem? L n ≡ some l → eventsBefore L (suc n) ≡ eventsBefore L n + length (occurs (after L n) (some l))
   unfolding occurred
-  place-next n l e = length-append (occurred L n) (occurs (after L n) (line L n)) ∙ ap (λ x. eventsBefore L n + length (occurs (after L n) x)) e
+  place-next n l e = length-append (occurred L n) (occurs (after L n) (lineAt L n)) ∙ ap (λ x. eventsBefore L n + length (occurs (after L n) x)) e
 
   -- event i comes of a line
   pub record From (i : ℕ) (e : Event) : Type 0 where
@@ -63,9 +63,9 @@ module _ (L : List (Option Line)) where
   from : (N i : ℕ) (o : Occurrence) → getElem? (occurred L N) i ≡ some o → From i (o .event)
   unfolding occurred occurs
   from zero i o e = absurd (none≢some e)
-  from (suc N) i o e = elim (at-cases (occurred L N) (occurs (after L N) (line L N)) i e) [ inl f ↦ from N i o f | inr (j, g, h) ↦ new (line L N) refl j g h ]
+  from (suc N) i o e = elim (at-cases (occurred L N) (occurs (after L N) (lineAt L N)) i e) [ inl f ↦ from N i o f | inr (j, g, h) ↦ new (lineAt L N) refl j g h ]
     where
-      new : (x : Option (Option Line)) → line L N ≡ x → (j : ℕ) → i ≡ length (occurred L N) + j → getElem? (occurs (after L N) x) j ≡ some o → From i (o .event)
+      new : (x : Option (Option Line)) → lineAt L N ≡ x → (j : ℕ) → i ≡ length (occurred L N) + j → getElem? (occurs (after L N) x) j ≡ some o → From i (o .event)
       new none f j g h = absurd (none≢some h)
       new (some l) f j g h =
           let (m, lt) = at-in (occurs (after L N) (some l)) j h in
@@ -84,9 +84,9 @@ module _ (L : List (Option Line)) (reads : AllLegible L) (first : ℕ) {members 
 
   valid-from : (n : ℕ) → first < n → Valid (setupOf starts) (after L n)
   unfolding after afterLine
-  valid-from n h = le-ind (λ n. Valid (setupOf starts) (after L n)) (subst (Valid (setupOf starts)) (sym started-at) (started-valid (setupOf starts))) (λ j _ v. go j v (line L j) refl) n h
+  valid-from n h = le-ind (λ n. Valid (setupOf starts) (after L n)) (subst (Valid (setupOf starts)) (sym started-at) (started-valid (setupOf starts))) (λ j _ v. go j v (lineAt L j) refl) n h
     where
-      go : (j : ℕ) → Valid (setupOf starts) (after L j) → (x : Option (Option Line)) → line L j ≡ x → Valid (setupOf starts) (afterLine (after L j) x)
+      go : (j : ℕ) → Valid (setupOf starts) (after L j) → (x : Option (Option Line)) → lineAt L j ≡ x → Valid (setupOf starts) (afterLine (after L j) x)
       go j v none e = v
       go j v (some l) e = step-valid (setupOf starts) v l (reads j l e)
 
@@ -131,9 +131,9 @@ module _ (S : Schedule) where
   fresh : (n : ℕ) → n ≤ first → (after L n ≡ newBench) × (occurred L n ≡ [])
   unfolding after afterLine occurred occurs
   fresh zero h = (refl, refl)
-  fresh (suc n) h = let (e, f) = fresh n (omega arith) in go e f (line L n) refl
+  fresh (suc n) h = let (e, f) = fresh n (omega arith) in go e f (lineAt L n) refl
     where
-      go : after L n ≡ newBench → occurred L n ≡ [] → (x : Option (Option Line)) → line L n ≡ x → (afterLine (after L n) x ≡ newBench) × (occurred L n ++ occurs (after L n) x ≡ [])
+      go : after L n ≡ newBench → occurred L n ≡ [] → (x : Option (Option Line)) → lineAt L n ≡ x → (afterLine (after L n) x ≡ newBench) × (occurred L n ++ occurs (after L n) x ≡ [])
       go e f none g = (e, ap (λ O. O ++ []) f)
       go e f (some l) g =
           let r = early n (omega arith) e l g in
@@ -197,9 +197,9 @@ module _ (S : Schedule) where
   pub linked : (n : ℕ) → first < n → LinkedAt n
   unfolding after afterLine occurred occurs
   linked n h = le-ind LinkedAt (subst (λ O. Linked every u (length O) (after L (suc first))) (sym nothing-yet) (subst (Linked every u 0) (sym (started-at L reads first (start .line) begun)) first-link))
-      (λ j l k. go j l k (line L j) refl) n h
+      (λ j l k. go j l k (lineAt L j) refl) n h
     where
-      go : (j : ℕ) → suc first ≤ j → LinkedAt j → (x : Option (Option Line)) → line L j ≡ x → LinkedAt (suc j)
+      go : (j : ℕ) → suc first ≤ j → LinkedAt j → (x : Option (Option Line)) → lineAt L j ≡ x → LinkedAt (suc j)
       go j l k none e = subst (λ x. Linked every u (length (occurred L j ++ occurs (after L j) x)) (afterLine (after L j) x)) (sym e) (subst (λ O. Linked every u (length O) (after L j)) (sym (append-nil (occurred L j))) k)
       go j l k (some x) e = subst (λ y. Linked every u (place (suc j)) (afterLine (after L j) y)) (sym e) (passes j x e l k .linked)
 

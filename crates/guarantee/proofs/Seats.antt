@@ -25,7 +25,8 @@ use Rattle.protocol.proofs.Rules.{and-second, Signs, reports, agreesView, agree
 use Rattle.protocol.proofs.FieldRules.{says-fields, Sound, ack-small, signs-fields}
 use Rattle.protocol.proofs.Steps.{manned, init-view, signs-origin}
 use Rattle.bench.specs.Bench.{Seat}
-use Rattle.guarantee.proofs.Laws.{count-none, holds, either}
+use Rattle.protocol.proofs.Says.{is-true}
+use Rattle.guarantee.proofs.Laws.{count-none, either}
 
 abbrev pub seatOf : Outcome → Seat
 seatOf o = record { controller = o .controller; statements = o .statements }
@@ -74,7 +75,7 @@ module _ (u : Setup) where
 
   allowed-at : (k : ℕ) → k < controllers → setupAllowed k members sender ≡ true
   unfolding setupAllowed
-  allowed-at k l = rw (lt-ltb k 16 l) (holds (setupAllowed 0 members sender) allowed)
+  allowed-at k l = rw (lt-ltb k 16 l) (is-true (setupAllowed 0 members sender) allowed)
 
   pub setup-starts : (k : ℕ) → k < controllers → setup notSetUp [] k members sender ≡ record { answer = taken; controller = started k members sender; statements = [] }
   unfolding setup

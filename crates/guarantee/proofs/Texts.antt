@@ -25,7 +25,7 @@ use Rattle.statements.specs.Text.{parted, viewText}
 use Rattle.schedule.specs.Line.{Line, before, lines}
 use Rattle.bench.specs.Bench.{Bench, newBench, Reply, step}
 use Rattle.bench.specs.Rows.{wordText, valueText, rowText, headerText, rowsFrom}
-use Rattle.guarantee.specs.Calls.{refusalOf}
+use Rattle.guarantee.specs.Hosts.{refusalOf}
 use Rattle.guarantee.specs.Events.{afterLine, after}
 use Rattle.guarantee.proofs.Laws.{refusal-at}
 
@@ -238,7 +238,7 @@ answer-told n r s e =
     let f = fields-told (fields n r) (fields n s) (plains n r) (plains n s) refl e in
     (dec-told (r .who) (s .who) (ap (λ F. getD F 1 []) f), told (r .number) (s .number) (r .answer) (s .answer) (ap (λ F. getD F 2 []) f) (ap (λ F. getD F 3 []) f))
 
--- the row that an unmarked controller never gets: n,k,refused,7
+-- A statement for a reader: the row that an unmarked controller never gets is n,k,refused,7.
 pub conflict-row : (n k number : ℕ) → rowText n (record { who = k; answer = refused conflict; number = number }) ≡ parted (decText n ∷ decText k ∷ (114 ∷ 101 ∷ 102 ∷ 117 ∷ 115 ∷ 101 ∷ 100 ∷ []) ∷ (55 ∷ []) ∷ []) ++ (10 ∷ [])
 unfolding rowText decText digits
 conflict-row n k number = refl

@@ -1,27 +1,18 @@
--- A run whose calls are the engine's, or a host's, and what is seen of it (document 01, "A run").
+-- A run in what the engine answers and returns (document 01, "A run").
 -- Assumes nothing.
 use mathlib.Core.Path.{_≡_}
-use mathlib.Core.List.{List, [], _∷_}
+use mathlib.Core.List.{List}
 use mathlib.Core.Option.{some}
-use Prim.Native.Nat.{ℕ, suc, _≤_, _<_}
-use lib.Dec.{T, eqb}
-use lib.ListN.{getD}
-use Rattle.protocol.specs.Lists.{if_then_else_}
-use Rattle.protocol.specs.Controller.{Answer, taken, signed, entered, delivered, left, quiet, refused, Refusal, badSetup, badStatement, repeated, full, badRequest, manyCandidates, conflict, outOfPlace, notSetUp}
+use Prim.Native.Nat.{ℕ, suc}
+use lib.Dec.{T}
+use Rattle.protocol.specs.Controller.{Answer, left, notSetUp}
 use Rattle.protocol.specs.Pool.{hasRoom}
 use Rattle.protocol.specs.Run.{Call, setupCall, turnCall, call, Run, ring, event, statements}
 use Rattle.protocol.specs.Promises.{Observed}
-use Rattle.views.specs.View.{viewOf}
-use Rattle.pool.specs.Pool.{stmtAt, poolLen, recordIn}
+use Rattle.pool.specs.Pool.{recordIn, poolOf, Grows}
 use Rattle.engine.specs.declared.Outcome.{Outcome}
-use Rattle.engine.specs.Meaning.{controllerIs, poolIs, answerIs}
+use Rattle.engine.specs.Meaning.{controllerIs, answerIs}
 use Rattle.engine.specs.Promise.{Called}
-use Rattle.host.specs.Host.{Fresh, CalledAt}
-
--- The pool has all that it had, under the same numbers.
-pub record Grows (W W′ : List ℕ) : Type 0 where
-  pub more : poolLen W ≤ poolLen W′
-  pub same : (n : ℕ) → n < poolLen W → stmtAt W′ n ≡ stmtAt W n
 
 -- What there is of one engine: the words of its pool, the numbers of its record, and what the last call on it returned.
 pub record Engine : Type 0 where
@@ -48,7 +39,7 @@ pub record EngineRun (run : Run) (k : ℕ) (e : ℕ → Engine) : Type 0 where
   pub unset : controllerIs (fresh .last .controller) ≡ notSetUp
   pub started : EngineCalls fresh (setupCall k (run .members) (run .sender)) (e 0)
   -- What the run says of the pool's room is asked at the calls on k alone: controllers may share a pool or have one each.
-  pub room : (n : ℕ) (c : Call) → event run n ≡ some (call k c) → run .room n ≡ hasRoom (poolIs (e n .pool))
+  pub room : (n : ℕ) (c : Call) → event run n ≡ some (call k c) → run .room n ≡ hasRoom (poolOf (e n .pool))
   -- "Each call gets the controller and record that the last call on that rule-follower returned".
   pub called : (n : ℕ) (c : Call) → event run n ≡ some (call k c) → EngineCalls (e n) c (e (suc n))
   -- "nobody else writes them meanwhile": another event may put statements into the pool.
@@ -72,65 +63,4 @@ engineCalls run e = record {
   statements = statements run;
   Answers = EngineAnswers run e;
   recordOf = λ k n. recordIn (e k n .pool) (e k n .ids);
-}
-
--- ---- a host's calls
-
--- What a host has of one controller: the words of its pool, the controller's words and the numbers of its record, and the answer and the value of the last call on it.
-pub record Host : Type 0 where
-  pub pool : List ℕ
-  pub fields : List ℕ
-  pub ids : List ℕ
-  pub answer : ℕ
-  pub value : ℕ
-
--- A call took the host from h to h′. After it the host may have put statements into the pool.
-pub record HostCalls (h : Host) (k : Call) (h′ : Host) : Type 0 where
-  pub left : List ℕ
-  pub called : CalledAt (h .pool) (h .fields) (h .ids) k (h′ .answer) (h′ .value ∷ []) left (h′ .fields) (h′ .ids)
-  pub grows : Grows left (h′ .pool)
-
--- No call took place: the pool alone may have grown.
-pub record HostWaits (h h′ : Host) : Type 0 where
-  pub fields : h′ .fields ≡ h .fields
-  pub ids : h′ .ids ≡ h .ids
-  pub grows : Grows (h .pool) (h′ .pool)
-
--- The calls on controller k, where h n is what the host has of it before event n.
-pub record HostRun (run : Run) (k : ℕ) (h : ℕ → Host) : Type 0 where
-  pub fresh : Host
-  pub unset : Fresh (fresh .fields) (fresh .ids)
-  pub started : HostCalls fresh (setupCall k (run .members) (run .sender)) (h 0)
-  pub room : (n : ℕ) (c : Call) → event run n ≡ some (call k c) → run .room n ≡ hasRoom (poolIs (h n .pool))
-  pub called : (n : ℕ) (c : Call) → event run n ≡ some (call k c) → HostCalls (h n) c (h (suc n))
-  pub others : (n : ℕ) → ((c : Call) → ¬ (event run n ≡ some (call k c))) → HostWaits (h n) (h (suc n))
-
--- The calls on every rule-follower.
-abbrev pub HostRuns : Run → (ℕ → ℕ → Host) → Type 0
-HostRuns run h = (k : ℕ) → T (run .follows k) → HostRun run k (h k)
-
--- The refusal of a number, as `refusalNumber` gives them.
-abbrev pub refusalOf : ℕ → Refusal
-refusalOf n = getD (outOfPlace ∷ badSetup ∷ badStatement ∷ repeated ∷ full ∷ badRequest ∷ manyCandidates ∷ conflict ∷ []) n outOfPlace
-
--- What an answer and a value say: a statement by its number in the pool W, a view by its word, a payload as it is, a refusal by its number.
-unfoldable pub said : List ℕ → ℕ → ℕ → Answer
-said W answer value =
-    if eqb answer 0 then taken else if eqb answer 1 then signed (stmtAt W value) else if eqb answer 2 then entered (viewOf value)
-    else if eqb answer 3 then delivered value else if eqb answer 4 then left else if eqb answer 5 then quiet else refused (refusalOf value)
-
--- Event n is a turn of controller k, and the numbers that the host got say a.
-pub record HostAnswers (run : Run) (h : ℕ → ℕ → Host) (n k : ℕ) (a : Answer) : Type 0 where
-  pub isTurn : event run n ≡ some (call k turnCall)
-  pub says : said (h k (suc n) .pool) (h k (suc n) .answer) (h k (suc n) .value) ≡ a
-
--- The run as a host sees it.
-abbrev pub hostCalls : Run → (ℕ → ℕ → Host) → Observed
-hostCalls run h = record {
-  follows = run .follows;
-  ring = ring run;
-  sender = run .sender;
-  statements = statements run;
-  Answers = HostAnswers run h;
-  recordOf = λ k n. recordIn (h k n .pool) (h k n .ids);
 }

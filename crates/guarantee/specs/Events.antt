@@ -85,18 +85,18 @@ runWith every members sender faulty = record {
 
 module _ (L : List (Option Line)) where
   -- Line n of the schedule, counted from 0.
-  abbrev pub line : ℕ → Option (Option Line)
-  line n = getElem? L n
+  abbrev pub lineAt : ℕ → Option (Option Line)
+  lineAt n = getElem? L n
 
   -- The bench after the first n lines.
   unfoldable pub after : ℕ → Bench
   after zero = newBench
-  after (suc n) = afterLine (after n) (line n)
+  after (suc n) = afterLine (after n) (lineAt n)
 
   -- What came of the first n lines.
   unfoldable pub occurred : ℕ → List Occurrence
   occurred zero = []
-  occurred (suc n) = occurred n ++ occurs (after n) (line n)
+  occurred (suc n) = occurred n ++ occurs (after n) (lineAt n)
 
   -- The run of the schedule.
   abbrev pub runOf : ℕ → ℕ → ℕ → Run

@@ -20,14 +20,15 @@ use Rattle.engine.specs.declared.Outcome.{Outcome}
 use Rattle.engine.specs.declared.Answer.{Answer}
 use Rattle.engine.specs.declared.Answer.the-variants.{Taken, Signed, Entered, Delivered, Left, Quiet, Refused}
 use Rattle.engine.specs.declared.Refusal.the-variants.{BadStatement, OutOfPlace}
-use Rattle.pool.specs.Pool.{recordLen, recordIn}
-use Rattle.engine.specs.Meaning.{controllerIs, poolIs, answerIs}
+use Rattle.pool.specs.Pool.{recordLen, recordIn, poolOf}
+use Rattle.engine.specs.Meaning.{controllerIs, answerIs}
 use Rattle.engine.specs.Promise.{Change, unchanged, Meets, Calls, Starts, IsRefused, addedOf}
 use Rattle.engine.proofs.Requests.{refused}
 use Rattle.host.specs.Statement.{IsStatement}
 use Rattle.host.proofs.Written.{not-read, is-statement}
 use Rattle.host.specs.Memory.{controllerAt}
-use Rattle.host.specs.Host.{answerNumber, valueNumber, Finished, Hosted, Fresh, SetUpOn, SetsUp, CallOn, TurnOn, TakesTurn, AddOn, NoneOn, noStatement, AddsText}
+use Rattle.host.specs.Host.{answerNumber, valueNumber, Hosted, Fresh, SetUpOn, SetsUp, CallOn, TurnOn, TakesTurn, AddOn, NoneOn, noStatement, AddsText}
+use Rattle.host.specs.Stored.{Finished}
 
 -- ---- a refusal
 
@@ -148,7 +149,7 @@ module _ (S : List ℕ) (r : ReadStatement) (p : ReadOf S r) {o : Outcome} {F : 
     nothing-met : fieldRules 16 (stmtOf (r .statement)) ≡ false → NoneOn W R W′ R′ c o
     nothing-met q =
         subst (λ x. Meets W R c (noStatement (controllerIs c) (recordIn W R)) x o W′ R′) (nothing-added c (recordIn W R) (stmtOf (r .statement)))
-        (subst (λ z. Meets W R c z (addedOf (z .answer) (stmtOf (r .statement))) o W′ R′) (add-none c (recordIn W R) (hasRoom (poolIs W)) (stmtOf (r .statement)) q) m)
+        (subst (λ z. Meets W R c z (addedOf (z .answer) (stmtOf (r .statement))) o W′ R′) (add-none c (recordIn W R) (hasRoom (poolOf W)) (stmtOf (r .statement)) q) m)
 
     pub add-hosted : AddsText S W W′ F R n F′ R′ value
     add-hosted = record {

@@ -1,6 +1,6 @@
 -- Laws of loading a controller and of storing it.
 -- Assumes nothing.
-use Prim.Native.Nat.{ℕ, _+_, _*_, _/_, _%_, _≤_, _<_}
+use Prim.Native.Nat.{ℕ, _+_, _/_, _%_, _≤_, _<_}
 use native.Mathlib.Numerals.{add-one}
 use native.Mathlib.Omega.{arith}
 use mathlib.Core.Path.{_≡_, refl, sym, ap, ap₂, _∙_}
@@ -9,24 +9,27 @@ use mathlib.Core.List.{List, [], _∷_, _++_}
 use lib.ListN.{length, getD, set, take, drop, replicate, length-set}
 use lib.Seq.{sets, sets-eq, take-all, take-suc, take-suc-set, getD-set-same, getD-set-other, getD-append-add, getD-drop}
 use mir.Val.{boolByte}
+use Rattle.protocol.specs.Statement.{bindingNumber, bindingPayload}
 use Rattle.views.specs.Table.{table}
 use Rattle.views.proofs.Tables.{table-cong}
 use Rattle.views.specs.declared.View.{View}
 use Rattle.views.specs.declared.History.{History}
 use Rattle.statements.specs.declared.Binding.{Binding}
 use Rattle.statements.specs.declared.Binding.the-variants.{Unbound, Bound, Barred}
-use Rattle.statements.specs.Meaning.{bindingNumber}
-use Rattle.rules.specs.declared.Send.{Send}
-use Rattle.rules.specs.declared.Send.the-variants.{Nothing, Payload}
+use Rattle.statements.specs.Meaning.{bindingIs}
+use Rattle.rules.specs.declared.OptionalPayload.{OptionalPayload}
+use Rattle.rules.specs.declared.OptionalPayload.the-variants.{Nothing, Payload}
 use Rattle.engine.specs.declared.Controller.{Controller}
-use Rattle.host.specs.Memory.{noView, heldIn, says, bindingIn, bindingPayload, sendIn, sendNumber, sendPayload, enteredIn, controllerAt, Worded}
+use Rattle.host.specs.Memory.{heldNoView, heldIn, says, bindingIn, sendIn, enteredIn, controllerAt}
+use Rattle.host.specs.Stored.{sendNumber, sendPayload, EnteredWords}
 
--- a view is its word's
-pub word-back : (v : View) (a b : ℕ) → a ≡ v .joined → a < 4294967296 → b ≡ v .left → b < 4294967296 → heldIn (a + b * 4294967296) ≡ v
-word-back v a b e k f l = same (a + b * 4294967296) (omega arith) (omega arith)
-  where
-    same : (w : ℕ) → w % 4294967296 ≡ v .joined → w / 4294967296 % 4294967296 ≡ v .left → heldIn w ≡ v
-    same w p q i = record { joined = p i; left = q i }
+-- a view is its word's, by the halves
+
+pub word-back : (v : View) (w : ℕ) → (w % 4294967296 ≡ v .joined) × (w / 4294967296 % 4294967296 ≡ v .left) → heldIn w ≡ v
+word-back v w p i = record { joined = p .0 i; left = p .1 i }
+
+pub word-held : (w : ℕ) {j l : ℕ} → j ≡ w % 4294967296 → l ≡ w / 4294967296 % 4294967296 → record { joined = j; left = l } ≡ heldIn w
+word-held w p q i = record { joined = p i; left = q i }
 
 -- View i of the words from word 16 on.
 abbrev storedAt : List ℕ → ℕ → View
@@ -40,7 +43,7 @@ pub record Loads (F : List ℕ) (l : List View) (i : ℕ) : Type 0 where
   pub long : length l ≡ 16
   pub are : take i l ≡ table i (storedAt F)
 
-pub load-first : (F : List ℕ) → Loads F (replicate 16 noView) 0
+pub load-first : (F : List ℕ) → Loads F (replicate 16 heldNoView) 0
 unfolding table
 load-first F = record { small = omega arith; long = refl; are = refl }
 
@@ -72,7 +75,7 @@ pub store-first : (h : History) → Stores h (set (replicate 32 0) 12 (h .len)) 
 unfolding table
 store-first h = record { small = omega arith; long = refl; count = refl; are = refl }
 
-pub store-next : {h : History} {F : List ℕ} {i : ℕ} (w : ℕ) → Stores h F i → length (h .views) ≡ 16 → i < 16 → heldIn w ≡ getD (h .views) i noView → Stores h (set F (16 + i) w) (i + 1)
+pub store-next : {h : History} {F : List ℕ} {i : ℕ} (w : ℕ) → Stores h F i → length (h .views) ≡ 16 → i < 16 → heldIn w ≡ getD (h .views) i heldNoView → Stores h (set F (16 + i) w) (i + 1)
 unfolding table
 store-next {h} {F} {i} w s k m q = record {
   small = omega arith;
@@ -83,10 +86,10 @@ store-next {h} {F} {i} w s k m q = record {
       (ap₂ (λ t a. t ++ (a ∷ []))
       (table-cong i (storedAt (set F (16 + i) w)) (storedAt F) (λ p o. ap heldIn (getD-set-other F (16 + i) (16 + p) w 0 (λ z. omega arith))) ∙ s .are)
       (ap heldIn (getD-set-same F (16 + i) w 0 (omega (arith, s .long))) ∙ q)
-      ∙ sym (take-suc (h .views) i noView (omega arith)));
+      ∙ sym (take-suc (h .views) i heldNoView (omega arith)));
 }
 
-pub store-last : {h : History} {F : List ℕ} {i : ℕ} → Stores h F i → length (h .views) ≡ 16 → 16 ≤ i → Worded h F
+pub store-last : {h : History} {F : List ℕ} {i : ℕ} → Stores h F i → length (h .views) ≡ 16 → 16 ≤ i → EnteredWords h F
 store-last {h} {F} {i} s k m = record { long = s .long; count = s .count; back = all i (omega arith) (s .are) ∙ take-all 16 (h .views) (omega arith) }
   where
     all : (j : ℕ) → j ≡ 16 → table j (storedAt F) ≡ take j (h .views) → table 16 (storedAt F) ≡ take 16 (h .views)
@@ -94,7 +97,7 @@ store-last {h} {F} {i} s k m = record { long = s .long; count = s .count; back =
 
 -- ---- a controller
 
-pub loaded : (F : List ℕ) {init : View} {entered : History} {binding : Binding} {sending : Send} → entered ≡ enteredIn F → init ≡ heldIn (getD F 2 0) → binding ≡ bindingIn (getD F 4 0) (getD F 5 0) → sending ≡ sendIn (getD F 9 0) (getD F 10 0)
+pub loaded : (F : List ℕ) {init : View} {entered : History} {binding : Binding} {sending : OptionalPayload} → entered ≡ enteredIn F → init ≡ heldIn (getD F 2 0) → binding ≡ bindingIn (getD F 4 0) (getD F 5 0) → sending ≡ sendIn (getD F 9 0) (getD F 10 0)
     → record {
       ready = says (getD F 0 0);
       number = getD F 1 0 % 256;
@@ -125,12 +128,12 @@ says-back : (b : Bool) → says (boolByte b) ≡ b
 says-back true = refl
 says-back false = refl
 
-binding-back : (b : Binding) → bindingIn (bindingNumber b) (bindingPayload b) ≡ b
+binding-back : (b : Binding) → bindingIn (bindingNumber (bindingIs b)) (bindingPayload (bindingIs b)) ≡ b
 binding-back Unbound = refl
 binding-back (Bound m) = refl
 binding-back Barred = refl
 
-send-back : (s : Send) → sendIn (sendNumber s) (sendPayload s) ≡ s
+send-back : (s : OptionalPayload) → sendIn (sendNumber s) (sendPayload s) ≡ s
 send-back Nothing = refl
 send-back (Payload m) = refl
 
@@ -145,7 +148,7 @@ module _ (c : Controller) (F : List ℕ) (number init sender bound payload sends
   abbrev pub words : List ℕ
   words = boolByte (c .ready) ∷ number ∷ init ∷ sender ∷ bound ∷ payload ∷ boolByte (c .delivered) ∷ boolByte (c .joining) ∷ boolByte (c .leaving) ∷ sends ∷ send ∷ []
 
-  pub stored : Worded (c .entered) F → (number ≡ c .number) × (number < 256) → heldIn init ≡ c .init → (sender ≡ c .sender) × (sender < 256) → bound ≡ bindingNumber (c .binding) → payload ≡ bindingPayload (c .binding)
+  pub stored : EnteredWords (c .entered) F → (number ≡ c .number) × (number < 256) → heldIn init ≡ c .init → (sender ≡ c .sender) × (sender < 256) → bound ≡ bindingNumber (bindingIs (c .binding)) → payload ≡ bindingPayload (bindingIs (c .binding))
       → sends ≡ sendNumber (c .sending) → send ≡ sendPayload (c .sending) → controllerAt (sets F 0 words) ≡ c
   unfolding controllerAt enteredIn
   stored w n v s b m d l = ap controllerAt (sets-eq words F 0 (omega (arith, w .long))) ∙ same

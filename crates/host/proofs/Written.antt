@@ -5,7 +5,6 @@ use native.Mathlib.Omega.{arith}
 use mathlib.Core.Path.{_≡_, refl, sym, ap, _∙_}
 use mathlib.Core.Bool.{Bool, true, false, false≢true}
 use mathlib.Core.List.{List}
-use lib.Dec.{T}
 use lib.ListN.{length}
 use borrow.Author.Tests.{le-leb}
 use Rattle.protocol.specs.Statement.{fieldRules}
@@ -13,17 +12,11 @@ use Rattle.statements.specs.declared.Statement.{Statement}
 use Rattle.statements.specs.declared.ReadStatement.{ReadStatement}
 use Rattle.statements.specs.Text.{text}
 use Rattle.statements.specs.Meaning.{stmtOf}
-use Rattle.statements.specs.Promise.{ReadOf, hasRoom, writtenCount, written}
+use Rattle.statements.specs.Promise.{ReadOf, isWritable, writtenCount, written}
 use Rattle.statements.proofs.Laws.{refused, text-some}
 use Rattle.statements.proofs.Fits.{keeps-fits}
+use Rattle.protocol.proofs.Says.{is-true, from-true}
 use Rattle.host.specs.Statement.{IsStatement, Again}
-
-is-true : (b : Bool) → T b → b ≡ true
-is-true true t = refl
-
-pub from-true : (b : Bool) → b ≡ true → T b
-from-true true e = tt
-from-true false e = absurd (false≢true e)
 
 module _ (S : List ℕ) (r : ReadStatement) (p : ReadOf S r) where
   pub not-read : r .ok ≡ false → IsStatement S → ⊥
@@ -35,19 +28,19 @@ module _ (S : List ℕ) (r : ReadStatement) (p : ReadOf S r) where
       false≢true (sym e ∙ k ∙ ap (fieldRules 16) same ∙ is-true (fieldRules 16 (s .statement)) (s .rules))
 
   unfoldable pub is-statement : r .ok ≡ true → fieldRules 16 (stmtOf (r .statement)) ≡ true → IsStatement S
-  is-statement ok k = record { statement = stmtOf (r .statement); rules = from-true (fieldRules 16 (stmtOf (r .statement))) k; is = p .only ok }
+  is-statement ok k = record { statement = stmtOf (r .statement); rules = from-true k; is = p .only ok }
 
 -- nothing is written for what is the text of no statement
 pub nothing : (S out : List ℕ) → (IsStatement S → ⊥) → Again S out 0 out
 nothing S out f = record { only = λ l. absurd (omega arith); none = λ e. refl; back = λ s l. absurd (f s) }
 
 module _ (S : List ℕ) (r : ReadStatement) (p : ReadOf S r) (out : List ℕ) where
-  roomy : (s : Statement) → s .history .len ≤ 16 → length (text (stmtOf s)) ≤ length out → hasRoom s out ≡ true
-  unfolding hasRoom
+  roomy : (s : Statement) → s .history .len ≤ 16 → length (text (stmtOf s)) ≤ length out → isWritable s out ≡ true
+  unfolding isWritable
   roomy s h l = rw (le-leb (s .history .len) 16 h, le-leb (length (text (stmtOf s))) (length out) l)
 
   module _ (ok : r .ok ≡ true) (rules : fieldRules 16 (stmtOf (r .statement)) ≡ true) where
-    room : (b : Bool) → hasRoom (r .statement) out ≡ b → Again S out (writtenCount (r .statement) out) (written (r .statement) out)
+    room : (b : Bool) → isWritable (r .statement) out ≡ b → Again S out (writtenCount (r .statement) out) (written (r .statement) out)
     unfolding writtenCount written
     room true e =
         let is : S ≡ text (stmtOf (r .statement)) = p .only ok in
@@ -59,4 +52,4 @@ module _ (S : List ℕ) (r : ReadStatement) (p : ReadOf S r) (out : List ℕ) wh
     room false e = rw e record { only = λ l. absurd (omega arith); none = λ z. refl; back = λ s l. absurd (false≢true (sym e ∙ roomy (r .statement) (p .short) (omega (arith, ap length (p .only ok))))) }
 
     pub again : (n : ℕ) (after : List ℕ) → n ≡ writtenCount (r .statement) out → after ≡ written (r .statement) out → Again S out n after
-    again n after e f = rw (e, f) (room (hasRoom (r .statement) out) refl)
+    again n after e f = rw (e, f) (room (isWritable (r .statement) out) refl)

@@ -13,8 +13,9 @@ use Rattle.engine.specs.declared.Controller.{Controller}
 use Rattle.engine.specs.declared.Outcome.{Outcome}
 use Rattle.engine.specs.declared.Answer.{Answer}
 use Rattle.engine.specs.declared.Answer.the-variants.{Taken, Signed, Entered, Delivered, Left, Quiet, Refused}
-use Rattle.pool.specs.Pool.{wordOf, recordLen, recordIn}
-use Rattle.engine.specs.Meaning.{controllerIs, poolIs, answerIs}
+use Rattle.views.specs.View.{wordOf}
+use Rattle.pool.specs.Pool.{recordLen, recordIn, poolOf}
+use Rattle.engine.specs.Meaning.{controllerIs, answerIs}
 use Rattle.engine.specs.Promise.{unchanged, Meets, Starts, Turns, Adds, Called}
 use Rattle.host.specs.Statement.{IsStatement}
 use Rattle.host.specs.Memory.{controllerAt}
@@ -44,13 +45,6 @@ unfoldable pub valueNumber : Answer → ℕ
 valueNumber a = valueWord (controller.answerValue (signedNumber a) (answerIs [] a))
 
 -- ---- calls
-
--- The engine returned o on the controller of the words F: its answer and value were told, and the words mean its controller, or are as they were after a refusal.
-pub record Finished (o : Outcome) (F : List ℕ) (answer : ℕ) (F′ value : List ℕ) : Type 0 where
-  pub answered : answer ≡ answerNumber (o .answer)
-  pub valued : value ≡ valueNumber (o .answer) ∷ []
-  pub held : (answer ≡ 6 → ⊥) → controllerAt F′ ≡ o .controller
-  pub refused : answer ≡ 6 → F′ ≡ F
 
 -- A call on the controller of F with the record R has the answer and the value, and leaves F′ and R′: they are those of an outcome that the engine's promise `Met` allows.
 pub record Hosted (Met : Outcome → Type 0) (F R : List ℕ) (answer : ℕ) (F′ R′ value : List ℕ) : Type 0 where
@@ -88,14 +82,14 @@ Sends F R payload answer F′ R′ = Hosted (CallOn (λ d X. call.requestSend d 
 
 -- A turn over the pool W and the record R, which leaves W′ and R′.
 abbrev pub TurnOn : List ℕ → List ℕ → List ℕ → List ℕ → Controller → Outcome → Type 0
-TurnOn W R W′ R′ c r = Turns W R c (turn (controllerIs c) (recordIn W R) (hasRoom (poolIs W))) r W′ R′
+TurnOn W R W′ R′ c r = Turns W R c (turn (controllerIs c) (recordIn W R) (hasRoom (poolOf W))) r W′ R′
 
 abbrev pub TakesTurn : List ℕ → List ℕ → List ℕ → List ℕ → ℕ → List ℕ → List ℕ → List ℕ → Type 0
 TakesTurn W W′ F R answer F′ R′ = Hosted (TurnOn W R W′ R′ (controllerAt F)) F R answer F′ R′
 
 -- An addition of s.
 abbrev pub AddOn : List ℕ → List ℕ → List ℕ → List ℕ → Stmt → Controller → Outcome → Type 0
-AddOn W R W′ R′ s c r = Adds W R c s (call.add (controllerIs c) (recordIn W R) (hasRoom (poolIs W)) s) r W′ R′
+AddOn W R W′ R′ s c r = Adds W R c s (call.add (controllerIs c) (recordIn W R) (hasRoom (poolOf W)) s) r W′ R′
 
 -- An addition of what is no statement: before setup 8, else 2.
 unfoldable pub noStatement : controller.Controller → List Stmt → controller.Outcome
@@ -112,8 +106,8 @@ pub record AddsText (S W W′ F R : List ℕ) (answer : ℕ) (F′ R′ value : 
 -- ---- calls of a run
 
 -- The call k of a run took place over the pool W, on the controller of F with the record R: the host got the answer and the value, and W′, F′ and R′ are what was left.
--- With this a host's calls make up a `HostRun` of crates/guarantee/specs/Calls.antt.
-pub record CalledAt (W F R : List ℕ) (k : Call) (answer : ℕ) (value W′ F′ R′ : List ℕ) : Type 0 where
+-- With this a host's calls make up a `HostRun` of crates/guarantee/specs/Hosts.antt.
+pub record HostCalled (W F R : List ℕ) (k : Call) (answer : ℕ) (value W′ F′ R′ : List ℕ) : Type 0 where
   pub told : Answer
   pub answered : answer ≡ answerNumber told
   pub valued : value ≡ valueNumber told ∷ []

@@ -4,24 +4,23 @@
 -- others mean nothing.
 -- Every memory means some controller: each word is read as the value that it can stand for, and nothing has to hold of it.
 -- Assumes nothing.
-use mathlib.Core.Path.{_≡_}
 use mathlib.Core.Bool.{Bool, not}
 use mathlib.Core.List.{List}
 use Prim.Native.Nat.{ℕ, _+_, _/_, _%_}
 use lib.Dec.{eqb}
-use lib.ListN.{getD, length}
+use lib.ListN.{getD}
 use Rattle.protocol.specs.Lists.{if_then_else_}
 use Rattle.views.specs.Table.{table}
 use Rattle.views.specs.declared.View.{View}
 use Rattle.views.specs.declared.History.{History}
 use Rattle.statements.specs.declared.Binding.{Binding}
 use Rattle.statements.specs.declared.Binding.the-variants.{Unbound, Bound, Barred}
-use Rattle.rules.specs.declared.Send.{Send}
-use Rattle.rules.specs.declared.Send.the-variants.{Nothing, Payload}
+use Rattle.rules.specs.declared.OptionalPayload.{OptionalPayload}
+use Rattle.rules.specs.declared.OptionalPayload.the-variants.{Nothing, Payload}
 use Rattle.engine.specs.declared.Controller.{Controller}
 
-abbrev pub noView : View
-noView = record { joined = 0; left = 0 }
+abbrev pub heldNoView : View
+heldNoView = record { joined = 0; left = 0 }
 
 -- The view that a word holds: 32 bits of who joined, and above them 32 of who left. Of each the lowest 16 stand for controllers (`viewIs` of crates/views/specs/Held.antt).
 abbrev pub heldIn : ℕ → View
@@ -34,7 +33,7 @@ says w = not (eqb w 0)
 abbrev pub bindingIn : ℕ → ℕ → Binding
 bindingIn n m = if eqb n 0 then Unbound else if eqb n 1 then Bound m else Barred
 
-abbrev pub sendIn : ℕ → ℕ → Send
+abbrev pub sendIn : ℕ → ℕ → OptionalPayload
 sendIn n m = if eqb n 0 then Nothing else Payload m
 
 -- The views that were entered.
@@ -55,24 +54,3 @@ controllerAt F = record {
   leaving = says (getD F 8 0);
   sending = sendIn (getD F 9 0) (getD F 10 0);
 }
-
--- ---- what is stored
-
-abbrev pub bindingPayload : Binding → ℕ
-bindingPayload Unbound = 0
-bindingPayload (Bound m) = m
-bindingPayload Barred = 0
-
-abbrev pub sendNumber : Send → ℕ
-sendNumber Nothing = 0
-sendNumber (Payload m) = 1
-
-abbrev pub sendPayload : Send → ℕ
-sendPayload Nothing = 0
-sendPayload (Payload m) = m
-
--- r has the words of the views that were entered.
-pub record Worded (h : History) (r : List ℕ) : Type 0 where
-  pub long : length r ≡ 32
-  pub count : getD r 12 0 ≡ h .len
-  pub back : table 16 (λ i. heldIn (getD r (16 + i) 0)) ≡ h .views

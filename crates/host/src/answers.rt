@@ -1,27 +1,11 @@
 // What a call answers, as numbers, and the memory after it.
 ghost use mathlib.Core.Path.{_≡_};
-ghost use Rattle.protocol.specs.Controller.{refusalNumber};
-ghost use Rattle.engine.specs.Meaning.{refusalIs};
-ghost use Rattle.host.specs.Host.{answerNumber, valueNumber, Finished};
+ghost use Rattle.host.specs.Host.{answerNumber, valueNumber};
+ghost use Rattle.host.specs.Stored.{Finished};
 use crate::held;
+use crate::held::FIELDS;
 use engine::Answer;
 use engine::Outcome;
-use engine::Refusal;
-
-fn refusal_number(r: Refusal) -> u64
-    ensures { λ n. ⌜ n ≡ refusalNumber (refusalIs r) ⌝ }
-{
-    match r {
-        Refusal::BadSetup => 1,
-        Refusal::BadStatement => 2,
-        Refusal::Repeated => 3,
-        Refusal::Full => 4,
-        Refusal::BadRequest => 5,
-        Refusal::ManyCandidates => 6,
-        Refusal::Conflict => 7,
-        Refusal::OutOfPlace => 8,
-    }
-}
 
 fn answer_number(a: Answer) -> u8
     ensures { λ r. ⌜ r ≡ answerNumber a ⌝ }
@@ -47,12 +31,12 @@ fn value_number(a: Answer) -> u64
         Answer::Delivered(m) => m,
         Answer::Left => 0,
         Answer::Quiet => 0,
-        Answer::Refused(r) => refusal_number(r),
+        Answer::Refused(r) => engine::refusal_number(r),
     }
 }
 
 // Tells the answer of o, and keeps its controller; a refusal leaves the memory as it was.
-pub fn finish(fields: &mut [u64; 32], o: Outcome, value: &mut [u64; 1]) -> u8
+pub fn finish(fields: &mut [u64; FIELDS], o: Outcome, value: &mut [u64; 1]) -> u8
     ensures { λ r. ⌜ Finished o (now (fields .entry)) r (now (fields .exit)) (now (value .exit)) ⌝ }
 {
     let a = o.answer;

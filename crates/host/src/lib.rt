@@ -3,5 +3,6 @@ mod answers;
 mod held;
 
 pub use answers::finish;
+pub use held::FIELDS;
 pub use held::load;
 pub use held::store;

@@ -6,10 +6,10 @@ use Rattle.protocol.specs.Pool.{hasRoom}
 use Rattle.protocol.specs.Turn.{turn as turnOf}
 use Rattle.engine.specs.declared.Controller.{Controller}
 use Rattle.engine.specs.declared.Answer.{Answer}
-use Rattle.pool.specs.Pool.{recordIn}
-use Rattle.engine.specs.Meaning.{controllerIs, poolIs}
+use Rattle.pool.specs.Pool.{recordIn, poolOf}
+use Rattle.engine.specs.Meaning.{controllerIs}
 use Rattle.engine.specs.Promise.{Turns}
 
 -- A turn of c over the pool W and the record R answered a and left d, W′ and R′.
 abbrev pub TurnedTo : List ℕ → List ℕ → Controller → Answer → Controller → List ℕ → List ℕ → Type 0
-TurnedTo W R c a d W′ R′ = Turns W R c (turnOf (controllerIs c) (recordIn W R) (hasRoom (poolIs W))) (record { answer = a; controller = d }) W′ R′
+TurnedTo W R c a d W′ R′ = Turns W R c (turnOf (controllerIs c) (recordIn W R) (hasRoom (poolOf W))) (record { answer = a; controller = d }) W′ R′

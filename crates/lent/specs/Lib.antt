@@ -1,1 +1,2 @@
+-- ---- inside: what a turn on a controller that is lent comes to
 pub mod Lent

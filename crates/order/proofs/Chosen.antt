@@ -5,7 +5,7 @@ use mathlib.Core.Bool.{true, false, true≢false, false≢true}
 use mathlib.Core.List.{List, [], _∷_, map}
 use mathlib.Core.Option.{Option, some, none}
 use Prim.Native.Nat.{ℕ}
-use Rattle.protocol.specs.Lists.{firstOf}
+use Rattle.protocol.specs.Lists.{isSome, firstOf}
 use Rattle.protocol.specs.View.{View}
 use Rattle.protocol.specs.Statement.{Stmt}
 use Rattle.protocol.specs.Evidence.{candidates}
@@ -15,39 +15,33 @@ use Rattle.rules.specs.declared.Situation.{Situation}
 use Rattle.rules.specs.declared.Action.{Action}
 use Rattle.rules.specs.declared.Action.the-variants.{Rest, Report, Enter, AgreeView, AgreeHistory, Ack, Store, Deliver, Join, Leave, Prepare}
 use Rattle.rules.specs.Actions.{actionIs, acts}
-use Rattle.rules.specs.Rules.{Owns, Lent, AllHold, Rule, firstAmong, Does}
+use Rattle.rules.specs.Rules.{Owns, Lent, AllLent, Rule, firstAmong, Does}
 
 -- ---- the first of several
 
-module _ (s : Situation) (H : List View) where
-  idle : (a : Action) → acts a ≡ false → actionIs s H a ≡ none
-  unfolding actionIs
-  idle Rest e = refl
-  idle (Report u) e = absurd (true≢false e)
-  idle (Enter v b) e = absurd (true≢false e)
-  idle AgreeView e = absurd (true≢false e)
-  idle AgreeHistory e = absurd (true≢false e)
-  idle (Ack m) e = absurd (true≢false e)
-  idle (Store m) e = absurd (true≢false e)
-  idle (Deliver m) e = absurd (true≢false e)
-  idle Join e = absurd (true≢false e)
-  idle Leave e = absurd (true≢false e)
-  idle (Prepare m) e = absurd (true≢false e)
+-- it is told of an action whether something is done
+acts-is : (s : Situation) (H : List View) (a : Action) → isSome (actionIs s H a) ≡ acts a
+unfolding actionIs
+acts-is s H Rest = refl
+acts-is s H (Report u) = refl
+acts-is s H (Enter v b) = refl
+acts-is s H AgreeView = refl
+acts-is s H AgreeHistory = refl
+acts-is s H (Ack m) = refl
+acts-is s H (Store m) = refl
+acts-is s H (Deliver m) = refl
+acts-is s H Join = refl
+acts-is s H Leave = refl
+acts-is s H (Prepare m) = refl
 
-  module _ (l : List (Option turn.Action)) where
-    acted : (a : Action) → acts a ≡ true → actionIs s H a ≡ firstOf (actionIs s H a ∷ l)
-    unfolding actionIs firstOf
-    acted Rest e = absurd (false≢true e)
-    acted (Report u) e = refl
-    acted (Enter v b) e = refl
-    acted AgreeView e = refl
-    acted AgreeHistory e = refl
-    acted (Ack m) e = refl
-    acted (Store m) e = refl
-    acted (Deliver m) e = refl
-    acted Join e = refl
-    acted Leave e = refl
-    acted (Prepare m) e = refl
+idle : (o : Option turn.Action) → isSome o ≡ false → o ≡ none
+idle none e = refl
+idle (some a) e = absurd (true≢false e)
+
+acted : (o : Option turn.Action) (l : List (Option turn.Action)) → isSome o ≡ true → o ≡ firstOf (o ∷ l)
+unfolding firstOf
+acted none l e = absurd (false≢true e)
+acted (some a) l e = refl
 
 alone : (o : Option turn.Action) → o ≡ firstOf (o ∷ [])
 unfolding firstOf
@@ -60,19 +54,19 @@ skipped o l e = rw e
 
 -- where K is lent, L is
 abbrev pub Lends : Situation → List Lent → List Lent → Type 0
-Lends s K L = (d : Controller) (X : List Stmt) → AllHold s d X K → AllHold s d X L
+Lends s K L = (d : Controller) (X : List Stmt) → AllLent s d X K → AllLent s d X L
 
 module _ {K L : List Lent} {s : Situation} {rule : Rule} where
   pub one : (l : List Rule) {r : Action} → Does L s rule r → acts r ≡ true → Lends s K L → Does K s (firstAmong (rule ∷ l)) r
   unfolding firstAmong
   one l {r} m a lends = record {
-    means = λ d X k h. acted s (candidates (d .ring) X) (map (λ f. f d X) l) r a ∙ ap (λ o. firstOf (o ∷ map (λ f. f d X) l)) (m .means d X k (lends d X h));
+    means = λ d X k h. acted (actionIs s (candidates (d .ring) X) r) (map (λ f. f d X) l) (acts-is s (candidates (d .ring) X) r ∙ a) ∙ ap (λ o. firstOf (o ∷ map (λ f. f d X) l)) (m .means d X k (lends d X h));
   }
 
   pub skip : (l : List Rule) {q r : Action} → Does L s rule q → acts q ≡ false → Lends s K L → Does K s (firstAmong l) r → Does K s (firstAmong (rule ∷ l)) r
   unfolding firstAmong
   skip l {q} m a lends n = record {
-    means = λ d X k h. n .means d X k h ∙ skipped (rule d X) (map (λ f. f d X) l) (sym (m .means d X k (lends d X h)) ∙ idle s (candidates (d .ring) X) q a);
+    means = λ d X k h. n .means d X k h ∙ skipped (rule d X) (map (λ f. f d X) l) (sym (m .means d X k (lends d X h)) ∙ idle (actionIs s (candidates (d .ring) X) q) (acts-is s (candidates (d .ring) X) q ∙ a));
   }
 
   pub last : {r : Action} → Does L s rule r → Lends s K L → Does K s (firstAmong (rule ∷ [])) r

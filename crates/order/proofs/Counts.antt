@@ -1,6 +1,6 @@
 -- Where a rule is done there is a candidate, and a view of the greatest history.
 -- Assumes nothing.
-use mathlib.Core.Path.{_≡_, refl, sym, ap, _∙_}
+use mathlib.Core.Path.{refl, sym, ap, _∙_}
 use mathlib.Core.List.{List, [], _∷_, List·Memᴰ·not-nil}
 use Prim.Native.Nat.{ℕ, _<_}
 use native.Mathlib.Omega.{arith}
@@ -10,18 +10,13 @@ use Rattle.protocol.specs.View.{View, Ring}
 use Rattle.protocol.specs.Statement.{Stmt}
 use Rattle.protocol.specs.Evidence.{initial, start, agreed, Sealed}
 use Rattle.protocol.proofs.Asked.{candidates-exact, greatest-holds}
-use Rattle.views.proofs.Tables.{table-length}
+use Rattle.views.proofs.Tables.{views-count}
 use Rattle.evidence.specs.declared.Evidence.{Evidence}
 use Rattle.evidence.specs.Evidence.{Settled}
-use Rattle.ranking.specs.Slots.{viewsOf}
 
 some-in : {A : Type 0} {a : A} (l : List A) → a ∈ l → 0 < length l
 some-in [] m = absurd (List·Memᴰ·not-nil m)
 some-in (x ∷ l) m = omega arith
-
-slots-count : (W : List ℕ) (n : ℕ) → length (viewsOf W n) ≡ n
-unfolding viewsOf
-slots-count W n = table-length n _
 
 sealed-some : {R : Ring} {X : List Stmt} {H : List View} → Sealed R X H → 0 < length H
 sealed-some (start e) = omega (arith, ap length e)
@@ -31,9 +26,9 @@ module _ (R : Ring) (sender : ℕ) (X : List Stmt) (C G : List ℕ) (e : Evidenc
   pub some-candidate : 0 < e .count
   some-candidate =
       let m = candidates-exact R X (R .init) .1 (initial refl) in
-      omega (arith, some-in _ m, ap length (k .of .candidates (k .agree) (k .few)), slots-count C (e .count))
+      omega (arith, some-in _ m, ap length (k .of .candidates (k .agree) (k .few)), views-count C (e .count))
 
   pub some-view : 0 < e .length
   some-view =
       let g = greatest-holds R sender X (rw (sym (k .of .conflict) ∙ k .agree) tt) .0 in
-      omega (arith, sealed-some g, ap length (k .of .greatest (k .agree)), slots-count G (e .length))
+      omega (arith, sealed-some g, ap length (k .of .greatest (k .agree)), views-count G (e .length))

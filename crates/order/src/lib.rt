@@ -4,7 +4,7 @@ ghost use mathlib.Core.List.{[], _∷_};
 ghost use Prim.Native.Nat.{_≤_, _<_};
 ghost use Rattle.protocol.specs.Turn as turn;
 ghost use Rattle.pool.specs.Pool.{recordIn};
-ghost use Rattle.evidence.specs.Evidence.{ringOf, Settled};
+ghost use Rattle.evidence.specs.Evidence.{ringIs, Settled};
 ghost use Rattle.rules.specs.Rules.{statements, ownStatements, candidateViews, greatestViews, firstAmong, Does};
 use pool::POOL_WORDS;
 use pool::RECORD;
@@ -81,7 +81,7 @@ pub fn first_rule(
     greatest: &[u64; View::LIMIT],
     s: Situation,
 ) -> Action
-    requires { ⌜ Settled (ringOf (s .ring)) (s .ring .sender) (recordIn (now words) (now ids)) (now candidates) (now greatest) (s .shown) ⌝ }
+    requires { ⌜ Settled (ringIs (s .ring)) (s .ring .sender) (recordIn (now words) (now ids)) (now candidates) (now greatest) (s .shown) ⌝ }
     ensures { λ r. ⌜ Does (statements (recordIn (now (words .entry)) (now (ids .entry))) ∷ candidateViews (now (candidates .entry)) ∷ greatestViews (now (greatest .entry)) ∷ []) s turn.firstRule r ⌝ }
 {
     let mut own = [0u16; RECORD];

@@ -1,7 +1,7 @@
 -- What a host calls are the calls of a run: crates/guarantee shows what is promised of it.
 -- Assumes nothing.
 use Prim.Native.Nat.{ℕ}
-use mathlib.Core.Path.{_≡_, refl, sym, ap, subst, _∙_}
+use mathlib.Core.Path.{_≡_, sym, subst, _∙_}
 use mathlib.Core.Bool.{Bool, true, false}
 use mathlib.Core.List.{List}
 use mathlib.Core.Option.{none}
@@ -9,8 +9,6 @@ use Rattle.protocol.specs.Lists.{if_then_else_}
 use Rattle.protocol.specs.Statement.{Stmt}
 use Rattle.protocol.specs.Controller as controller
 use Rattle.protocol.specs.Call as call
-use Rattle.protocol.specs.Turn.{turn}
-use Rattle.protocol.specs.Pool.{hasRoom}
 use Rattle.protocol.specs.Run as run
 use Rattle.engine.specs.declared.Controller.{Controller}
 use Rattle.engine.specs.declared.Outcome.{Outcome}
@@ -19,7 +17,7 @@ use Rattle.engine.specs.Promise.{Starts, IsRefused, changeOf, Called}
 use Rattle.host.specs.Statement.{IsStatement}
 use Rattle.pool.specs.Pool.{recordIn}
 use Rattle.host.specs.Memory.{controllerAt}
-use Rattle.host.specs.Host.{Hosted, SetsUp, Joins, Leaves, Sends, TakesTurn, AddsText, noStatement, CalledAt}
+use Rattle.host.specs.Host.{Hosted, SetsUp, Joins, Leaves, Sends, TakesTurn, AddsText, noStatement, HostCalled}
 use Rattle.host.proofs.Hosting.{is-six}
 
 barred : (c : Controller) (X : List Stmt) → IsRefused (noStatement (controllerIs c) X .answer)
@@ -32,7 +30,7 @@ barred c X = go (c .ready)
 
 module _ {F R F′ R′ : List ℕ} {n : ℕ} {value : List ℕ} where
   -- the engine's controller is the memory's
-  at-memory : {W W′ : List ℕ} {k : run.Call} {Met : Outcome → Type 0} (h : Hosted Met F R n F′ R′ value) → Called W R (controllerAt F) k (h .outcome) W′ R′ → CalledAt W F R k n value W′ F′ R′
+  at-memory : {W W′ : List ℕ} {k : run.Call} {Met : Outcome → Type 0} (h : Hosted Met F R n F′ R′ value) → Called W R (controllerAt F) k (h .outcome) W′ R′ → HostCalled W F R k n value W′ F′ R′
   at-memory {W} {W′} {k} h c = record {
     told = h .outcome .answer;
     answered = h .answered;
@@ -40,29 +38,29 @@ module _ {F R F′ R′ : List ℕ} {n : ℕ} {value : List ℕ} where
     called = subst (λ x. Called W R (controllerAt F) k (record { answer = h .outcome .answer; controller = x }) W′ R′) (sym (h .held)) c;
   }
 
-  pub setup-called : (number members sender : ℕ) → SetsUp F R number members sender n F′ R′ value → (W : List ℕ) → CalledAt W F R (run.setupCall number members sender) n value W F′ R′
+  pub setup-called : (number members sender : ℕ) → SetsUp F R number members sender n F′ R′ value → (W : List ℕ) → HostCalled W F R (run.setupCall number members sender) n value W F′ R′
   unfolding run.outcome changeOf Starts
   setup-called number members sender h W = at-memory h (h .met W)
 
-  pub join-called : Joins F R n F′ R′ value → (W : List ℕ) → CalledAt W F R run.joinCall n value W F′ R′
+  pub join-called : Joins F R n F′ R′ value → (W : List ℕ) → HostCalled W F R run.joinCall n value W F′ R′
   unfolding run.outcome changeOf
   join-called h W = at-memory h (h .met W)
 
-  pub leave-called : Leaves F R n F′ R′ value → (W : List ℕ) → CalledAt W F R run.leaveCall n value W F′ R′
+  pub leave-called : Leaves F R n F′ R′ value → (W : List ℕ) → HostCalled W F R run.leaveCall n value W F′ R′
   unfolding run.outcome changeOf
   leave-called h W = at-memory h (h .met W)
 
-  pub send-called : (payload : ℕ) → Sends F R payload n F′ R′ value → (W : List ℕ) → CalledAt W F R (run.sendCall payload) n value W F′ R′
+  pub send-called : (payload : ℕ) → Sends F R payload n F′ R′ value → (W : List ℕ) → HostCalled W F R (run.sendCall payload) n value W F′ R′
   unfolding run.outcome changeOf
   send-called payload h W = at-memory h (h .met W)
 
   module _ {W W′ : List ℕ} where
-    pub turn-called : TakesTurn W W′ F R n F′ R′ value → CalledAt W F R run.turnCall n value W′ F′ R′
+    pub turn-called : TakesTurn W W′ F R n F′ R′ value → HostCalled W F R run.turnCall n value W′ F′ R′
     unfolding run.outcome changeOf
     turn-called h = at-memory h (h .met)
 
     module _ {S : List ℕ} where
-      pub add-called : AddsText S W W′ F R n F′ R′ value → (s : IsStatement S) → CalledAt W F R (run.addCall (s .statement)) n value W′ F′ R′
+      pub add-called : AddsText S W W′ F R n F′ R′ value → (s : IsStatement S) → HostCalled W F R (run.addCall (s .statement)) n value W′ F′ R′
       unfolding run.outcome changeOf
       add-called a s = let h = a .statement s in at-memory h (h .met)
 

@@ -15,21 +15,21 @@ use Rattle.views.proofs.Tables.{table-length}
 use Rattle.statements.specs.declared.Statement.{Statement}
 use Rattle.statements.specs.declared.ReadStatement.{ReadStatement}
 use Rattle.statements.specs.Meaning.{stmtOf, firstViews}
-use Rattle.statements.specs.Promise.{ReadOf, hasRoom, writtenCount, written}
+use Rattle.statements.specs.Promise.{ReadOf, isWritable, writtenCount, written}
 use Rattle.statements.specs.Text.{text}
 use Rattle.statements.proofs.FieldLaws.{views-table}
 use Rattle.pool.specs.declared.Placed.{Placed}
 use Rattle.pool.specs.Pool.{stmtAt, countOf, viewAt, poolLen}
 use Rattle.pool.specs.Changes.{Appended}
 use Rattle.host.specs.Statement.{IsStatement}
-use Rattle.pekdrav.specs.Pooled.{placeNumber, Put, textFits, Texted}
+use Rattle.pekdrav.specs.Pooled.{placeNumber, AppendedText, textFits, Texted}
 use Rattle.host.proofs.Written.{is-statement}
 
-pub stayed : (S W : List ℕ) → (IsStatement S → ⊥) → Put S W 513 W
+pub stayed : (S W : List ℕ) → (IsStatement S → ⊥) → AppendedText S W 513 W
 stayed S W f = record { went = λ s. absurd (f s); refused = λ g. (refl, refl) }
 
 pub went-in : (S : List ℕ) (r : ReadStatement) → ReadOf S r → r .ok ≡ true → fieldRules 16 (stmtOf (r .statement)) ≡ true
-    → (W W′ : List ℕ) (placed : Placed) → Appended W W′ (r .statement) placed → (n : ℕ) → n ≡ placeNumber placed → Put S W n W′
+    → (W W′ : List ℕ) (placed : Placed) → Appended W W′ (r .statement) placed → (n : ℕ) → n ≡ placeNumber placed → AppendedText S W n W′
 unfolding is-statement
 went-in S r p ok k W W′ placed a n e =
     let s : IsStatement S = is-statement S r p ok k in
@@ -53,8 +53,8 @@ module _ (W : List ℕ) (n : ℕ) (out : List ℕ) where
         let b : length (firstViews (st .history .len) (st .history .views)) ≡ st .history .len = ap length (views-table (st .history .len) (st .history .views)) ∙ table-length (st .history .len) (heldAt (st .history .views)) in
         omega (arith, table-length (countOf W n) (viewAt W n))
 
-    room : n < poolLen W → hasRoom st out ≡ textFits W n out
-    unfolding hasRoom textFits
+    room : n < poolLen W → isWritable st out ≡ textFits W n out
+    unfolding isWritable textFits
     room h = rw (le-leb (st .history .len) 16 short, lt-ltb n (poolLen W) h, e)
 
     pub texted : n < poolLen W → (r : ℕ) (after : List ℕ) → (r ≡ writtenCount st out) × (after ≡ written st out) → Texted W n out r after

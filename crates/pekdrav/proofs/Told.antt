@@ -13,17 +13,14 @@ use borrow.Author.Tests.{lt-ltb, le-ltb}
 use mir.Val.{boolByte}
 use Rattle.text.proofs.Stores.{sets-append}
 use Rattle.views.specs.Table.{table}
-use Rattle.views.specs.View.{viewOf}
-use Rattle.views.proofs.Tables.{table-length, table-at, table-cong}
+use Rattle.views.specs.View.{viewOf, viewsOf, wordOf}
+use Rattle.views.proofs.Tables.{table-length, table-at, table-cong, views-count}
 use Rattle.protocol.specs.Lists.{if_then_else_, first, when}
 use Rattle.protocol.specs.View.{View, Ring}
 use Rattle.protocol.specs.Statement.{Stmt}
 use Rattle.protocol.specs.Evidence.{wished, candidates, greatest, certificates, isStored}
-use Rattle.pool.specs.Pool.{wordOf}
-use Rattle.ranking.specs.Slots.{viewsOf}
 use Rattle.evidence.specs.declared.Evidence.{Evidence}
 use Rattle.evidence.specs.Evidence.{EvidenceOf}
-use Rattle.screen.proofs.ScreenLaws.{words-count}
 use Rattle.pekdrav.specs.Evidence.{flag, sixteen, few, certificateWords, conflictWords, agreedWords, toldOf}
 
 -- ---- sixteen words
@@ -36,7 +33,7 @@ view-in : (ws : List ℕ) (n i : ℕ) → wordIn ws n i ≡ getD (map wordOf (vi
 unfolding viewsOf
 view-in ws n i = elim (decLt i n) [
   | yes l ↦ ap (λ b. cond b (wordOf (viewOf (getD ws i 0))) 0) (lt-ltb i n l) ∙ sym (List·getD-map wordOf (viewsOf ws n) i (record { joined = 0; left = 0 }) ∙ ap wordOf (table-at n (λ k. viewOf (getD ws k 0)) _ i l))
-  | no l ↦ ap (λ b. cond b (wordOf (viewOf (getD ws i 0))) 0) (le-ltb i n (omega arith)) ∙ sym (List·getD-eq-default (map wordOf (viewsOf ws n)) 0 (omega (arith, length-map (viewsOf ws n) wordOf, words-count ws n)))
+  | no l ↦ ap (λ b. cond b (wordOf (viewOf (getD ws i 0))) 0) (le-ltb i n (omega arith)) ∙ sym (List·getD-eq-default (map wordOf (viewsOf ws n)) 0 (omega (arith, length-map (viewsOf ws n) wordOf, views-count ws n)))
 ]
 
 pub told-all : (ws : List ℕ) (n : ℕ) → table 16 (wordIn ws n) ≡ sixteen (viewsOf ws n)
@@ -91,7 +88,7 @@ module _ (R : Ring) (sender : ℕ) (X : List Stmt) where
   certificate-told false stored m e f = ap (λ o. certificateWords o (isStored R X)) e
 
   count-told : (C : List ℕ) (n : ℕ) {H : List View} → viewsOf C n ≡ H → n ≡ length H
-  count-told C n e = sym (words-count C n) ∙ ap length e
+  count-told C n e = sym (views-count C n) ∙ ap length e
 
   all-told : (conflict many : Bool) (w : ℕ) (C : List ℕ) (n : ℕ) (G : List ℕ) (m : ℕ) (certified : Bool) (payload : ℕ) (stored : Bool)
       → EvidenceOf R sender X C G (record { conflict = conflict; many = many; wished = w; count = n; length = m; certified = certified; payload = payload; stored = stored })

@@ -11,7 +11,7 @@ use Rattle.protocol.specs.View.{View, Ring}
 use Rattle.protocol.specs.Statement.{Stmt}
 use Rattle.protocol.specs.Evidence.{wished, candidates, greatest, certificates, isConflict, isStored}
 use Rattle.views.specs.Table.{table}
-use Rattle.pool.specs.Pool.{wordOf}
+use Rattle.views.specs.View.{wordOf}
 
 -- 1 for yes, 0 for no.
 abbrev pub flag : Bool → ℕ

@@ -1,4 +1,5 @@
--- What is promised of what a host calls.
+-- What is promised of what a host calls, beside crates/host/specs and crates/screen/specs.
+-- ---- what is promised
 pub mod Scan
 pub mod Pooled
 pub mod Evidence

@@ -3,7 +3,7 @@
 use Prim.Native.Nat.{ℕ}
 use mathlib.Core.Path.{_≡_}
 use mathlib.Core.Bool.{Bool, cond, _&&_}
-use mathlib.Core.List.{List, []}
+use mathlib.Core.List.{List}
 use Rattle.pool.specs.declared.Placed.{Placed}
 use Rattle.pool.specs.declared.Placed.the-variants.{At, Full}
 use Rattle.pool.specs.Pool.{stmtAt, poolLen}
@@ -32,7 +32,7 @@ pub record Went (S W W′ : List ℕ) (r : ℕ) : Type 0 where
   pub answer : r ≡ placeNumber placed
 
 -- Either the statement went in, or S is the text of none, and 513 says so.
-pub record Put (S W : List ℕ) (r : ℕ) (W′ : List ℕ) : Type 0 where
+pub record AppendedText (S W : List ℕ) (r : ℕ) (W′ : List ℕ) : Type 0 where
   pub went : IsStatement S → Went S W W′ r
   pub refused : (IsStatement S → ⊥) → (r ≡ 513) × (W′ ≡ W)
 

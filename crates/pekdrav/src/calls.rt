@@ -1,5 +1,6 @@
-// The engine's calls, one at a time, on a controller in lent memory. A call that has no use for its record is not lent it. Each answers 0 taken, 1 signed, 2 entered, 3 delivered, 4 left, 5 quiet or
-// 6 refused, and tells in `value` the pool number of what was signed, the entered view's word, the delivered payload, the refusal's number, or 0.
+// The engine's calls, one at a time, on a controller in lent memory. Its fields are one array and its record another, since the borrow checker covers no reference to a
+// struct; a host has both in one struct, and a thin wrapper around each of these. A call that has no use for its record is not lent it. Each answers 0 taken, 1 signed, 2 entered,
+// 3 delivered, 4 left, 5 quiet or 6 refused, and tells in `value` the pool number of what was signed, the entered view's word, the delivered payload, the refusal's number, or 0.
 ghost use mathlib.Core.List.{List};
 ghost use Prim.Native.Nat.{ℕ};
 ghost use Rattle.engine.specs.Promise.{Calls};
@@ -8,12 +9,13 @@ ghost use Rattle.host.specs.Host.{noStatement, Fresh, SetsUp, Joins, Leaves, Se
 use engine::Controller;
 use engine::Outcome;
 use engine::Refusal;
+use host::FIELDS;
 use pool::POOL_WORDS;
 use pool::RECORD;
 
 // The memory means a controller before setup.
 #[no_mangle]
-pub extern "C" fn pekdrav_new(fields: &mut [u64; 32], ids: &mut [u16; RECORD])
+pub extern "C" fn pekdrav_raw_controller_init(fields: &mut [u64; FIELDS], ids: &mut [u16; RECORD])
     ensures { λ _. ⌜ Fresh (now (fields .exit)) (now (ids .exit)) ⌝ }
 {
     let c = Controller::new();
@@ -22,8 +24,8 @@ pub extern "C" fn pekdrav_new(fields: &mut [u64; 32], ids: &mut [u16; RECORD])
 }
 
 #[no_mangle]
-pub extern "C" fn pekdrav_setup(
-    fields: &mut [u64; 32],
+pub extern "C" fn pekdrav_raw_controller_setup(
+    fields: &mut [u64; FIELDS],
     ids: &mut [u16; RECORD],
     number: u8,
     members: u16,
@@ -38,7 +40,10 @@ pub extern "C" fn pekdrav_setup(
 }
 
 #[no_mangle]
-pub extern "C" fn pekdrav_join(fields: &mut [u64; 32], value: &mut [u64; 1]) -> u8
+pub extern "C" fn pekdrav_raw_controller_join(
+    fields: &mut [u64; FIELDS],
+    value: &mut [u64; 1],
+) -> u8
     ensures { λ r. ⌜ ((R : List ℕ) → Joins (now (fields .entry)) R r (now (fields .exit)) R (now (value .exit))) ⌝ }
 {
     let c = host::load(fields);
@@ -47,7 +52,10 @@ pub extern "C" fn pekdrav_join(fields: &mut [u64; 32], value: &mut [u64; 1]) -> 
 }
 
 #[no_mangle]
-pub extern "C" fn pekdrav_leave(fields: &mut [u64; 32], value: &mut [u64; 1]) -> u8
+pub extern "C" fn pekdrav_raw_controller_leave(
+    fields: &mut [u64; FIELDS],
+    value: &mut [u64; 1],
+) -> u8
     ensures { λ r. ⌜ ((R : List ℕ) → Leaves (now (fields .entry)) R r (now (fields .exit)) R (now (value .exit))) ⌝ }
 {
     let c = host::load(fields);
@@ -56,7 +64,11 @@ pub extern "C" fn pekdrav_leave(fields: &mut [u64; 32], value: &mut [u64; 1]) ->
 }
 
 #[no_mangle]
-pub extern "C" fn pekdrav_send(fields: &mut [u64; 32], payload: u64, value: &mut [u64; 1]) -> u8
+pub extern "C" fn pekdrav_raw_controller_send(
+    fields: &mut [u64; FIELDS],
+    payload: u64,
+    value: &mut [u64; 1],
+) -> u8
     ensures { λ r. ⌜ ((R : List ℕ) → Sends (now (fields .entry)) R payload r (now (fields .exit)) R (now (value .exit))) ⌝ }
 {
     let c = host::load(fields);
@@ -76,8 +88,8 @@ fn unwritten(c: Controller) -> Outcome
 
 // Adds the statement whose text `line` is.
 #[no_mangle]
-pub extern "C" fn pekdrav_add(
-    fields: &mut [u64; 32],
+pub extern "C" fn pekdrav_raw_controller_add(
+    fields: &mut [u64; FIELDS],
     ids: &mut [u16; RECORD],
     words: &mut [u64; POOL_WORDS],
     line: &[u8],
@@ -97,8 +109,8 @@ pub extern "C" fn pekdrav_add(
 }
 
 #[no_mangle]
-pub extern "C" fn pekdrav_turn(
-    fields: &mut [u64; 32],
+pub extern "C" fn pekdrav_raw_controller_turn(
+    fields: &mut [u64; FIELDS],
     ids: &mut [u16; RECORD],
     words: &mut [u64; POOL_WORDS],
     value: &mut [u64; 1],

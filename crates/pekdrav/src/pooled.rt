@@ -1,33 +1,39 @@
 // A pool whose statements go in and come out by their text.
 ghost use mathlib.Core.Path.{_≡_};
 ghost use Rattle.pool.specs.Changes.{Cleared};
-ghost use Rattle.pekdrav.specs.Pooled.{placeNumber, Put, Texted};
+ghost use Rattle.pekdrav.specs.Pooled.{placeNumber, AppendedText, Texted};
+use pool::CAPACITY;
 use pool::POOL_WORDS;
 use pool::Placed;
+
+// What is answered for a statement that has no room, and for a line that is none.
+const POOL_FULL: u16 = CAPACITY as u16;
+
+const NO_STATEMENT: u16 = POOL_FULL + 1;
 
 fn place_number(p: Placed) -> u16
     ensures { λ r. ⌜ r ≡ placeNumber p ⌝ }
 {
     match p {
         Placed::At(i) => i,
-        Placed::Full => 512,
+        Placed::Full => POOL_FULL,
     }
 }
 
 // The number of the statement that `line` is, which goes to the end of the pool if it is not in it: its words and the number of
-// statements are written, and no other. 512, and the pool as it was, where it is full; 513, and the pool as it was, where `line` is the
-// text of no statement that keeps the field rules.
+// statements are written, and no other. `POOL_FULL`, and the pool as it was, where it is full; `NO_STATEMENT`, and the pool as it was, where
+// `line` is the text of no statement that keeps the field rules.
 #[no_mangle]
-pub extern "C" fn pekdrav_append(words: &mut [u64; POOL_WORDS], line: &[u8]) -> u16
-    ensures { λ r. ⌜ Put (now (line .entry)) (now (words .entry)) r (now (words .exit)) ⌝ }
+pub extern "C" fn pekdrav_pool_append(words: &mut [u64; POOL_WORDS], line: &[u8]) -> u16
+    ensures { λ r. ⌜ AppendedText (now (line .entry)) (now (words .entry)) r (now (words .exit)) ⌝ }
 {
     let r = statements::read(line);
     if !r.ok {
-        return 513;
+        return NO_STATEMENT;
     }
     let st = r.statement;
     if !statements::keeps_field_rules(st) {
-        return 513;
+        return NO_STATEMENT;
     }
     let p = pool::append(words, st);
     place_number(p)
@@ -35,7 +41,7 @@ pub extern "C" fn pekdrav_append(words: &mut [u64; POOL_WORDS], line: &[u8]) -> 
 
 // An empty pool.
 #[no_mangle]
-pub extern "C" fn pekdrav_clear(words: &mut [u64; POOL_WORDS])
+pub extern "C" fn pekdrav_pool_clear(words: &mut [u64; POOL_WORDS])
     ensures { λ _. ⌜ Cleared (now (words .entry)) (now (words .exit)) ⌝ }
 {
     pool::clear(words);
@@ -44,7 +50,7 @@ pub extern "C" fn pekdrav_clear(words: &mut [u64; POOL_WORDS])
 // Writes the text of statement n from the start of `out`, and answers its length; 0, and `out` as it was, where the pool has no such statement
 // or `out` is too short.
 #[no_mangle]
-pub extern "C" fn pekdrav_text(words: &[u64; POOL_WORDS], n: u16, out: &mut [u8]) -> usize
+pub extern "C" fn pekdrav_pool_text(words: &[u64; POOL_WORDS], n: u16, out: &mut [u8]) -> usize
     ensures { λ r. ⌜ Texted (now (words .entry)) n (now (out .entry)) r (now (out .exit)) ⌝ }
 {
     if n as usize >= pool::pool_len(words) {

@@ -25,9 +25,9 @@ fn is_at(words: &[u64; POOL_WORDS], n: u16, kind: u8, at: u64) -> bool
 
 // The set of those who signed a statement of this kind at this view, bit k for controller k, in a record.
 #[no_mangle]
-pub extern "C" fn pekdrav_signers(
-    words: &[u64; POOL_WORDS],
+pub extern "C" fn pekdrav_record_signers(
     ids: &[u16; RECORD],
+    words: &[u64; POOL_WORDS],
     kind: u8,
     at: u64,
 ) -> u32

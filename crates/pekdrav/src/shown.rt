@@ -4,18 +4,37 @@ ghost use mathlib.Core.Bool.{cond};
 ghost use Prim.Native.Nat.{_≤_};
 ghost use lib.ListN.{length};
 ghost use lib.Seq.{sets};
-ghost use Rattle.views.specs.View.{viewOf, ring};
-ghost use Rattle.pool.specs.Pool.{wordOf, recordIn};
-ghost use Rattle.ranking.specs.Slots.{viewsOf};
-ghost use Rattle.screen.specs.Screen.{Shows};
+ghost use Rattle.views.specs.View.{viewOf, ringOfWord, viewsOf, wordOf};
+ghost use Rattle.pool.specs.Pool.{recordIn};
+ghost use Rattle.screen.specs.Screen.{ScreenShows};
 ghost use Rattle.pekdrav.specs.Evidence.{sixteen, toldOf};
 use evidence::Ring;
 use pool::POOL_WORDS;
 use pool::RECORD;
 use views::View;
 
-// The words of an answer: eight numbers, the candidates, the greatest history.
-pub const TOLD_WORDS: usize = 8 + 2 * View::LIMIT;
+// Where each word of an answer is: eight numbers, the candidates, the greatest history.
+const CONFLICT: usize = 0;
+
+const MANY: usize = 1;
+
+const WISHED: usize = 2;
+
+const COUNT: usize = 3;
+
+const LENGTH: usize = 4;
+
+const CERTIFIED: usize = 5;
+
+const PAYLOAD: usize = 6;
+
+const STORED: usize = 7;
+
+const CANDIDATES: usize = 8;
+
+const GREATEST: usize = CANDIDATES + View::LIMIT;
+
+const TOLD_WORDS: usize = GREATEST + View::LIMIT;
 
 // A view's word, which is told as it is.
 fn told(v: u64) -> u64
@@ -59,14 +78,14 @@ fn tell(out: &mut [u64; TOLD_WORDS], from: usize, views: &[u64; View::LIMIT], n:
 // after a conflict every word but 0 and 2, with more than sixteen candidates word 3 and the candidates, without a certificate words 6
 // and 7, and the words after the last view.
 #[no_mangle]
-pub extern "C" fn pekdrav_evidence(
-    words: &[u64; POOL_WORDS],
+pub extern "C" fn pekdrav_record_evidence(
     ids: &[u16; RECORD],
+    words: &[u64; POOL_WORDS],
     init: u64,
     sender: u8,
     out: &mut [u64; TOLD_WORDS],
 )
-    ensures { λ _. ⌜ now (out .exit) ≡ toldOf (ring init) sender (recordIn (now (words .entry)) (now (ids .entry))) ⌝ }
+    ensures { λ _. ⌜ now (out .exit) ≡ toldOf (ringOfWord init) sender (recordIn (now (words .entry)) (now (ids .entry))) ⌝ }
 {
     room(out);
     let mut candidates = [0u64; View::LIMIT];
@@ -77,29 +96,29 @@ pub extern "C" fn pekdrav_evidence(
     let certified = agreed & e.certified;
     let count = when(agreed & !e.many, e.count as u64);
     let length = when(agreed, e.length as u64);
-    out[0] = e.conflict as u64;
-    out[1] = (agreed & e.many) as u64;
-    out[2] = told(e.wished);
-    out[3] = count;
-    out[4] = length;
-    out[5] = certified as u64;
-    out[6] = when(certified, e.payload);
-    out[7] = (certified & e.stored) as u64;
-    tell(out, 8, &candidates, count);
-    tell(out, 24, &greatest, length);
+    out[CONFLICT] = e.conflict as u64;
+    out[MANY] = (agreed & e.many) as u64;
+    out[WISHED] = told(e.wished);
+    out[COUNT] = count;
+    out[LENGTH] = length;
+    out[CERTIFIED] = certified as u64;
+    out[PAYLOAD] = when(certified, e.payload);
+    out[STORED] = (certified & e.stored) as u64;
+    tell(out, CANDIDATES, &candidates, count);
+    tell(out, GREATEST, &greatest, length);
 }
 
 // Writes what a record shows from the start of `out`, in lines, and answers the text's length; 0, and `out` as
 // it was, where `out` has fewer than 512 bytes.
 #[no_mangle]
-pub extern "C" fn pekdrav_shown(
-    words: &[u64; POOL_WORDS],
+pub extern "C" fn pekdrav_record_screen(
     ids: &[u16; RECORD],
+    words: &[u64; POOL_WORDS],
     init: u64,
     sender: u8,
     out: &mut [u8],
 ) -> usize
-    ensures { λ r. ⌜ Shows (ring init) sender (recordIn (now (words .entry)) (now (ids .entry))) (now (out .entry)) r (now (out .exit)) ⌝ }
+    ensures { λ r. ⌜ ScreenShows (ringOfWord init) sender (recordIn (now (words .entry)) (now (ids .entry))) (now (out .entry)) r (now (out .exit)) ⌝ }
 {
     screen::shown(words, ids, Ring { init, sender }, out)
 }

@@ -1,18 +1,17 @@
--- The views of a statement of the pool: as a list by index, and that each is one of the sixteen controllers.
+-- The views of a statement of the pool: as a list by index, whether a history has them all, and that each is one of the sixteen controllers.
 -- Assumes nothing.
-use mathlib.Core.Path.{_≡_, refl, sym, ap, subst, _∙_}
-use mathlib.Core.Logic.{inl, inr}
-use mathlib.Core.List.{List, List·Memᴰ·append-cases, List·Memᴰ·eq-of-singleton, List·Memᴰ·not-nil}
-use Prim.Native.Nat.{ℕ, zero, suc, _-_}
-use native.Mathlib.Omega.{arith}
-use Rattle.protocol.specs.Lists.{_∈_}
-use Rattle.protocol.specs.View.{View}
-use Rattle.protocol.specs.History.{top}
+use mathlib.Core.Path.{_≡_, sym, ap, _∙_}
+use mathlib.Core.Bool.{Bool, true, false}
+use mathlib.Core.List.{List}
+use Prim.Native.Nat.{ℕ, _+_, _<_}
+use Rattle.protocol.specs.Lists.{any, all}
+use Rattle.protocol.specs.View.{View, sameView}
+use Rattle.protocol.specs.History.{holds}
 use Rattle.protocol.proofs.Bits.{Fits}
 use Rattle.views.specs.Table.{table}
-use Rattle.views.specs.View.{viewOf, ring}
+use Rattle.views.specs.View.{viewOf}
+use Rattle.views.proofs.Tables.{all-zero, all-more, all-miss}
 use Rattle.views.proofs.Views.{fits-in}
-use Rattle.views.proofs.Histories.{top-none, top-some}
 use Rattle.pool.specs.Pool.{word, viewWord, countOf, viewAt, stmtAt}
 
 -- the first c views of statement n are all, where it has c
@@ -26,12 +25,33 @@ module _ {A : Type 0} (g : List View → A) (W : List ℕ) (n : ℕ) where
   pub of-views : (c : ℕ) {r : A} → c ≡ countOf W n → r ≡ g (table c (viewAt W n)) → r ≡ g (stmtAt W n .views)
   of-views c e q = q ∙ ap g (views-of W n c e)
 
--- ---- no statement of the pool has a view with other bits
+-- ---- a loop that asks whether each view of statement n is in H
 
-in-table : (P : View → Type 0) (n : ℕ) (f : ℕ → View) → ((i : ℕ) → P (f i)) → (v : View) → v ∈ table n f → P v
-unfolding table
-in-table P zero f h v m = absurd (List·Memᴰ·not-nil m)
-in-table P (suc n) f h v m = elim (List·Memᴰ·append-cases (table n f) m) [ inl a ↦ in-table P n f h v a | inr a ↦ subst P (sym (List·Memᴰ·eq-of-singleton a)) (h n) ]
+module _ (H : List View) (W : List ℕ) (n : ℕ) where
+  -- the views before p are
+  abbrev pub HeldTo : ℕ → Type 0
+  HeldTo p = all (λ v. any (sameView v) H) (table p (viewAt W n)) ≡ true
+
+  pub held-first : HeldTo 0
+  held-first = all-zero _ _
+
+  -- w is the word of view p
+  module _ (p w : ℕ) {b : Bool} (is : viewOf w ≡ viewAt W n p) (asked : b ≡ any (sameView (viewOf w)) H) where
+    here : any (sameView (viewAt W n p)) H ≡ b
+    here = ap (λ v. any (sameView v) H) (sym is) ∙ sym asked
+
+    pub held-next : HeldTo p → b ≡ true → HeldTo (p + 1)
+    held-next h e = all-more _ _ _ h (here ∙ e)
+
+    pub held-not : (c : ℕ) → c ≡ countOf W n → p < c → b ≡ false → false ≡ holds H (stmtAt W n .views)
+    unfolding holds
+    held-not c q l e = of-views (holds H) W n c q (sym (all-miss _ _ _ l (here ∙ e)))
+
+  pub held-all : (c : ℕ) → c ≡ countOf W n → HeldTo c → true ≡ holds H (stmtAt W n .views)
+  unfolding holds
+  held-all c q h = of-views (holds H) W n c q (sym h)
+
+-- ---- no statement of the pool has a view with other bits
 
 module _ (W : List ℕ) (n : ℕ) where
   pub at-fits : Fits 16 (stmtAt W n .at)
@@ -44,15 +64,3 @@ module _ (W : List ℕ) (n : ℕ) where
 
   pub nth-fits : (p : ℕ) → Fits 16 (viewAt W n p)
   nth-fits p = fits-in (viewWord W n p)
-
-  pub views-fit : (v : View) → v ∈ stmtAt W n .views → Fits 16 v
-  unfolding stmtAt
-  views-fit v m = in-table (Fits 16) (countOf W n) (viewAt W n) nth-fits v m
-
-  pub top-fits : (init : ℕ) → Fits 16 (viewOf init) → Fits 16 (top (ring init) (stmtAt W n .views))
-  unfolding stmtAt
-  top-fits init f = go (countOf W n)
-    where
-      go : (c : ℕ) → Fits 16 (top (ring init) (table c (viewAt W n)))
-      go zero = subst (Fits 16) (top-none (viewAt W n) (ring init) 0 refl) f
-      go (suc c) = subst (Fits 16) (top-some (viewAt W n) (ring init) (suc c) (λ e. omega arith)) (nth-fits (suc c - 1))

@@ -11,13 +11,13 @@ use borrow.Author.Tests.{lt-ltb, le-ltb}
 use Rattle.protocol.specs.Lists.{if_then_else_}
 use Rattle.views.specs.Table.{table}
 use Rattle.views.proofs.Tables.{table-cong}
-use Rattle.pool.specs.Pool.{stmtAt, recordOf, recordLen, recordIn}
+use Rattle.pool.specs.Pool.{stmtAt, recordUpTo, recordLen, recordIn}
 use Rattle.pool.specs.Changes.{pushedTo, PushedTo, Emptied}
 use Rattle.pool.proofs.Records.{entry}
 
 -- records of the same first numbers are the same
-pub same-numbers : (W R R′ : List ℕ) (n m : ℕ) → min n 512 ≡ min m 512 → ((i : ℕ) → i < min m 512 → getD R′ i 0 ≡ getD R i 0) → recordOf W R′ n ≡ recordOf W R m
-unfolding recordOf
+pub same-numbers : (W R R′ : List ℕ) (n m : ℕ) → min n 512 ≡ min m 512 → ((i : ℕ) → i < min m 512 → getD R′ i 0 ≡ getD R i 0) → recordUpTo W R′ n ≡ recordUpTo W R m
+unfolding recordUpTo
 same-numbers W R R′ n m e q = ap (λ k. table k (entry W R′)) e ∙ table-cong (min m 512) (entry W R′) (entry W R) (λ i l. ap (stmtAt W) (q i l))
 
 module _ (R : List ℕ) (id : ℕ) (h : length R ≡ 513) where
@@ -50,7 +50,7 @@ module _ (R : List ℕ) (id : ℕ) (h : length R ≡ 513) where
     counts = ap (λ k. min k 512) counted ∙ omega arith
 
     grown : (W : List ℕ) → recordIn W after ≡ recordIn W R ++ (stmtAt W id ∷ [])
-    unfolding recordOf table
+    unfolding recordUpTo table
     grown W =
         let z : recordLen after ≡ suc n = counts ∙ omega arith in
         ap (λ m. table m (entry W after)) z
@@ -71,7 +71,7 @@ module _ (R : List ℕ) (id : ℕ) (h : length R ≡ 513) where
         }
 
 pub emptied : (R : List ℕ) → length R ≡ 513 → Emptied R (set R 512 0)
-unfolding recordOf table
+unfolding recordUpTo table
 emptied R h =
     let z : recordLen (set R 512 0) ≡ 0 = ap (λ k. min k 512) (getD-set-same R 512 0 0 (omega (arith, h))) in
     record { is = refl; long = length-set R 512 0 ∙ h; len = z; none = λ W. ap (λ m. table m (entry W (set R 512 0))) z }

@@ -5,7 +5,8 @@ use Prim.Native.Nat.{ℕ, _+_, _*_, _/_, _%_, _≤_, _<_, min}
 use native.Mathlib.Omega.{arith}
 use lib.ListN.{length}
 use Rattle.protocol.specs.Statement.{Stmt}
-use Rattle.pool.specs.Changes.{headOf, headWord, IsHead}
+use Rattle.pool.specs.Steps.{IsHead}
+use Rattle.pool.specs.Changes.{headOf, headWord}
 
 -- the low 16 bits of a word are its kind and origin
 pub low-parts : (w : ℕ) → w % 65536 ≡ w % 256 + w / 256 % 256 * 256

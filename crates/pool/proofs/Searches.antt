@@ -27,10 +27,10 @@ use Rattle.statements.specs.declared.Statement.{Statement}
 use Rattle.statements.specs.Meaning.{stmtOf}
 use Rattle.pool.specs.declared.Found.the-variants as found
 use Rattle.pool.specs.declared.Placed.the-variants as placed
-use Rattle.pool.specs.Pool.{viewsFrom, lastWord, poolWords, headAt, word, viewWord, countOf, viewAt, stmtAt, poolLen, poolOf, recordOf}
-use Rattle.pool.specs.Changes.{headOf, isOther, owner, Beside, putAt, Put, numberOf, foundOf, placedAt, pooledIn, Grown, Appended, Cleared}
+use Rattle.pool.specs.Pool.{viewsFrom, lastWord, poolWords, headAt, word, viewWord, countOf, viewAt, stmtAt, poolLen, poolOf}
+use Rattle.pool.specs.Steps.{isOther, Put, foundOf}
+use Rattle.pool.specs.Changes.{headOf, owner, Beside, putAt, poolNumber, placedAt, pooledIn, Appended, Cleared}
 use Rattle.pool.proofs.Parts.{low-parts}
-use Rattle.pool.proofs.Records.{entry}
 use Rattle.pool.proofs.Writes.{stmts, owner-low, owner-high, beside-put, beside-count, beside-same}
 
 -- ---- two statements
@@ -107,15 +107,21 @@ module _ (W : List ℕ) (s : Stmt) where
   pub seek-more : (i : ℕ) (b : Bool) → numberTo i ≡ none → b ≡ sameStmt s (stmtAt W i) → b ≡ false → numberTo (i + 1) ≡ none
   seek-more i b e f g = find-more (λ i. sameStmt s (stmtAt W i)) (λ i. i) i e (sym f ∙ g)
 
-  pub seek-found : (i n : ℕ) (b : Bool) → i < n → n ≡ poolLen W → numberTo i ≡ none → b ≡ sameStmt s (stmtAt W i) → b ≡ true → found.At i ≡ foundOf (numberOf W s)
-  unfolding numberOf
+  pub seek-found : (i n : ℕ) (b : Bool) → i < n → n ≡ poolLen W → numberTo i ≡ none → b ≡ sameStmt s (stmtAt W i) → b ≡ true → found.At i ≡ foundOf (poolNumber W s)
+  unfolding poolNumber
   seek-found i n b l m e f g = ap foundOf (sym (find-at (λ i. sameStmt s (stmtAt W i)) (λ i. i) (poolLen W) i (omega arith) e (sym f ∙ g)))
 
-  pub seek-all : (i : ℕ) → i ≡ poolLen W → numberTo i ≡ none → found.Nothing ≡ foundOf (numberOf W s)
-  unfolding numberOf
+  pub seek-all : (i : ℕ) → i ≡ poolLen W → numberTo i ≡ none → found.Nothing ≡ foundOf (poolNumber W s)
+  unfolding poolNumber
   seek-all i e f = ap foundOf (sym (rw e at f))
 
 -- what was found is a number, or none
+
+pub full≢at : {n : ℕ} → placed.Full ≡ placed.At n → ⊥
+full≢at e = let z : _≡_ {A = ℕ} 0 1 = cc in omega arith
+
+pub at-injective : {m n : ℕ} → placed.At m ≡ placed.At n → m ≡ n
+at-injective e = cc
 
 pub found-at : (o : Option ℕ) (i : ℕ) → found.At i ≡ foundOf o → o ≡ some i
 found-at none i e = absurd (let n : _≡_ {A = ℕ} 0 1 = cc in omega arith)
@@ -163,17 +169,18 @@ cleared W l =
     let z : poolLen (set W lastWord 0) ≡ 0 = counted W 0 (omega arith) (omega arith) in
     record { is = refl; long = length-set W lastWord 0 ∙ l; len = z; none = ap (λ n. table n (stmtAt (set W lastWord 0))) z }
 
--- memory that is all 0 is an empty pool
+-- memory that is all 0
+pub zeros : (w i : ℕ) → getD (replicate {A = ℕ} w 0) i 0 ≡ 0
+zeros zero i = refl
+zeros (suc w) zero = refl
+zeros (suc w) (suc i) = zeros w i
+
+-- it is an empty pool
 pub fresh : (w : ℕ) → (poolLen (replicate {A = ℕ} w 0) ≡ 0) × (poolOf (replicate {A = ℕ} w 0) ≡ [])
 unfolding poolLen poolOf table
 fresh w =
     let z : min (getD (replicate {A = ℕ} w 0) lastWord 0) 512 ≡ 0 = ap (λ x. min x 512) (zeros w lastWord) in
     (z, ap (λ n. table n (stmtAt (replicate {A = ℕ} w 0))) z)
-  where
-    zeros : (w i : ℕ) → getD (replicate {A = ℕ} w 0) i 0 ≡ 0
-    zeros zero i = refl
-    zeros (suc w) zero = refl
-    zeros (suc w) (suc i) = zeros w i
 
 -- ---- one statement more
 
@@ -182,13 +189,13 @@ abbrev pooledAs : List ℕ → Stmt → Bool → List ℕ
 pooledAs W s stays = if stays then W else set (putAt W (poolLen W) s) lastWord (poolLen W + 1)
 
 module _ (W : List ℕ) (st : Statement) where
-  stays : (o : Option ℕ) (b : Bool) → numberOf W (stmtOf st) ≡ o → leb 512 (poolLen W) ≡ b → pooledIn W (stmtOf st) ≡ pooledAs W (stmtOf st) (isSome o || b)
+  stays : (o : Option ℕ) (b : Bool) → poolNumber W (stmtOf st) ≡ o → leb 512 (poolLen W) ≡ b → pooledIn W (stmtOf st) ≡ pooledAs W (stmtOf st) (isSome o || b)
   unfolding pooledIn
   stays o b e f = ap₂ (λ x y. pooledAs W (stmtOf st) (isSome x || y)) e f
 
-  pub append-old : (i : ℕ) → found.At i ≡ foundOf (numberOf W (stmtOf st)) → Appended W W st (placed.At i)
+  pub append-old : (i : ℕ) → found.At i ≡ foundOf (poolNumber W (stmtOf st)) → Appended W W st (placed.At i)
   append-old i e =
-      let o : numberOf W (stmtOf st) ≡ some i = found-at (numberOf W (stmtOf st)) i e in
+      let o : poolNumber W (stmtOf st) ≡ some i = found-at (poolNumber W (stmtOf st)) i e in
       record {
         answer = ap (λ x. placedAt x (poolLen W)) (sym o);
         is = sym (stays (some i) _ o refl);
@@ -197,9 +204,9 @@ module _ (W : List ℕ) (st : Statement) where
         new = λ f l. absurd (let n : _≡_ {A = ℕ} 0 1 = cc in omega arith);
       }
 
-  pub append-full : (n : ℕ) → found.Nothing ≡ foundOf (numberOf W (stmtOf st)) → n ≡ poolLen W → 512 ≤ n → Appended W W st placed.Full
+  pub append-full : (n : ℕ) → found.Nothing ≡ foundOf (poolNumber W (stmtOf st)) → n ≡ poolLen W → 512 ≤ n → Appended W W st placed.Full
   append-full n e q l =
-      let o : numberOf W (stmtOf st) ≡ none = found-none (numberOf W (stmtOf st)) e in
+      let o : poolNumber W (stmtOf st) ≡ none = found-none (poolNumber W (stmtOf st)) e in
       record {
         answer = sym (ap (λ x. placedAt x (poolLen W)) o ∙ ap (λ b. if b then placed.At (poolLen W) else placed.Full) (le-ltb (poolLen W) 512 (omega arith)));
         is = sym (stays none true o (le-leb 512 (poolLen W) (omega arith)));
@@ -208,9 +215,9 @@ module _ (W : List ℕ) (st : Statement) where
         new = λ f h. absurd (omega arith);
       }
 
-  pub append-new : (n : ℕ) (U : List ℕ) → length W ≡ poolWords → found.Nothing ≡ foundOf (numberOf W (stmtOf st)) → n ≡ poolLen W → n < 512 → Put W U n st → Appended W (set U lastWord (n + 1)) st (placed.At n)
+  pub append-new : (n : ℕ) (U : List ℕ) → length W ≡ poolWords → found.Nothing ≡ foundOf (poolNumber W (stmtOf st)) → n ≡ poolLen W → n < 512 → Put W U n st → Appended W (set U lastWord (n + 1)) st (placed.At n)
   append-new n U long e q l p =
-      let o : numberOf W (stmtOf st) ≡ none = found-none (numberOf W (stmtOf st)) e in
+      let o : poolNumber W (stmtOf st) ≡ none = found-none (poolNumber W (stmtOf st)) e in
       let u : U ≡ putAt W (poolLen W) (stmtOf st) = p .is ∙ (let k : min n 511 ≡ poolLen W = omega arith in ap (λ k. putAt W k (stmtOf st)) k) in
       let b : Beside W U (poolLen W) = subst (λ k. Beside W k (poolLen W)) (sym u) (beside-put W (poolLen W) (stmtOf st) (omega arith)) in
       let c : Beside W (set U lastWord (n + 1)) (poolLen W) = beside-count W U (poolLen W) (n + 1) b in
@@ -231,22 +238,9 @@ module _ (W : List ℕ) (st : Statement) where
 
 pub pooled-beside : (W : List ℕ) (s : Stmt) → Beside W (pooledIn W s) (poolLen W)
 unfolding pooledIn
-pooled-beside W s = go (isSome (numberOf W s)) (leb 512 (poolLen W)) refl
+pooled-beside W s = go (isSome (poolNumber W s)) (leb 512 (poolLen W)) refl
   where
     go : (x y : Bool) → leb 512 (poolLen W) ≡ y → Beside W (pooledAs W s (x || y)) (poolLen W)
     go true y e = beside-same W (poolLen W)
     go false true e = beside-same W (poolLen W)
     go false false e = beside-count W (putAt W (poolLen W) s) (poolLen W) (poolLen W + 1) (beside-put W (poolLen W) s (omega (arith, leb-false 512 (poolLen W) e)))
-
--- ---- for callers: the pool and the records after an addition
-
-pub pool-grown : (W W′ : List ℕ) (st : Statement) → Grown W W′ st → poolLen W < 512 → st .history .len ≤ 16 → poolOf W′ ≡ poolOf W ++ (stmtOf st ∷ [])
-unfolding poolOf table
-pool-grown W W′ st g l h =
-    ap (λ n. table n (stmtAt W′)) (g .len ∙ add-one (poolLen W))
-    ∙ ap₂ (λ k s. k ++ (s ∷ [])) (table-cong (poolLen W) (stmtAt W′) (stmtAt W) (λ i m. g .others i (λ e. omega arith))) (g .there h)
-
--- a record whose numbers are all in the pool
-pub record-grown : (W W′ ids : List ℕ) (len : ℕ) (st : Statement) → Grown W W′ st → poolLen W < 512 → ((i : ℕ) → i < min len 512 → getD ids i 0 < poolLen W) → recordOf W′ ids len ≡ recordOf W ids len
-unfolding recordOf
-record-grown W W′ ids len st g l all = table-cong (min len 512) (entry W′ ids) (entry W ids) (λ i m. g .others (getD ids i 0) (λ e. omega (arith, all i m)))

@@ -2,13 +2,11 @@
 -- Assumes nothing.
 use mathlib.Core.Path.{_≡_, refl, sym, ap, _∙_}
 use mathlib.Core.Logic.{_⊎_, inl, inr}
-use mathlib.Core.Bool.{cond}
-use mathlib.Core.List.{List, [], _∷_, _++_, map, map-append}
+use mathlib.Core.List.{List, [], _∷_, _++_, map}
 use Prim.Native.Nat.{ℕ, zero, suc, _+_, _-_, _*_, _/_, _%_, _≤_, _<_, min}
 use native.Mathlib.Decide.{decLt}
 use native.Mathlib.Numerals.{add-one}
 use native.Mathlib.Omega.{arith}
-use lib.Dec.{eqb}
 use lib.ListN.{length, getD, set, take, length-set, length-map, length-take}
 use lib.Seq.{sets, length-sets, take-all, getD-set-same, getD-set-other}
 use borrow.Author.Tests.{lt-ltb, le-ltb}
@@ -18,16 +16,17 @@ use Rattle.protocol.specs.Statement.{Stmt}
 use Rattle.views.specs.declared.View as held
 use Rattle.views.specs.declared.History.{History}
 use Rattle.views.specs.Table.{table}
-use Rattle.views.specs.View.{viewOf, viewIn}
+use Rattle.views.specs.View.{viewOf, viewIn, wordOf}
 use Rattle.views.specs.Held.{viewIs, heldAt, viewsIs}
-use Rattle.views.proofs.Tables.{table-length, table-at, table-cong, take-table}
+use Rattle.views.proofs.Tables.{table-length, table-at, table-cong, take-table, map-table}
 use Rattle.views.proofs.Views.{view-whole}
 use Rattle.views.proofs.Held.{held-fits}
 use Rattle.statements.specs.declared.Statement.{Statement}
 use Rattle.statements.specs.Meaning.{firstViews, stmtOf}
 use Rattle.statements.proofs.FieldLaws.{views-table}
-use Rattle.pool.specs.Pool.{wordOf, viewsFrom, lastWord, poolWords, headAt, word, viewWord, countOf, viewAt, stmtAt}
-use Rattle.pool.specs.Changes.{owner, Beside, headWord, putAt, Put, IsHead}
+use Rattle.pool.specs.Pool.{viewsFrom, lastWord, poolWords, headAt, word, viewWord, countOf, viewAt, stmtAt}
+use Rattle.pool.specs.Steps.{IsHead, Put}
+use Rattle.pool.specs.Changes.{owner, Beside, headWord, putAt}
 
 -- statements are the same if their fields are
 pub stmts : {a b : Stmt} → a .kind ≡ b .kind → a .origin ≡ b .origin → a .at ≡ b .at → a .view ≡ b .view → a .binding ≡ b .binding → a .payload ≡ b .payload → a .stored ≡ b .stored → a .kept ≡ b .kept → a .views ≡ b .views → a ≡ b
@@ -89,11 +88,6 @@ word-in v i = record { joined = low i; left = high i }
 
     high : wordOf (viewIs v) / 4294967296 % 65536 ≡ viewIs v .left
     high = omega arith
-
-map-table : {A B : Type 0} (g : A → B) (n : ℕ) (f : ℕ → A) → map g (table n f) ≡ table n (λ i. g (f i))
-unfolding table
-map-table g zero f = refl
-map-table g (suc n) f = map-append g (table n f) (f n ∷ []) ∙ ap (λ l. l ++ (g (f n) ∷ [])) (map-table g n f)
 
 -- the word of view p
 abbrev pub heldWord : List held.View → ℕ → ℕ
@@ -286,9 +280,3 @@ beside-count W U n v b = record { long = length-set U lastWord v ∙ b .long; ot
 
 pub beside-same : (W : List ℕ) (n : ℕ) → Beside W W n
 beside-same W n = record { long = refl; others = λ i o k. refl }
-
--- a flag that is read back
-pub flag-is : (x : ℕ) → x ≤ 1 → cond (eqb x 1) 1 0 ≡ x
-flag-is zero l = refl
-flag-is (suc zero) l = refl
-flag-is (suc (suc x)) l = absurd (omega arith)

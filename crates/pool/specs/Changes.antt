@@ -2,25 +2,22 @@
 -- Every word after it is fixed: a statement is written in one way, and no other word changes, not even a place after its last view.
 -- Assumes nothing.
 use mathlib.Core.Path.{_≡_}
-use mathlib.Core.Bool.{Bool, not, _||_}
+use mathlib.Core.Bool.{_||_}
 use mathlib.Core.List.{List, _∷_, [], _++_, map}
 use mathlib.Core.Option.{Option, some, none}
 use Prim.Native.Nat.{ℕ, _+_, _-_, _*_, _/_, _%_, _≤_, _<_, min}
-use lib.Dec.{eqb, leb, ltb}
+use lib.Dec.{leb, ltb}
 use lib.ListN.{length, getD, set, take}
 use lib.Seq.{sets}
 use Rattle.protocol.specs.Lists.{if_then_else_, find, isSome}
-use Rattle.protocol.specs.View.{sameView}
 use Rattle.protocol.specs.Statement.{Stmt, sameStmt}
 use Rattle.views.specs.Table.{table}
-use Rattle.views.specs.View.{viewOf}
+use Rattle.views.specs.View.{wordOf}
 use Rattle.statements.specs.declared.Statement.{Statement}
 use Rattle.statements.specs.Meaning.{stmtOf}
-use Rattle.pool.specs.declared.Found.{Found}
-use Rattle.pool.specs.declared.Found.the-variants as found
 use Rattle.pool.specs.declared.Placed.{Placed}
 use Rattle.pool.specs.declared.Placed.the-variants as placed
-use Rattle.pool.specs.Pool.{wordOf, viewsFrom, lastWord, poolWords, stmtAt, poolLen, poolOf, recordLen, recordIn}
+use Rattle.pool.specs.Pool.{viewsFrom, lastWord, poolWords, stmtAt, poolLen, poolOf, recordLen, recordIn}
 
 -- The statement that word i is of. It is 512 for the number of statements, which is of none.
 unfoldable pub owner : ℕ → ℕ
@@ -35,10 +32,6 @@ pub record Beside (W W′ : List ℕ) (n : ℕ) : Type 0 where
 unfoldable pub headOf : Stmt → ℕ
 headOf s = s .kind + s .origin * 256
 
--- The statement s has another kind or origin than the number key, or another at than the word t.
-unfoldable pub isOther : Stmt → ℕ → ℕ → Bool
-isOther s key t = not (eqb (headOf s) key) || not (sameView (s .at) (viewOf t))
-
 -- The head of a statement. Of more than 16 views it counts 16.
 unfoldable pub headWord : Stmt → ℕ
 headWord s = headOf s + min (length (s .views)) 16 * 16777216 + s .binding * 4294967296 + s .stored * 1099511627776
@@ -49,26 +42,9 @@ putAt W n s =
     sets (set (set (set (set (set W n (headWord s)) (n + 512) (wordOf (s .at))) (n + 1024) (wordOf (s .view))) (n + 1536) (s .payload)) (n + 2048) (s .kept)) (viewsFrom + n * 16)
     (map wordOf (take 16 (s .views)))
 
--- Statement n is st now. A number above 511 counts as 511.
-pub record Put (W W′ : List ℕ) (n : ℕ) (st : Statement) : Type 0 where
-  pub is : W′ ≡ putAt W (min n 511) (stmtOf st)
-  pub there : st .history .len ≤ 16 → stmtAt W′ n ≡ stmtOf st
-
--- The word w is the head of the statement s with c views.
-pub record IsHead (w : ℕ) (s : Stmt) (c : ℕ) : Type 0 where
-  pub kind : w % 256 ≡ s .kind
-  pub origin : w / 256 % 256 ≡ s .origin
-  pub count : min (w / 16777216 % 256) 16 ≡ c
-  pub binding : min (w / 4294967296 % 256) 2 ≡ s .binding
-  pub stored : min (w / 1099511627776 % 256) 1 ≡ s .stored
-
 -- The first number of the pool whose statement is s.
-unfoldable pub numberOf : List ℕ → Stmt → Option ℕ
-numberOf W s = find (λ i. sameStmt s (stmtAt W i)) (table (poolLen W) (λ i. i))
-
-abbrev pub foundOf : Option ℕ → Found
-foundOf none = found.Nothing
-foundOf (some i) = found.At i
+unfoldable pub poolNumber : List ℕ → Stmt → Option ℕ
+poolNumber W s = find (λ i. sameStmt s (stmtAt W i)) (table (poolLen W) (λ i. i))
 
 -- Where a statement goes that was found there, in a pool of this length: its number is used again, or it goes to the end.
 abbrev pub placedAt : Option ℕ → ℕ → Placed
@@ -77,7 +53,7 @@ placedAt (some i) n = placed.At i
 
 -- The memory W after s went into its pool: as before where s was in it or it is full.
 unfoldable pub pooledIn : List ℕ → Stmt → List ℕ
-pooledIn W s = if isSome (numberOf W s) || leb 512 (poolLen W) then W else set (putAt W (poolLen W) s) lastWord (poolLen W + 1)
+pooledIn W s = if isSome (poolNumber W s) || leb 512 (poolLen W) then W else set (putAt W (poolLen W) s) lastWord (poolLen W + 1)
 
 -- One statement more, which is st, and all others as before.
 pub record Grown (W W′ : List ℕ) (st : Statement) : Type 0 where
@@ -88,11 +64,11 @@ pub record Grown (W W′ : List ℕ) (st : Statement) : Type 0 where
 
 -- st is in the pool where r says, and the pool has grown only where st was not in it and there was room.
 pub record Appended (W W′ : List ℕ) (st : Statement) (r : Placed) : Type 0 where
-  pub answer : r ≡ placedAt (numberOf W (stmtOf st)) (poolLen W)
+  pub answer : r ≡ placedAt (poolNumber W (stmtOf st)) (poolLen W)
   pub is : W′ ≡ pooledIn W (stmtOf st)
-  pub old : (i : ℕ) → numberOf W (stmtOf st) ≡ some i → W′ ≡ W
+  pub old : (i : ℕ) → poolNumber W (stmtOf st) ≡ some i → W′ ≡ W
   pub full : 512 ≤ poolLen W → W′ ≡ W
-  pub new : numberOf W (stmtOf st) ≡ none → poolLen W < 512 → Grown W W′ st
+  pub new : poolNumber W (stmtOf st) ≡ none → poolLen W < 512 → Grown W W′ st
 
 -- The pool is empty now: the number of its statements was set to 0.
 pub record Cleared (W W′ : List ℕ) : Type 0 where

@@ -4,17 +4,14 @@
 -- 2048 + n kept, and the 16 words from 2560 + n * 16 on are the views. The last word is the number of statements.
 -- Every memory means some pool: each word is read as the value below that it can stand for, and nothing has to hold of it.
 -- Assumes nothing.
+use mathlib.Core.Path.{_≡_}
 use mathlib.Core.List.{List}
-use Prim.Native.Nat.{ℕ, _+_, _*_, _/_, _%_, min}
+use Prim.Native.Nat.{ℕ, _+_, _*_, _/_, _%_, _≤_, _<_, min}
 use lib.ListN.{getD}
 use Rattle.protocol.specs.View.{View}
 use Rattle.protocol.specs.Statement.{Stmt}
 use Rattle.views.specs.Table.{table}
 use Rattle.views.specs.View.{viewIn}
-
--- The word of a view: 32 bits of who joined, and above them 32 of who left.
-abbrev pub wordOf : View → ℕ
-wordOf v = v .joined + v .left * 4294967296
 
 -- Where the views start, where the number of statements is, and how many words there are.
 
@@ -70,8 +67,8 @@ unfoldable pub poolOf : List ℕ → List Stmt
 poolOf W = table (poolLen W) (stmtAt W)
 
 -- The record of the first len numbers. A length above 512 counts as 512.
-unfoldable pub recordOf : List ℕ → List ℕ → ℕ → List Stmt
-recordOf W ids len = table (min len 512) (λ i. stmtAt W (getD ids i 0))
+unfoldable pub recordUpTo : List ℕ → List ℕ → ℕ → List Stmt
+recordUpTo W ids len = table (min len 512) (λ i. stmtAt W (getD ids i 0))
 
 -- A record in memory is 513 numbers: those of its statements, and in the last place how many of them count.
 
@@ -79,4 +76,13 @@ abbrev pub recordLen : List ℕ → ℕ
 recordLen R = min (getD R 512 0) 512
 
 abbrev pub recordIn : List ℕ → List ℕ → List Stmt
-recordIn W R = recordOf W R (getD R 512 0)
+recordIn W R = recordUpTo W R (getD R 512 0)
+
+-- Every statement of the record in the memory R is one of the pool. A record that calls left has this; one that a caller made up need not.
+unfoldable pub AllIn : List ℕ → List ℕ → Type 0
+AllIn W R = (i : ℕ) → i < recordLen R → getD R i 0 < poolLen W
+
+-- The pool of W′ has all that the pool of W has, under the same numbers.
+pub record Grows (W W′ : List ℕ) : Type 0 where
+  pub more : poolLen W ≤ poolLen W′
+  pub same : (n : ℕ) → n < poolLen W → stmtAt W′ n ≡ stmtAt W n

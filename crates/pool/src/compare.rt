@@ -3,7 +3,7 @@ ghost use mathlib.Core.Path.{_≡_};
 ghost use Rattle.protocol.specs.Lists.{any};
 ghost use Rattle.protocol.specs.View.{sameView};
 ghost use Rattle.protocol.specs.History.{sameViews, isHistory, top};
-ghost use Rattle.views.specs.View.{viewOf, ring};
+ghost use Rattle.views.specs.View.{viewOf, ringOfWord};
 ghost use Rattle.pool.specs.Pool.{stmtAt};
 use crate::POOL_WORDS;
 use crate::read;
@@ -28,7 +28,7 @@ pub fn same_views(words: &[u64; POOL_WORDS], i: u16, j: u16) -> bool
 
 // The top of the views of statement n.
 pub fn top_view(words: &[u64; POOL_WORDS], n: u16, init: u64) -> u64
-    ensures { λ r. ⌜ viewOf r ≡ top (ring init) (stmtAt (now (words .entry)) n .views) ⌝ }
+    ensures { λ r. ⌜ viewOf r ≡ top (ringOfWord init) (stmtAt (now (words .entry)) n .views) ⌝ }
 {
     let c = read::count(words, n);
     if c == 0 {
@@ -54,7 +54,7 @@ pub fn has_view(words: &[u64; POOL_WORDS], n: u16, t: u64) -> bool
 
 // Whether the views of statement n are a history.
 pub fn is_history(words: &[u64; POOL_WORDS], n: u16, init: u64) -> bool
-    ensures { λ r. ⌜ r ≡ isHistory (ring init) (stmtAt (now (words .entry)) n .views) ⌝ }
+    ensures { λ r. ⌜ r ≡ isHistory (ringOfWord init) (stmtAt (now (words .entry)) n .views) ⌝ }
 {
     let c = read::count(words, n);
     if c == 0 {

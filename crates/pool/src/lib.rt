@@ -13,6 +13,7 @@ pub use listed::record_clear;
 pub use listed::record_holds;
 pub use listed::record_length;
 pub use listed::record_push;
+pub use listed::record_room;
 pub use read::at;
 pub use read::binding;
 pub use read::count;
@@ -27,31 +28,50 @@ pub use read::stored;
 pub use read::view;
 pub use seek::append;
 pub use seek::find;
-pub use seek::same_at;
 use views::View;
 pub use write::clear;
 pub use write::get;
-pub use write::put;
 
-// Where the columns after the heads start: a word of each of 512 statements.
-const AT: usize = 512;
+// The most statements of a pool, and of a record.
+pub const CAPACITY: usize = 512;
 
-const VIEW: usize = 1024;
+// The highest number of a statement. One above it counts as this.
+const HIGHEST: usize = CAPACITY - 1;
 
-const PAYLOAD: usize = 1536;
+// Where the columns after the heads start: a word of each statement.
+const AT: usize = CAPACITY;
 
-const KEPT: usize = 2048;
+const VIEW: usize = 2 * CAPACITY;
+
+const PAYLOAD: usize = 3 * CAPACITY;
+
+const KEPT: usize = 4 * CAPACITY;
 
 // Where the views start: a history's most views of each statement.
-const VIEWS: usize = 2560;
+const VIEWS: usize = 5 * CAPACITY;
 
 // Where the number of statements is.
-const LAST: usize = VIEWS + 512 * View::LIMIT;
+const LAST: usize = VIEWS + CAPACITY * View::LIMIT;
 
 pub const POOL_WORDS: usize = LAST + 1;
 
-// A record in memory: 512 numbers of statements, and how many of them count. A count above 512 counts as 512.
-pub const RECORD: usize = 513;
+// A record in memory: the numbers of its statements, and after them how many count. A count above the most counts as the most.
+pub const RECORD: usize = CAPACITY + 1;
+
+// A field of a head is a byte.
+const BYTE: u64 = 256;
+
+// Where the fields of a head stand: the kind is its lowest byte.
+const ORIGIN: u64 = 256;
+
+const COUNT: u64 = 16777216;
+
+const BINDING: u64 = 4294967296;
+
+const STORED: u64 = 1099511627776;
+
+// Kind and origin in one number are below this.
+const KEY: u64 = ORIGIN * BYTE;
 
 // Where a statement is.
 pub enum Found {

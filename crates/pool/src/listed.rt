@@ -7,23 +7,24 @@ ghost use Prim.Native.Nat.{_≤_};
 ghost use lib.ListN.{length};
 ghost use Rattle.pool.specs.Pool.{recordLen, recordIn};
 ghost use Rattle.pool.specs.Changes.{PushedTo, Emptied};
+use crate::CAPACITY;
 use crate::POOL_WORDS;
 use crate::RECORD;
 use crate::read;
 use crate::seek;
 use statements::Statement;
 
-fn wide(x: u16) -> usize
+fn wide(x: u16) -> u64
     ensures { λ r. ⌜ r ≡ x ⌝ }
 {
-    x as usize
+    x as u64
 }
 
 // How many statements a record in memory has.
 pub fn record_length(ids: &[u16; RECORD]) -> usize
     ensures { λ r. ⌜ (r ≡ recordLen (now (ids .entry))) × (r ≤ 512) ⌝ }
 {
-    read::limit(wide(ids[512]))
+    read::limit(wide(ids[CAPACITY]))
 }
 
 // Whether a record in memory holds st.
@@ -50,30 +51,30 @@ pub fn record_holds(words: &[u64; POOL_WORDS], ids: &[u16; RECORD], st: Statemen
 }
 
 // How many numbers the memory of a record has. A proof that one was written asks for it.
-fn room(ids: &[u16; RECORD]) -> usize
+pub fn record_room(ids: &[u16; RECORD]) -> usize
     ensures { λ r. ⌜ length (now (ids .entry)) ≡ 513 ⌝ }
 {
     let s = &ids[..];
     s.len()
 }
 
-// The number id at the end of a record in memory. A record of 512 stays as it is.
+// The number id at the end of a record in memory. A full record stays as it is.
 pub fn record_push(ids: &mut [u16; RECORD], id: u16)
     ensures { λ _. ⌜ PushedTo (now (ids .entry)) id (now (ids .exit)) ⌝ }
 {
-    room(ids);
+    record_room(ids);
     let n = record_length(ids);
-    if n >= 512 {
+    if n >= CAPACITY {
         return;
     }
     ids[n] = id;
-    ids[512] = n as u16 + 1;
+    ids[CAPACITY] = n as u16 + 1;
 }
 
 // An empty record.
 pub fn record_clear(ids: &mut [u16; RECORD])
     ensures { λ _. ⌜ Emptied (now (ids .entry)) (now (ids .exit)) ⌝ }
 {
-    room(ids);
-    ids[512] = 0;
+    record_room(ids);
+    ids[CAPACITY] = 0;
 }

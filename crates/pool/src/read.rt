@@ -3,15 +3,22 @@ ghost use mathlib.Core.Path.{_≡_};
 ghost use mathlib.Core.Bool.{cond};
 ghost use Prim.Native.Nat.{_<_, _≤_, min};
 ghost use lib.ListN.{length};
-ghost use Rattle.protocol.specs.Statement.{Stmt};
 ghost use Rattle.views.specs.View.{viewOf};
 ghost use Rattle.pool.specs.Pool.{viewsFrom, poolWords, headAt, word, viewAt, stmtAt, countOf, poolLen};
 ghost use Rattle.pool.specs.Changes.{headOf};
 use crate::AT;
+use crate::BINDING;
+use crate::BYTE;
+use crate::CAPACITY;
+use crate::COUNT;
+use crate::HIGHEST;
 use crate::KEPT;
+use crate::KEY;
 use crate::LAST;
+use crate::ORIGIN;
 use crate::PAYLOAD;
 use crate::POOL_WORDS;
+use crate::STORED;
 use crate::VIEW;
 use crate::VIEWS;
 use views::View;
@@ -29,10 +36,10 @@ pub fn slot(n: u16) -> usize
     ensures { λ r. ⌜ (r ≡ min n 511) × (r ≤ 511) ⌝ }
 {
     let s = n as usize;
-    if s < 511 {
+    if s < HIGHEST {
         return s;
     }
-    511
+    HIGHEST
 }
 
 // The head of statement n.
@@ -53,13 +60,13 @@ fn field(words: &[u64; POOL_WORDS], n: u16, f: usize) -> u64
 pub fn kind(words: &[u64; POOL_WORDS], n: u16) -> u64
     ensures { λ r. ⌜ (r ≡ stmtAt (now (words .entry)) n .kind) × (r < 256) ⌝ }
 {
-    head_word(words, n) % 256
+    head_word(words, n) % BYTE
 }
 
 pub fn origin(words: &[u64; POOL_WORDS], n: u16) -> u64
     ensures { λ r. ⌜ (r ≡ stmtAt (now (words .entry)) n .origin) × (r < 256) ⌝ }
 {
-    head_word(words, n) / 256 % 256
+    head_word(words, n) / ORIGIN % BYTE
 }
 
 pub fn payload(words: &[u64; POOL_WORDS], n: u16) -> u64
@@ -97,14 +104,14 @@ pub fn flag(yes: bool) -> u64
 pub fn binding(words: &[u64; POOL_WORDS], n: u16) -> u64
     ensures { λ r. ⌜ (r ≡ stmtAt (now (words .entry)) n .binding) × (r ≤ 2) ⌝ }
 {
-    let w = head_word(words, n) / 4294967296 % 256;
+    let w = head_word(words, n) / BINDING % BYTE;
     capped(w, 2)
 }
 
 pub fn stored(words: &[u64; POOL_WORDS], n: u16) -> u64
     ensures { λ r. ⌜ (r ≡ stmtAt (now (words .entry)) n .stored) × (r ≤ 1) ⌝ }
 {
-    let w = head_word(words, n) / 1099511627776 % 256;
+    let w = head_word(words, n) / STORED % BYTE;
     capped(w, 1)
 }
 
@@ -118,7 +125,7 @@ pub fn at(words: &[u64; POOL_WORDS], n: u16) -> u64
 pub fn head(words: &[u64; POOL_WORDS], n: u16) -> u64
     ensures { λ r. ⌜ r ≡ headOf (stmtAt (now (words .entry)) n) ⌝ }
 {
-    head_word(words, n) % 65536
+    head_word(words, n) % KEY
 }
 
 pub fn view(words: &[u64; POOL_WORDS], n: u16) -> u64
@@ -131,7 +138,7 @@ pub fn view(words: &[u64; POOL_WORDS], n: u16) -> u64
 pub fn count(words: &[u64; POOL_WORDS], n: u16) -> usize
     ensures { λ r. ⌜ (r ≡ countOf (now (words .entry)) n) × (r ≤ 16) ⌝ }
 {
-    let w = head_word(words, n) / 16777216 % 256;
+    let w = head_word(words, n) / COUNT % BYTE;
     capped(w, View::LIMIT as u64) as usize
 }
 
@@ -144,19 +151,15 @@ pub fn nth(words: &[u64; POOL_WORDS], n: u16, p: usize) -> u64
 }
 
 // How many statements a record of length len has.
-pub fn limit(len: usize) -> usize
+pub fn limit(len: u64) -> usize
     ensures { λ r. ⌜ (r ≡ min len 512) × (r ≤ 512) ⌝ }
 {
-    if len < 512 {
-        return len;
-    }
-    512
+    capped(len, CAPACITY as u64) as usize
 }
 
 // How many statements the pool has.
 pub fn pool_len(words: &[u64; POOL_WORDS]) -> usize
     ensures { λ r. ⌜ (r ≡ poolLen (now (words .entry))) × (r ≤ 512) ⌝ }
 {
-    let w = words[LAST];
-    capped(w, 512) as usize
+    limit(words[LAST])
 }

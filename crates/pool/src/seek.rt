@@ -5,9 +5,12 @@ ghost use Rattle.protocol.specs.History.{sameViews};
 ghost use Rattle.protocol.specs.Statement.{sameStmt};
 ghost use Rattle.statements.specs.Meaning.{firstViews, stmtOf};
 ghost use Rattle.pool.specs.Pool.{stmtAt};
-ghost use Rattle.pool.specs.Changes.{headOf, isOther, foundOf, numberOf, Appended};
+ghost use Rattle.pool.specs.Steps.{isOther, foundOf};
+ghost use Rattle.pool.specs.Changes.{headOf, poolNumber, Appended};
+use crate::CAPACITY;
 use crate::Found;
 use crate::LAST;
+use crate::ORIGIN;
 use crate::POOL_WORDS;
 use crate::Placed;
 use crate::read;
@@ -39,7 +42,7 @@ fn same_history(words: &[u64; POOL_WORDS], n: u16, h: History) -> bool
 pub fn head_of(st: Statement) -> u64
     ensures { λ r. ⌜ (r ≡ headOf (stmtOf st)) × (r < 65536) ⌝ }
 {
-    st.kind as u64 + st.origin as u64 * 256
+    st.kind as u64 + st.origin as u64 * ORIGIN
 }
 
 // Whether statement n has another kind or origin than key, or another at than t. By this a search passes over most: kind and origin are compared as one number, since the answer to the kind alone would often be guessed wrong.
@@ -85,7 +88,7 @@ pub fn same_at(words: &[u64; POOL_WORDS], n: u16, st: Statement) -> bool
 
 // The number of st in the pool.
 pub fn find(words: &[u64; POOL_WORDS], st: Statement) -> Found
-    ensures { λ r. ⌜ r ≡ foundOf (numberOf (now (words .entry)) (stmtOf st)) ⌝ }
+    ensures { λ r. ⌜ r ≡ foundOf (poolNumber (now (words .entry)) (stmtOf st)) ⌝ }
 {
     let end = read::pool_len(words);
     let key = head_of(st);
@@ -115,7 +118,7 @@ pub fn append(words: &mut [u64; POOL_WORDS], st: Statement) -> Placed
         return Placed::At(i);
     }
     let n = read::pool_len(words);
-    if n >= 512 {
+    if n >= CAPACITY {
         return Placed::Full;
     }
     write::put(words, n as u16, st);

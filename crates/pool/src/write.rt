@@ -4,15 +4,21 @@ ghost use mathlib.Core.List.{map};
 ghost use Prim.Native.Nat.{_+_, _≤_, min};
 ghost use lib.ListN.{length};
 ghost use lib.Seq.{sets};
-ghost use Rattle.statements.specs.Meaning.{firstViews, bindingNumber, payloadOf, stmtOf};
+ghost use Rattle.protocol.specs.Statement.{bindingNumber};
+ghost use Rattle.statements.specs.Meaning.{firstViews, bindingIs, payloadOf, stmtOf};
 ghost use Rattle.views.specs.Held.{viewsIs};
-ghost use Rattle.pool.specs.Pool.{wordOf, lastWord, poolWords, stmtAt};
-ghost use Rattle.pool.specs.Changes.{headWord, IsHead, Put, Cleared};
+ghost use Rattle.views.specs.View.{wordOf};
+ghost use Rattle.pool.specs.Pool.{lastWord, poolWords, stmtAt};
+ghost use Rattle.pool.specs.Steps.{IsHead, Put};
+ghost use Rattle.pool.specs.Changes.{headWord, Cleared};
 use crate::AT;
+use crate::BINDING;
+use crate::COUNT;
 use crate::KEPT;
 use crate::LAST;
 use crate::PAYLOAD;
 use crate::POOL_WORDS;
+use crate::STORED;
 use crate::VIEW;
 use crate::VIEWS;
 use crate::read;
@@ -46,7 +52,7 @@ fn head_word(st: Statement) -> u64
     let c = h.count() as u64;
     let b = statements::binding_number(st);
     let f = read::flag(st.stored);
-    key + c * 16777216 + b * 4294967296 + f * 1099511627776
+    key + c * COUNT + b * BINDING + f * STORED
 }
 
 // Statement n is st from now on. Where st has more than 16 views, only 16 are kept.
@@ -76,7 +82,7 @@ pub fn clear(words: &mut [u64; POOL_WORDS])
 
 // The binding that a number and a payload stand for.
 fn binding_of(number: u64, payload: u64) -> Binding
-    ensures { λ r. ⌜ (bindingNumber r ≡ min number 2) × (payloadOf r payload ≡ payload) ⌝ }
+    ensures { λ r. ⌜ (bindingNumber (bindingIs r) ≡ min number 2) × (payloadOf r payload ≡ payload) ⌝ }
 {
     if number == 0 {
         return Binding::Unbound;

@@ -20,13 +20,13 @@ use Rattle.protocol.proofs.Quorums.{someone}
 use Rattle.protocol.proofs.Histories.{init-in, size-le}
 use Rattle.protocol.proofs.Asked.{says-pairwise, candidates-exact}
 use Rattle.protocol.proofs.Order as order
-use Rattle.views.specs.View.{viewOf, ring}
+use Rattle.views.specs.View.{viewOf, ringOfWord}
 use Rattle.views.proofs.Views.{passes, fails, size-most}
-use Rattle.pool.specs.Pool.{recordOf}
+use Rattle.pool.specs.Pool.{recordUpTo}
 use Rattle.pool.proofs.Laws.{view-fits}
 use Rattle.tables.specs.Index.{keyAt}
 use Rattle.ranking.specs.Slots.{viewScale, choiceMark, Stands, Slots, Clash, occupied, Broken, Listed}
-use Rattle.ranking.specs.Ranking.{AllFit, Choices, CandidatesOf}
+use Rattle.ranking.specs.Ranking.{AllFit, MarkedChoices, CandidatesOf}
 use Rattle.ranking.proofs.Members.{Climbs, same-members, table-out}
 use Rattle.ranking.proofs.Slots.{within-size, occupied-in, occupied-out, occupied-climbs}
 
@@ -58,8 +58,8 @@ climbs R w (u ∷ l) (g, o) f c = (
     less v m (inr h) = absurd (omega (arith, f v (List·Memᴰ·tail m) u (List·Memᴰ·head refl) (λ e. g v m .1 (sym e)) h, subst (λ n. size n u ≤ size n v) w (g v m .0)))
 
 -- the statements of a record are read from the pool
-pub record-fits : (W ids : List ℕ) (n : ℕ) → AllFit (recordOf W ids n)
-unfolding recordOf
+pub record-fits : (W ids : List ℕ) (n : ℕ) → AllFit (recordUpTo W ids n)
+unfolding recordUpTo
 record-fits W ids n s m = let (i, l, e) = table-out _ _ m in subst (λ s. Fits 16 (s .view)) e (view-fits W (getD ids i 0))
 
 -- the initial view, of which nothing is asked, or one that is greater and of the sixteen controllers
@@ -67,11 +67,11 @@ abbrev pub Later : ℕ → View → Type 0
 Later init v = (v ≡ viewOf init) ⊎ ((size 16 (viewOf init) < size 16 v) × Fits 16 v)
 
 module _ (init : ℕ) (X : List Stmt) (fits : AllFit X) where
-  pub candidate-fits : {v : View} → Candidate (ring init) X v → Later init v
+  pub candidate-fits : {v : View} → Candidate (ringOfWord init) X v → Later init v
   candidate-fits (initial e) = inl e
   candidate-fits (chosen g b n i q) = let (k, (s, m, _, a)) = someone q in inr (omega (arith, size-le g (init-in g), b .less), subst (Fits 16) (a .view) (fits s m))
 
-  grows : {u v : View} → Candidate (ring init) X u → Candidate (ring init) X v → Grows u v
+  grows : {u v : View} → Candidate (ringOfWord init) X u → Candidate (ringOfWord init) X v → Grows u v
   grows {u} {v} p q d w = go (candidate-fits p) (candidate-fits q)
     where
       go : Later init u → Later init v → size 16 u < size 16 v
@@ -81,20 +81,20 @@ module _ (init : ℕ) (X : List Stmt) (fits : AllFit X) where
       go (inr (_, f)) (inr (_, g)) = below-of f g w d .less
 
   -- candidates of one size that differ are incomparable
-  level-apart : {u v : View} → Candidate (ring init) X u → Candidate (ring init) X v → u ≢ v → size 16 u ≡ size 16 v → Compare u v → ⊥
+  level-apart : {u v : View} → Candidate (ringOfWord init) X u → Candidate (ringOfWord init) X v → u ≢ v → size 16 u ≡ size 16 v → Compare u v → ⊥
   level-apart p q d e (inl w) = omega (arith, grows p q d w)
   level-apart p q d e (inr w) = omega (arith, grows q p (λ h. d (sym h)) w)
 
-module _ (init : ℕ) (X : List Stmt) (K M : List ℕ) (n : ℕ) (choices : Choices init X K M n) where
+module _ (init : ℕ) (X : List Stmt) (K M : List ℕ) (n : ℕ) (choices : MarkedChoices init X K M n) where
   abbrev all : List View
-  all = candidates (ring init) X
+  all = candidates (ringOfWord init) X
 
-  stands-candidate : (w : ℕ) → Stands viewScale init (keyAt K 0) (choiceMark M) n w → Candidate (ring init) X (viewOf w)
+  stands-candidate : (w : ℕ) → Stands viewScale init (keyAt K 0) (choiceMark M) n w → Candidate (ringOfWord init) X (viewOf w)
   stands-candidate w (inl e) = initial (ap viewOf e)
-  stands-candidate w (inr (c, l, m, e)) = subst (λ x. Candidate (ring init) X (viewOf x)) e (choices .sound c l m)
+  stands-candidate w (inr (c, l, m, e)) = subst (λ x. Candidate (ringOfWord init) X (viewOf x)) e (choices .sound c l m)
 
   stands-in : (w : ℕ) → Stands viewScale init (keyAt K 0) (choiceMark M) n w → viewOf w ∈ all
-  stands-in w s = candidates-exact (ring init) X (viewOf w) .1 (stands-candidate w s)
+  stands-in w s = candidates-exact (ringOfWord init) X (viewOf w) .1 (stands-candidate w s)
 
   -- two of one size
   pub clash-conflict : Clash viewScale init (keyAt K 0) (choiceMark M) n → (count : ℕ) (out : List ℕ) → CandidatesOf init X out (record { conflict = true; many = false; count = count })
@@ -105,8 +105,8 @@ module _ (init : ℕ) (X : List Stmt) (K M : List ℕ) (n : ℕ) (choices : Choi
     views = λ e. absurd (subst T e tt);
   }
 
-  member : (v : View) → v ∈ all → Candidate (ring init) X v
-  member v m = candidates-exact (ring init) X v .0 m
+  member : (v : View) → v ∈ all → Candidate (ringOfWord init) X v
+  member v m = candidates-exact (ringOfWord init) X v .0 m
 
   module _ (S : List ℕ) (slots : Slots viewScale init (keyAt K 0) (choiceMark M) n S) where
     abbrev shown : List View
@@ -130,7 +130,7 @@ module _ (init : ℕ) (X : List Stmt) (K M : List ℕ) (n : ℕ) (choices : Choi
     exact : ((u : View) → u ∈ shown → (v : View) → v ∈ shown → Compare u v) → shown ≡ all
     exact t =
         same-members (size 16) shown all (occupied-climbs viewScale S 33)
-        (climbs (ring init) refl all (order.candidates-ordered (ring init) X) (λ u i v j. grows init X (choices .fits) (member u i) (member v j)) (λ u i v j. t u (in-slots u i) v (in-slots v j))) slots-in in-slots
+        (climbs (ringOfWord init) refl all (order.candidates-ordered (ringOfWord init) X) (λ u i v j. grows init X (choices .fits) (member u i) (member v j)) (λ u i v j. t u (in-slots u i) v (in-slots v j))) slots-in in-slots
 
     -- one is smaller than another, and not within it
     apart : (u v : View) → size 16 u < size 16 v → (Within 16 u v → ⊥) → Compare u v → ⊥

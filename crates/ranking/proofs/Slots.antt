@@ -1,4 +1,4 @@
--- Laws of the slots: each is what one step of a function of candidates needs.
+-- Laws of the slots, by any scale: each is what one step of a function of candidates or of histories needs.
 -- Assumes nothing.
 use mathlib.Core.Path.{_≡_, refl, sym, ap, ap₂, subst, _∙_}
 use mathlib.Core.Logic.{_≢_, _⊎_, inl, inr}
@@ -18,9 +18,9 @@ use Rattle.protocol.specs.View.{View, size, Within}
 use Rattle.protocol.proofs.Counting.{count-mono}
 use Rattle.protocol.proofs.Different.{ordered-append}
 use Rattle.views.specs.Table.{table}
-use Rattle.views.specs.View.{viewOf}
+use Rattle.views.specs.View.{viewOf, viewsOf}
 use Rattle.views.proofs.Tables.{table-length, table-cong}
-use Rattle.ranking.specs.Slots.{Scale, viewScale, viewsOf, Stands, Slots, Filled, here, occupied, Broken, Chain, Compared, Listed}
+use Rattle.ranking.specs.Slots.{Scale, viewScale, Stands, Slots, Filled, here, occupied, Broken, Chain, Compared, Listed}
 use Rattle.ranking.proofs.Members.{in-left, in-right, Climbs}
 
 -- ---- sizes

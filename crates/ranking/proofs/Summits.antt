@@ -9,7 +9,7 @@ use native.Mathlib.Numerals.{add-one}
 use native.Mathlib.Omega.{arith}
 use lib.Dec.{T}
 use lib.ListN.{length, getD, set}
-use Rattle.protocol.specs.Lists.{_∈_, _⊆_, any, pairwise}
+use Rattle.protocol.specs.Lists.{_∈_, _⊆_, any}
 use Rattle.protocol.specs.View.{View, sameView, size}
 use Rattle.protocol.specs.History.{holds, Holds, Rising}
 use Rattle.protocol.specs.Statement.{Stmt}
@@ -20,13 +20,13 @@ use Rattle.protocol.proofs.Asked.{says-holds, says-pairwise, sealed-in, sealed-
 use Rattle.protocol.proofs.Different.{Different, ordered-map, different-length}
 use Rattle.protocol.proofs.Histories.{start-in}
 use Rattle.views.specs.Table.{table}
-use Rattle.views.specs.View.{viewOf, ring}
+use Rattle.views.specs.View.{viewOf, ringOfWord, viewsOf}
 use Rattle.views.proofs.Tables.{table-length}
 use Rattle.views.proofs.Views.{passes, fails}
 use Rattle.pool.specs.Pool.{countOf, viewAt, stmtAt}
 use Rattle.pool.proofs.Laws.{views-of}
-use Rattle.ranking.specs.Slots.{historyScale, numberIn, sealMark, viewsOf, Stands, Slots, Clash, occupied, Broken, Chain}
-use Rattle.ranking.specs.Ranking.{FirstMarked, ChainOf, Agreements, HistoriesOf}
+use Rattle.ranking.specs.Slots.{historyScale, numberIn, sealMark, Stands, Slots, Clash, occupied, Broken, Chain}
+use Rattle.ranking.specs.Ranking.{FirstMarked, ChainOf, MarkedAgreements, HistoriesOf}
 use Rattle.ranking.proofs.Members.{Climbs, same-members}
 use Rattle.ranking.proofs.Slots.{views-put, occupied-in, occupied-out}
 
@@ -92,64 +92,61 @@ full K H d s l v m = go (any (sameView v) K) refl
     ))
 
 module _ (init : ℕ) (X : List Stmt) where
-  sealed-climbs : {H : List View} → Sealed (ring init) X H → Climbs (size 16) H
+  sealed-climbs : {H : List View} → Sealed (ringOfWord init) X H → Climbs (size 16) H
   sealed-climbs (start e) = subst (Climbs (size 16)) (sym e) (rising-climbs 16 (viewOf init) [] tt)
   sealed-climbs (agreed g h i n c q) = subst (Climbs (size 16)) (sym (h .begins)) (rising-climbs 16 (viewOf init) (h .rest) (h .rising))
 
   -- two that hold each other are one
-  pub held-same : {H K : List View} → Sealed (ring init) X H → Sealed (ring init) X K → Holds H K → Holds K H → H ≡ K
+  pub held-same : {H K : List View} → Sealed (ringOfWord init) X H → Sealed (ringOfWord init) X K → Holds H K → Holds K H → H ≡ K
   held-same {H} {K} h k p q = same-members (size 16) H K (sealed-climbs h) (sealed-climbs k) q p
 
   -- so are two of one length of which one holds the other
 
-  held-shorter : {H K : List View} → Sealed (ring init) X K → Holds H K → length K ≤ length H
+  held-shorter : {H K : List View} → Sealed (ringOfWord init) X K → Holds H K → length K ≤ length H
   held-shorter {H} {K} k p = different-length K H (different 16 K (sealed-climbs k)) p
 
-  held-level : {H K : List View} → Sealed (ring init) X H → Sealed (ring init) X K → length H ≡ length K → Holds H K → H ≡ K
+  held-level : {H K : List View} → Sealed (ringOfWord init) X H → Sealed (ringOfWord init) X K → length H ≡ length K → Holds H K → H ≡ K
   held-level {H} {K} h k e p = held-same h k p (full K H (different 16 K (sealed-climbs k)) p (omega arith))
 
   says-held : (H K : List View) → Says (holds H K || holds K H) (Holds H K ⊎ Holds K H)
   says-held H K = says-or (says-holds H K) (says-holds K H)
 
-  abbrev allHeld : Bool
-  allHeld = pairwise (λ H K. holds H K || holds K H) (sealedHistories (ring init) X)
-
   -- two sealed ones are apart
-  conflict : {H K : List View} → Sealed (ring init) X H → Sealed (ring init) X K → (Holds H K → ⊥) → (Holds K H → ⊥) → (length : ℕ) (out : List ℕ)
+  conflict : {H K : List View} → Sealed (ringOfWord init) X H → Sealed (ringOfWord init) X K → (Holds H K → ⊥) → (Holds K H → ⊥) → (length : ℕ) (out : List ℕ)
       → HistoriesOf init X out (record { conflict = true; length = length })
   conflict {H} {K} h k p q length out = record {
-    conflict = ap not (sym (fails (says-pairwise says-held (sealedHistories (ring init) X))
-        (λ f. elim (f H (sealed-in (ring init) X h) K (sealed-in (ring init) X k)) [ inl a ↦ p a | inr a ↦ q a ])));
+    conflict = ap not (sym (fails (says-pairwise says-held (sealedHistories (ringOfWord init) X))
+        (λ f. elim (f H (sealed-in (ringOfWord init) X h) K (sealed-in (ringOfWord init) X k)) [ inl a ↦ p a | inr a ↦ q a ])));
     sealed = λ e. absurd (subst T e tt);
     holds = λ e. absurd (subst T e tt);
   }
 
   -- G is sealed and holds all, and every two are compared
-  greatest : (length : ℕ) (out : List ℕ) → Sealed (ring init) X (viewsOf out length) → ((K : List View) → Sealed (ring init) X K → Holds (viewsOf out length) K)
-      → ((H : List View) → Sealed (ring init) X H → (K : List View) → Sealed (ring init) X K → Holds H K ⊎ Holds K H)
+  greatest : (length : ℕ) (out : List ℕ) → Sealed (ringOfWord init) X (viewsOf out length) → ((K : List View) → Sealed (ringOfWord init) X K → Holds (viewsOf out length) K)
+      → ((H : List View) → Sealed (ringOfWord init) X H → (K : List View) → Sealed (ringOfWord init) X K → Holds H K ⊎ Holds K H)
       → HistoriesOf init X out (record { conflict = false; length = length })
   greatest length out g f p = record {
-    conflict = ap not (sym (passes (says-pairwise says-held (sealedHistories (ring init) X)) (λ H i K j. p H (sealed-out (ring init) X i) K (sealed-out (ring init) X j))));
+    conflict = ap not (sym (passes (says-pairwise says-held (sealedHistories (ringOfWord init) X)) (λ H i K j. p H (sealed-out (ringOfWord init) X i) K (sealed-out (ringOfWord init) X j))));
     sealed = λ e. g;
     holds = λ e. f;
   }
 
   -- ---- the agreements that are marked
 
-  module _ (W R M : List ℕ) (n : ℕ) (agreements : Agreements init X W R M n) where
+  module _ (W R M : List ℕ) (n : ℕ) (agreements : MarkedAgreements init X W R M n) where
     -- none is marked
     pub alone : (out : List ℕ) (r : ℕ) → length out ≡ 16 → r ≡ n → FirstMarked M n r → HistoriesOf init X (set out 0 init) (record { conflict = false; length = 1 })
     alone out r w e f =
-        let g : Sealed (ring init) X (viewsOf (set out 0 init) 1) = start (alone-views out init w) in
+        let g : Sealed (ringOfWord init) X (viewsOf (set out 0 init) 1) = start (alone-views out init w) in
         greatest 1 (set out 0 init) g (λ K k. start-in (only K k) g) (λ H h K k. inr (start-in (only H h) k))
       where
-        only : (K : List View) → Sealed (ring init) X K → K ≡ viewOf init ∷ []
+        only : (K : List View) → Sealed (ringOfWord init) X K → K ≡ viewOf init ∷ []
         only K k = elim (agreements .complete K k) [ inl q ↦ q | inr (a, l, m, _) ↦ absurd (f .none a (omega arith) m) ]
 
     module _ (a base : ℕ) (l : a < n) (m : sealMark M a ≡ 1) (is : base ≡ numberIn R a) where
-      stands-sealed : (w : ℕ) → Stands (historyScale W) base (numberIn R) (sealMark M) n w → Sealed (ring init) X (stmtAt W w .views)
-      stands-sealed w (inl e) = subst (λ x. Sealed (ring init) X (stmtAt W x .views)) (sym (e ∙ is)) (agreements .sound a l m)
-      stands-sealed w (inr (c, h, k, e)) = subst (λ x. Sealed (ring init) X (stmtAt W x .views)) e (agreements .sound c h k)
+      stands-sealed : (w : ℕ) → Stands (historyScale W) base (numberIn R) (sealMark M) n w → Sealed (ringOfWord init) X (stmtAt W w .views)
+      stands-sealed w (inl e) = subst (λ x. Sealed (ringOfWord init) X (stmtAt W x .views)) (sym (e ∙ is)) (agreements .sound a l m)
+      stands-sealed w (inr (c, h, k, e)) = subst (λ x. Sealed (ringOfWord init) X (stmtAt W x .views)) e (agreements .sound c h k)
 
       pub clash-conflict : Clash (historyScale W) base (numberIn R) (sealMark M) n → (length : ℕ) (out : List ℕ) → HistoriesOf init X out (record { conflict = true; length = length })
       clash-conflict k =
@@ -161,15 +158,15 @@ module _ (init : ℕ) (X : List Stmt) where
         abbrev shown : List (List View)
         shown = occupied (historyScale W) S 17
 
-        slot-sealed : {H : List View} → H ∈ shown → Sealed (ring init) X H
-        slot-sealed i = let (j, h, e, f) = occupied-out (historyScale W) S 17 i in subst (Sealed (ring init) X) f (stands-sealed (getD S j 0) (slots .sound j h))
+        slot-sealed : {H : List View} → H ∈ shown → Sealed (ringOfWord init) X H
+        slot-sealed i = let (j, h, e, f) = occupied-out (historyScale W) S 17 i in subst (Sealed (ringOfWord init) X) f (stands-sealed (getD S j 0) (slots .sound j h))
 
         word : (w : ℕ) → Stands (historyScale W) base (numberIn R) (sealMark M) n w → stmtAt W w .views ∈ shown
         word w s =
             let e = slots .complete w s in
             subst (λ H. H ∈ shown) e (occupied-in (historyScale W) S 17 (length (stmtAt W w .views)) (views-short W w) (ap length e))
 
-        in-slots : (H : List View) → Sealed (ring init) X H → (H ≡ viewOf init ∷ []) ⊎ (H ∈ shown)
+        in-slots : (H : List View) → Sealed (ringOfWord init) X H → (H ≡ viewOf init ∷ []) ⊎ (H ∈ shown)
         in-slots H h = elim (agreements .complete H h) [ inl e ↦ inl e | inr (c, i, k, e) ↦ inr (subst (λ H. H ∈ shown) e (word (numberIn R c) (inr (c, i, k, refl)))) ]
 
         pub broken-conflict : Broken (historyScale W) S 17 → (length : ℕ) (out : List ℕ) → HistoriesOf init X out (record { conflict = true; length = length })
@@ -180,15 +177,15 @@ module _ (init : ℕ) (X : List Stmt) where
 
         pub summit : (some : Bool) (last : ℕ) → Chain (historyScale W) S 17 some last → (length : ℕ) (out : List ℕ) → viewsOf out length ≡ stmtAt W last .views
             → HistoriesOf init X out (record { conflict = false; length = length })
-        summit some last c length out e = greatest length out (subst (Sealed (ring init) X) (sym e) sealed) holds pairs
+        summit some last c length out e = greatest length out (subst (Sealed (ringOfWord init) X) (sym e) sealed) holds pairs
           where
-            sealed : Sealed (ring init) X (stmtAt W last .views)
+            sealed : Sealed (ringOfWord init) X (stmtAt W last .views)
             sealed = slot-sealed (c .ends (c .under _ (word base (inl refl)) .0))
 
-            holds : (K : List View) → Sealed (ring init) X K → Holds (viewsOf out length) K
+            holds : (K : List View) → Sealed (ringOfWord init) X K → Holds (viewsOf out length) K
             holds K k = subst (λ H. Holds H K) (sym e) (elim (in-slots K k) [ inl q ↦ start-in q sealed | inr i ↦ c .under K i .1 ])
 
-            pairs : (H : List View) → Sealed (ring init) X H → (K : List View) → Sealed (ring init) X K → Holds H K ⊎ Holds K H
+            pairs : (H : List View) → Sealed (ringOfWord init) X H → (K : List View) → Sealed (ringOfWord init) X K → Holds H K ⊎ Holds K H
             pairs H h K k = elim (in-slots H h) [
               | inl q ↦ inr (start-in q k)
               | inr i ↦ elim (in-slots K k) [ inl q ↦ inl (start-in q h) | inr j ↦ elim (c .pairs H i K j) [ inl p ↦ inr p | inr p ↦ inl p ] ]

@@ -13,10 +13,10 @@ use Rattle.protocol.specs.History.{holds, Holds}
 use Rattle.protocol.specs.Statement.{Stmt}
 use Rattle.protocol.specs.Evidence.{Candidate, candidates, Sealed, sealedHistories}
 use Rattle.protocol.proofs.Bits.{Fits}
-use Rattle.views.specs.View.{viewOf, ring}
+use Rattle.views.specs.View.{viewOf, ringOfWord, viewsOf}
 use Rattle.pool.specs.Pool.{stmtAt}
 use Rattle.tables.specs.Index.{keyAt}
-use Rattle.ranking.specs.Slots.{historyScale, numberIn, choiceMark, sealMark, viewsOf, Broken, Chain}
+use Rattle.ranking.specs.Slots.{historyScale, numberIn, choiceMark, sealMark, Broken, Chain}
 use Rattle.ranking.specs.declared.Ranked.{Ranked}
 use Rattle.ranking.specs.declared.Summit.{Summit}
 
@@ -37,24 +37,24 @@ AllFit X = (s : Stmt) → s ∈ X → Fits 16 (s .view)
 
 module _ (init : ℕ) (X : List Stmt) where
   -- The candidates are the initial view and the views of the choices before n that are marked. What statements are for fits, so that two candidates of one size are apart.
-  pub record Choices (K M : List ℕ) (n : ℕ) : Type 0 where
-    pub sound : (c : ℕ) → c < n → choiceMark M c ≡ 1 → Candidate (ring init) X (viewOf (keyAt K 0 c))
-    pub complete : (v : View) → Candidate (ring init) X v → (v ≡ viewOf init) ⊎ ((c : ℕ) × (c < n) × (choiceMark M c ≡ 1) × (viewOf (keyAt K 0 c) ≡ v))
+  pub record MarkedChoices (K M : List ℕ) (n : ℕ) : Type 0 where
+    pub sound : (c : ℕ) → c < n → choiceMark M c ≡ 1 → Candidate (ringOfWord init) X (viewOf (keyAt K 0 c))
+    pub complete : (v : View) → Candidate (ringOfWord init) X v → (v ≡ viewOf init) ⊎ ((c : ℕ) × (c < n) × (choiceMark M c ≡ 1) × (viewOf (keyAt K 0 c) ≡ v))
     pub fits : AllFit X
 
   -- What is said of the candidates, which C lists, is right.
   pub record CandidatesOf (C : List ℕ) (r : Ranked) : Type 0 where
-    pub conflict : r .conflict ≡ not (pairwise (comparable 16) (candidates (ring init) X))
-    pub many : r .conflict ≡ false → r .many ≡ ltb 16 (length (candidates (ring init) X))
-    pub views : r .conflict ≡ false → r .many ≡ false → viewsOf C (r .count) ≡ candidates (ring init) X
+    pub conflict : r .conflict ≡ not (pairwise (comparable 16) (candidates (ringOfWord init) X))
+    pub many : r .conflict ≡ false → r .many ≡ ltb 16 (length (candidates (ringOfWord init) X))
+    pub views : r .conflict ≡ false → r .many ≡ false → viewsOf C (r .count) ≡ candidates (ringOfWord init) X
 
   -- The sealed histories are that of the initial view and those of the agreements before n that are marked.
-  pub record Agreements (W R M : List ℕ) (n : ℕ) : Type 0 where
-    pub sound : (a : ℕ) → a < n → sealMark M a ≡ 1 → Sealed (ring init) X (stmtAt W (numberIn R a) .views)
-    pub complete : (H : List View) → Sealed (ring init) X H → (H ≡ viewOf init ∷ []) ⊎ ((a : ℕ) × (a < n) × (sealMark M a ≡ 1) × (stmtAt W (numberIn R a) .views ≡ H))
+  pub record MarkedAgreements (W R M : List ℕ) (n : ℕ) : Type 0 where
+    pub sound : (a : ℕ) → a < n → sealMark M a ≡ 1 → Sealed (ringOfWord init) X (stmtAt W (numberIn R a) .views)
+    pub complete : (H : List View) → Sealed (ringOfWord init) X H → (H ≡ viewOf init ∷ []) ⊎ ((a : ℕ) × (a < n) × (sealMark M a ≡ 1) × (stmtAt W (numberIn R a) .views ≡ H))
 
   -- What is said of the sealed histories, of which G is the greatest, is right.
   pub record HistoriesOf (G : List ℕ) (r : Summit) : Type 0 where
-    pub conflict : r .conflict ≡ not (pairwise (λ H K. holds H K || holds K H) (sealedHistories (ring init) X))
-    pub sealed : r .conflict ≡ false → Sealed (ring init) X (viewsOf G (r .length))
-    pub holds : r .conflict ≡ false → (K : List View) → Sealed (ring init) X K → Holds (viewsOf G (r .length)) K
+    pub conflict : r .conflict ≡ not (pairwise (λ H K. holds H K || holds K H) (sealedHistories (ringOfWord init) X))
+    pub sealed : r .conflict ≡ false → Sealed (ringOfWord init) X (viewsOf G (r .length))
+    pub holds : r .conflict ≡ false → (K : List View) → Sealed (ringOfWord init) X K → Holds (viewsOf G (r .length)) K

@@ -10,8 +10,7 @@ use lib.ListN.{getD, length}
 use Rattle.protocol.specs.Lists.{if_then_else_, _∈_}
 use Rattle.protocol.specs.View.{View, size, Within}
 use Rattle.protocol.specs.History.{Holds}
-use Rattle.views.specs.Table.{table}
-use Rattle.views.specs.View.{viewOf}
+use Rattle.views.specs.View.{viewOf, viewsOf}
 use Rattle.pool.specs.Pool.{stmtAt}
 use Rattle.tables.specs.Index.{numberAt}
 
@@ -93,10 +92,6 @@ module _ (Q : Scale) where
     pub pairs : (u : Thing) → u ∈ occupied S k → (v : Thing) → v ∈ occupied S k → Under u v ⊎ Under v u
     pub under : (u : Thing) → u ∈ occupied S k → (some ≡ true) × Under u (thing last)
     pub ends : some ≡ true → thing last ∈ occupied S k
-
--- The views of the first n words.
-unfoldable pub viewsOf : List ℕ → ℕ → List View
-viewsOf a n = table n (λ i. viewOf (getD a i 0))
 
 -- Whether every two views in the slots are comparable.
 pub record Compared (S : List ℕ) (r : Bool) : Type 0 where

@@ -8,7 +8,7 @@ ghost use Rattle.protocol.specs.Statement.{Stmt};
 ghost use Rattle.views.specs.View.{viewOf};
 ghost use Rattle.tables.specs.Index.{keyAt};
 ghost use Rattle.ranking.specs.Slots.{viewScale, choiceMark, Slots, Filled, Compared, Listed};
-ghost use Rattle.ranking.specs.Ranking.{Choices, CandidatesOf};
+ghost use Rattle.ranking.specs.Ranking.{MarkedChoices, CandidatesOf};
 use crate::MEMO;
 use crate::Ranked;
 use tables::KEYS;
@@ -55,15 +55,15 @@ fn slot_at(slots: &[u64; SIZES], k: usize) -> u64
 fn fill_slots(
     keys: &[u64; KEYS],
     memo: &[u8; MEMO],
-    nc: usize,
+    choices: usize,
     init: u64,
     slots: &mut [u64; SIZES],
 ) -> bool
-    requires { ⌜ (nc ≤ 512) × Slots viewScale init (keyAt (now keys) 0) (choiceMark (now memo)) 0 (now slots) ⌝ }
-    ensures { λ r. ⌜ Filled viewScale init (keyAt (now (keys .entry)) 0) (choiceMark (now (memo .entry))) nc (now (slots .exit)) r ⌝ }
+    requires { ⌜ (choices ≤ 512) × Slots viewScale init (keyAt (now keys) 0) (choiceMark (now memo)) 0 (now slots) ⌝ }
+    ensures { λ r. ⌜ Filled viewScale init (keyAt (now (keys .entry)) 0) (choiceMark (now (memo .entry))) choices (now (slots .exit)) r ⌝ }
 {
     let mut c = 0usize;
-    while c < nc {
+    while c < choices {
         if memo[c] != 1 {
             c += 1;
             continue;
@@ -136,28 +136,20 @@ fn list_slots(slots: &[u64; SIZES], init: u64, least: usize, out: &mut [u64; Vie
     n
 }
 
-// How long the list is that is filled: a proof that a view of it was written asks for it.
-pub fn room(out: &[u64; View::LIMIT]) -> usize
-    ensures { λ r. ⌜ length (now (out .entry)) ≡ 16 ⌝ }
-{
-    let s = &out[..];
-    s.len()
-}
-
-// The candidates of a record, of whose nc choices `memo` marks those that are of candidates, into `out`.
+// The candidates of a record, of whose choices, so many, `memo` marks those that are of candidates, into `out`.
 pub fn rank(
     keys: &[u64; KEYS],
     memo: &[u8; MEMO],
-    nc: usize,
+    choices: usize,
     init: u64,
     out: &mut [u64; View::LIMIT],
 ) -> Ranked
-    requires { ⌜ nc ≤ 512 ⌝ }
-    ensures { λ r. ⌜ ((X : List Stmt) → Choices init X (now (keys .entry)) (now (memo .entry)) nc → CandidatesOf init X (now (out .exit)) r) ⌝ }
+    requires { ⌜ choices ≤ 512 ⌝ }
+    ensures { λ r. ⌜ ((X : List Stmt) → MarkedChoices init X (now (keys .entry)) (now (memo .entry)) choices → CandidatesOf init X (now (out .exit)) r) ⌝ }
 {
-    room(out);
+    views::list_room(out);
     let mut slots = [init; SIZES];
-    if !fill_slots(keys, memo, nc, init, &mut slots) {
+    if !fill_slots(keys, memo, choices, init, &mut slots) {
         return Ranked {
             conflict: true,
             many: false,

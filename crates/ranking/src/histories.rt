@@ -6,12 +6,13 @@ ghost use lib.ListN.{getD, length};
 ghost use Rattle.protocol.specs.History.{holds};
 ghost use Rattle.protocol.specs.Statement.{Stmt};
 ghost use Rattle.pool.specs.Pool.{stmtAt};
-ghost use Rattle.ranking.specs.Slots.{historyScale, numberIn, sealMark, viewsOf, Slots, Filled};
-ghost use Rattle.ranking.specs.Ranking.{FirstMarked, ChainOf, Agreements, HistoriesOf};
+ghost use Rattle.views.specs.View.{viewsOf};
+ghost use Rattle.ranking.specs.Slots.{historyScale, numberIn, sealMark, Slots, Filled};
+ghost use Rattle.ranking.specs.Ranking.{FirstMarked, ChainOf, MarkedAgreements, HistoriesOf};
 use crate::MEMO;
 use crate::Summit;
-use crate::candidates;
 use pool::POOL_WORDS;
+use tables::CAPACITY;
 use tables::ROWS;
 use views::View;
 
@@ -55,19 +56,19 @@ fn entry_at(rows: &[u16; ROWS], a: usize) -> u16
     tables::number(rows, 1, a)
 }
 
-// The first agreement that is marked, or na.
-fn first_marked(memo: &[u8; MEMO], na: usize) -> usize
-    requires { ⌜ na ≤ 512 ⌝ }
-    ensures { λ r. ⌜ FirstMarked (now (memo .entry)) na r ⌝ }
+// The first agreement that is marked, or their number.
+fn first_marked(memo: &[u8; MEMO], agreements: usize) -> usize
+    requires { ⌜ agreements ≤ 512 ⌝ }
+    ensures { λ r. ⌜ FirstMarked (now (memo .entry)) agreements r ⌝ }
 {
     let mut a = 0usize;
-    while a < na {
-        if memo[512 + a] == 1 {
+    while a < agreements {
+        if memo[CAPACITY + a] == 1 {
             return a;
         }
         a += 1;
     }
-    na
+    agreements
 }
 
 // Puts the histories of the marked agreements into the slots of their lengths; false where two of one length differ.
@@ -75,16 +76,16 @@ fn fill_lengths(
     words: &[u64; POOL_WORDS],
     rows: &[u16; ROWS],
     memo: &[u8; MEMO],
-    na: usize,
+    agreements: usize,
     base: u16,
     slots: &mut [u16; LENGTHS],
 ) -> bool
-    requires { ⌜ (na ≤ 512) × Slots (historyScale (now words)) base (numberIn (now rows)) (sealMark (now memo)) 0 (now slots) ⌝ }
-    ensures { λ r. ⌜ Filled (historyScale (now (words .entry))) base (numberIn (now (rows .entry))) (sealMark (now (memo .entry))) na (now (slots .exit)) r ⌝ }
+    requires { ⌜ (agreements ≤ 512) × Slots (historyScale (now words)) base (numberIn (now rows)) (sealMark (now memo)) 0 (now slots) ⌝ }
+    ensures { λ r. ⌜ Filled (historyScale (now (words .entry))) base (numberIn (now (rows .entry))) (sealMark (now (memo .entry))) agreements (now (slots .exit)) r ⌝ }
 {
     let mut a = 0usize;
-    while a < na {
-        if memo[512 + a] != 1 {
+    while a < agreements {
+        if memo[CAPACITY + a] != 1 {
             a += 1;
             continue;
         }
@@ -146,21 +147,21 @@ fn copy_views(words: &[u64; POOL_WORDS], n: u16, out: &mut [u64; View::LIMIT]) -
     c
 }
 
-// The greatest sealed history of a record, of whose na agreements `memo` marks those that seal theirs, into `out`.
+// The greatest sealed history of a record, of whose agreements, so many, `memo` marks those that seal theirs, into `out`.
 pub fn climb(
     words: &[u64; POOL_WORDS],
     rows: &[u16; ROWS],
     memo: &[u8; MEMO],
-    na: usize,
+    agreements: usize,
     init: u64,
     out: &mut [u64; View::LIMIT],
 ) -> Summit
-    requires { ⌜ na ≤ 512 ⌝ }
-    ensures { λ r. ⌜ ((X : List Stmt) → Agreements init X (now (words .entry)) (now (rows .entry)) (now (memo .entry)) na → HistoriesOf init X (now (out .exit)) r) ⌝ }
+    requires { ⌜ agreements ≤ 512 ⌝ }
+    ensures { λ r. ⌜ ((X : List Stmt) → MarkedAgreements init X (now (words .entry)) (now (rows .entry)) (now (memo .entry)) agreements → HistoriesOf init X (now (out .exit)) r) ⌝ }
 {
-    candidates::room(out);
-    let a = first_marked(memo, na);
-    if a == na {
+    views::list_room(out);
+    let a = first_marked(memo, agreements);
+    if a == agreements {
         out[0] = init;
         return Summit {
             conflict: false,
@@ -169,7 +170,7 @@ pub fn climb(
     }
     let base = entry_at(rows, a);
     let mut slots = [base; LENGTHS];
-    if !fill_lengths(words, rows, memo, na, base, &mut slots) {
+    if !fill_lengths(words, rows, memo, agreements, base, &mut slots) {
         return Summit {
             conflict: true,
             length: 0,

@@ -1,2 +1,2 @@
--- What reading an input answers, and what is written for a schedule.
+-- ---- inside: what reading an input answers
 pub mod Program

@@ -5,6 +5,6 @@ use Rattle.ring_bench.specs.declared.Input.{Input}
 use Rattle.ring_bench.specs.declared.Input.the-variants.{Bytes, Failed}
 
 -- What was read is within memory of that size.
-abbrev pub Within : Input → ℕ → Type 0
-Within (Bytes n) size = n ≤ size
-Within Failed size = Unit {0}
+abbrev pub InputWithin : Input → ℕ → Type 0
+InputWithin (Bytes n) size = n ≤ size
+InputWithin Failed size = Unit {0}

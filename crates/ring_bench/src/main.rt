@@ -3,7 +3,7 @@
 ghost use Prim.Native.Nat.{_-_, _≤_};
 ghost use lib.ListN.{length};
 ghost use Rattle.bench.specs.Rows.{Answered};
-ghost use Rattle.ring_bench.specs.Program.{Within};
+ghost use Rattle.ring_bench.specs.Program.{InputWithin};
 use libc::STDERR_FILENO;
 use libc::STDIN_FILENO;
 use libc::STDOUT_FILENO;
@@ -20,7 +20,7 @@ enum Input {
 // One read, to position n and on; it reads nothing where the input ends.
 fn read_some(fd: i32, text: &mut [u8], n: usize) -> Input
     requires { ⌜ n ≤ length (now text) ⌝ }
-    ensures { λ r. ⌜ Within r (length (now (text .entry)) - n) ⌝ }
+    ensures { λ r. ⌜ InputWithin r (length (now (text .entry)) - n) ⌝ }
 {
     let rest = &mut text[n..];
     let got = libc::read(fd, rest);
@@ -32,7 +32,7 @@ fn read_some(fd: i32, text: &mut [u8], n: usize) -> Input
 
 // Reads until the memory is full, the input ends or a read fails.
 fn read_all(fd: i32, text: &mut [u8]) -> Input
-    ensures { λ r. ⌜ Within r (length (now (text .exit))) ⌝ }
+    ensures { λ r. ⌜ InputWithin r (length (now (text .exit))) ⌝ }
 {
     let mut n = 0usize;
     while n < text.len() {

@@ -19,7 +19,7 @@ use Rattle.protocol.specs.Evidence.{prepares, candidates, isStored}
 use Rattle.protocol.specs.Controller.{Controller}
 use Rattle.protocol.specs.Turn as turn
 use Rattle.views.specs.declared.View as held
-use Rattle.views.specs.View.{viewOf, viewIn}
+use Rattle.views.specs.View.{viewOf, viewIn, viewsIn}
 use Rattle.views.specs.Held.{viewIs}
 use Rattle.views.proofs.Histories.{last-some}
 use Rattle.statements.specs.declared.Binding as bindings
@@ -27,15 +27,16 @@ use Rattle.statements.specs.declared.Binding.the-variants.{Unbound, Bound, Barr
 use Rattle.statements.specs.declared.Statement.{Statement}
 use Rattle.statements.specs.Meaning.{bindingIs, stmtOf}
 use Rattle.statements.specs.Made.{Made}
-use Rattle.evidence.specs.Evidence.{ringOf, certificateOf, reportedAll, reportsBelow}
+use Rattle.evidence.specs.Evidence.{ringIs, certificateOf, reportedAll, reportsBelow}
 use Rattle.evidence.proofs.Turns.{reported-turn, counted-turn}
-use Rattle.rules.specs.declared.Send.{Send}
-use Rattle.rules.specs.declared.Send.the-variants.{Nothing, Payload}
+use Rattle.rules.specs.declared.OptionalPayload.{OptionalPayload}
+use Rattle.rules.specs.declared.OptionalPayload.the-variants.{Nothing, Payload}
 use Rattle.rules.specs.declared.Situation.{Situation}
 use Rattle.rules.specs.declared.Action.{Action}
 use Rattle.rules.specs.declared.Action.the-variants.{Rest, Report, Enter, AgreeView, AgreeHistory, Ack, Store, Deliver, Join, Leave, Prepare}
-use Rattle.rules.specs.Actions.{sendIs, viewsIn, signedBy, actionIs, acts}
-use Rattle.rules.specs.Rules.{ownKind, ownAt, firstPrepare, reportDue, Owns, SituationOf, Lent, statements, ownStatements, candidateViews, greatestViews, AllHold, Rule, Does, Acks}
+use Rattle.rules.specs.Payloads.{payloadIs}
+use Rattle.rules.specs.Actions.{statementOf, actionIs, acts}
+use Rattle.rules.specs.Rules.{ownKind, ownAt, firstPrepare, reportDue, Owns, SituationOf, Lent, statements, ownStatements, candidateViews, greatestViews, AllLent, Rule, Does, Acks}
 use Rattle.rules.proofs.Action as action
 use Rattle.rules.proofs.Scans.{owns-same, owns-at, owns-kind}
 
@@ -123,7 +124,7 @@ acts-else Leave k = refl
 acts-else (Prepare m) k = refl
 
 -- all but four sign, and do nothing else
-pub signs-else : (s : Situation) (H : List View) (a : Action) → OneOf (1 ∷ 3 ∷ 4 ∷ 6 ∷ 8 ∷ 9 ∷ 10 ∷ []) (tagOf action.the-type a) → actionIs s H a ≡ some (turn.sign (signedBy s H a))
+pub signs-else : (s : Situation) (H : List View) (a : Action) → OneOf (1 ∷ 3 ∷ 4 ∷ 6 ∷ 8 ∷ 9 ∷ 10 ∷ []) (tagOf action.the-type a) → actionIs s H a ≡ some (turn.sign (statementOf s H a))
 unfolding actionIs
 signs-else s H Rest k = absurd (miss (1 ∷ 3 ∷ 4 ∷ 6 ∷ 8 ∷ 9 ∷ 10 ∷ []) 0 tt k)
 signs-else s H (Report u) k = refl
@@ -143,81 +144,92 @@ pub made-as : {a b : Stmt} {st : Statement} → a ≡ b → Made a st → Made b
 made-as e m = record { means = m .means ∙ e; short = m .short }
 
 module _ (s : Situation) (H : List View) {a : Action} {st : Statement} where
-  by-action : (b : Action) {x : Stmt} → x ≡ signedBy s H b → a ≡ b → Made x st → Made (signedBy s H a) st
-  by-action b q e m = made-as (q ∙ ap (signedBy s H) (sym e)) m
+  by-action : (b : Action) {x : Stmt} → x ≡ statementOf s H b → a ≡ b → Made x st → Made (statementOf s H a) st
+  by-action b q e m = made-as (q ∙ ap (statementOf s H) (sym e)) m
 
-  pub rest-made : a ≡ Rest → Made (join (s .number)) st → Made (signedBy s H a) st
-  unfolding signedBy
+  pub rest-made : a ≡ Rest → Made (join (s .number)) st → Made (statementOf s H a) st
+  unfolding statementOf
   rest-made = by-action Rest refl
 
-  pub report-made : {u : held.View} → a ≡ Report u → Made (signedBy s H (Report u)) st → Made (signedBy s H a) st
+  pub report-made : {u : held.View} → a ≡ Report u → Made (statementOf s H (Report u)) st → Made (statementOf s H a) st
   report-made {u} = by-action (Report u) refl
 
-  pub enter-made : {v : held.View} {b : bindings.Binding} → a ≡ Enter v b → Made (join (s .number)) st → Made (signedBy s H a) st
-  unfolding signedBy
+  pub enter-made : {v : held.View} {b : bindings.Binding} → a ≡ Enter v b → Made (join (s .number)) st → Made (statementOf s H a) st
+  unfolding statementOf
   enter-made {v} {b} = by-action (Enter v b) refl
 
-  pub view-made : {w : View} → w ≡ viewIn (s .shown .wished) → a ≡ AgreeView → Made (agreeView (s .number) (viewIs (s .top)) w) st → Made (signedBy s H a) st
-  unfolding signedBy
+  pub view-made : {w : View} → w ≡ viewIn (s .shown .wished) → a ≡ AgreeView → Made (agreeView (s .number) (viewIs (s .top)) w) st → Made (statementOf s H a) st
+  unfolding statementOf
   view-made q = by-action AgreeView (ap (agreeView (s .number) (viewIs (s .top))) q)
 
-  pub history-made : {K : List View} → K ≡ H → a ≡ AgreeHistory → Made (agreeHistory (s .number) (viewIs (s .top)) K) st → Made (signedBy s H a) st
-  unfolding signedBy
+  pub history-made : {K : List View} → K ≡ H → a ≡ AgreeHistory → Made (agreeHistory (s .number) (viewIs (s .top)) K) st → Made (statementOf s H a) st
+  unfolding statementOf
   history-made q = by-action AgreeHistory (ap (agreeHistory (s .number) (viewIs (s .top))) q)
 
-  pub ack-made : {m : ℕ} → a ≡ Ack m → Made (ack (s .number) (viewIs (s .top)) m) st → Made (signedBy s H a) st
-  unfolding signedBy
+  pub ack-made : {m : ℕ} → a ≡ Ack m → Made (ack (s .number) (viewIs (s .top)) m) st → Made (statementOf s H a) st
+  unfolding statementOf
   ack-made {m} = by-action (Ack m) refl
 
-  pub store-made : {m : ℕ} → a ≡ Store m → Made (store (s .number) (viewIs (s .top)) m) st → Made (signedBy s H a) st
-  unfolding signedBy
+  pub store-made : {m : ℕ} → a ≡ Store m → Made (store (s .number) (viewIs (s .top)) m) st → Made (statementOf s H a) st
+  unfolding statementOf
   store-made {m} = by-action (Store m) refl
 
-  pub deliver-made : {m : ℕ} → a ≡ Deliver m → Made (join (s .number)) st → Made (signedBy s H a) st
-  unfolding signedBy
+  pub deliver-made : {m : ℕ} → a ≡ Deliver m → Made (join (s .number)) st → Made (statementOf s H a) st
+  unfolding statementOf
   deliver-made {m} = by-action (Deliver m) refl
 
-  pub join-made : a ≡ Join → Made (join (s .number)) st → Made (signedBy s H a) st
-  unfolding signedBy
+  pub join-made : a ≡ Join → Made (join (s .number)) st → Made (statementOf s H a) st
+  unfolding statementOf
   join-made = by-action Join refl
 
-  pub leave-made : a ≡ Leave → Made (leave (s .number)) st → Made (signedBy s H a) st
-  unfolding signedBy
+  pub leave-made : a ≡ Leave → Made (leave (s .number)) st → Made (statementOf s H a) st
+  unfolding statementOf
   leave-made = by-action Leave refl
 
-  pub prepare-made : {m : ℕ} → a ≡ Prepare m → Made (prepare (s .number) m) st → Made (signedBy s H a) st
-  unfolding signedBy
+  pub prepare-made : {m : ℕ} → a ≡ Prepare m → Made (prepare (s .number) m) st → Made (statementOf s H a) st
+  unfolding statementOf
   prepare-made {m} = by-action (Prepare m) refl
 
 pub reporting-made : (s : Situation) {H K : List View} (u : held.View) {w : View} {st : Statement} → w ≡ viewIn (s .shown .wished) → K ≡ H
-    → Made (report (s .number) (viewIs u) w (bindingIs (s .binding)) (certificateOf (s .shown)) K) st → Made (signedBy s H (Report u)) st
-unfolding signedBy
+    → Made (report (s .number) (viewIs u) w (bindingIs (s .binding)) (certificateOf (s .shown)) K) st → Made (statementOf s H (Report u)) st
+unfolding statementOf
 reporting-made s u q e m = made-as (ap₂ (λ v H. report (s .number) (viewIs u) v (bindingIs (s .binding)) (certificateOf (s .shown)) H) q e) m
 
+-- ---- what is asked
+
+-- a test of x, which y is, that was answered by b
+not-asked : {A : Type 0} (p : A → Bool) {x y : A} {b r : Bool} → b ≡ p x → x ≡ y → b ≡ r → not (p y) ≡ not r
+not-asked p e q f = ap not (sym (ap p q) ∙ sym e ∙ f)
+
 -- whether the record has what st means
-module _ {a : Stmt} {st : Statement} (X : List Stmt) (b : Bool) (m : Made a st) (e : b ≡ any (sameStmt (stmtOf st)) X) where
-  asked : any (sameStmt a) X ≡ b
-  asked = ap (λ x. any (sameStmt x) X) (sym (m .means)) ∙ sym e
+pub holds-asked : {a : Stmt} {st : Statement} (X : List Stmt) (b : Bool) {r : Bool} → Made a st → b ≡ any (sameStmt (stmtOf st)) X → b ≡ r → not (any (sameStmt a) X) ≡ not r
+holds-asked X b m e = not-asked (λ x. any (sameStmt x) X) e (m .means)
 
-  pub signed-before : b ≡ true → not (any (sameStmt a) X) ≡ false
-  signed-before t = ap not (asked ∙ t)
+-- whether it has a statement of k, of this kind, at the view of a word
+pub own-asked : (X : List Stmt) (b : Bool) (k kind u : ℕ) {v : View} {r : Bool} → viewOf u ≡ v → b ≡ any (ownAt k kind (viewOf u)) X → b ≡ r → not (any (ownAt k kind v) X) ≡ not r
+own-asked X b k kind u q e = not-asked (λ x. any (ownAt k kind x) X) e q
 
-  pub not-signed : b ≡ false → not (any (sameStmt a) X) ≡ true
-  not-signed f = ap not (asked ∙ f)
+-- whether the view u, which v is, is the top
+pub top-asked : (b : Bool) (t : View) {u v : View} {r : Bool} → v ≡ u → b ≡ sameView v t → b ≡ r → not (sameView u t) ≡ not r
+top-asked b t q e = not-asked (λ x. sameView x t) e q
+
+-- whether the view u, which v is, has members
+pub members-asked : (b c : Bool) {u v : View} → v ≡ u → b ≡ hasMembers 16 v → b ≡ c → hasMembers 16 u ≡ c
+members-asked b c q e f = ap (hasMembers 16) (sym q) ∙ sym e ∙ f
 
 -- ---- the rules
 
 -- the rule has every controller whose situation s is, and of whom L is lent, do a
 abbrev pub Is : List Lent → Situation → Rule → Action → Type 0
-Is L s rule a = (d : Controller) (X : List Stmt) → SituationOf d X s → AllHold s d X L → rule d X ≡ actionIs s (candidates (d .ring) X) a
+Is L s rule a = (d : Controller) (X : List Stmt) → SituationOf d X s → AllLent s d X L → rule d X ≡ actionIs s (candidates (d .ring) X) a
 
 pub does : {L : List Lent} {s : Situation} {rule : Rule} {a r : Action} → Is L s rule a → r ≡ a → Does L s rule r
 does {s = s} f e = record { means = λ d X k h. ap (actionIs s (candidates (d .ring) X)) e ∙ sym (f d X k h) }
 
 -- where the record is lent, it is the one that is asked of
 with-record : (L : List Lent) {s : Situation} (rule : Rule) (a : Action) (Z : List Stmt)
-    → ((d : Controller) → SituationOf d Z s → AllHold s d Z L → rule d Z ≡ actionIs s (candidates (d .ring) Z) a) → Is (statements Z ∷ L) s rule a
-with-record L {s} rule a Z f d X k h = subst (λ X. SituationOf d X s → AllHold s d X L → rule d X ≡ actionIs s (candidates (d .ring) X) a) (h .0) (f d) k (h .1)
+    → ((d : Controller) → SituationOf d Z s → AllLent s d Z L → rule d Z ≡ actionIs s (candidates (d .ring) Z) a) → Is (statements Z ∷ L) s rule a
+with-record L {s} rule a Z f d X k h = subst (λ X. SituationOf d X s → AllLent s d X L → rule d X ≡ actionIs s (candidates (d .ring) X) a) (h .0) (f d) k (h .1)
 
 width-is : {d : Controller} {X : List Stmt} {s : Situation} → SituationOf d X s → d .ring .width ≡ 16
 width-is k = ap (λ R. R .width) (k .ring)
@@ -244,7 +256,7 @@ module _ (Y : List Stmt) (s : Situation) where
   due-own y u = rw (owns-at y 5 u)
 
   module _ (G : List ℕ) where
-    reporting : (o : Option View) → o ≡ find (reportDue Y n t) (viewsIn G (s .shown .length)) → (d : Controller) (X : List Stmt) → SituationOf d X s → AllHold s d X (ownStatements Y ∷ greatestViews G ∷ [])
+    reporting : (o : Option View) → o ≡ find (reportDue Y n t) (viewsIn G (s .shown .length)) → (d : Controller) (X : List Stmt) → SituationOf d X s → AllLent s d X (ownStatements Y ∷ greatestViews G ∷ [])
         → turn.rule1 d X ≡ given o (λ u. some (turn.sign (report n u w (bindingIs (s .binding)) (certificateOf (s .shown)) (candidates (d .ring) X))))
     unfolding turn.rule1
     reporting o e d X k h = rw (find-cong _ _ _ (λ u. due-cong d X k u ∙ due-own (h .0) u), ← h .1 .0, ← e, k .certificate, k .wished, k .number, k .binding)
@@ -254,11 +266,11 @@ module _ (Y : List Stmt) (s : Situation) where
     first-none e d X k h = reporting none e d X k h
 
     pub first-on : (u : held.View) → some (viewIs u) ≡ find (reportDue Y n t) (viewsIn G (s .shown .length)) → Is (ownStatements Y ∷ greatestViews G ∷ []) s turn.rule1 (Report u)
-    unfolding actionIs signedBy
+    unfolding actionIs statementOf
     first-on u e d X k h = reporting (some (viewIs u)) e d X k h
 
   pub third : Is (ownStatements Y ∷ []) s turn.rule3 (each (s .stands ∷ hasMembers 16 w ∷ not (sameView w t) ∷ not (any (sameStmt (agreeView n t w)) Y) ∷ []) AgreeView)
-  unfolding turn.rule3 turn.hasSigned actionIs signedBy
+  unfolding turn.rule3 turn.hasSigned actionIs statementOf
   third d X k h = rw (owns-same (h .0) (agreeView n t w) refl, k .stands, k .wished, k .top, ap (λ i. hasMembers i w) (width-is k), k .number) (all4 s (candidates (d .ring) X) AgreeView refl _ _ _ _)
 
   module _ (C : List ℕ) where
@@ -268,7 +280,7 @@ module _ (Y : List Stmt) (s : Situation) where
 
     agreeing : (d : Controller) (X : List Stmt) → SituationOf d X s → Owns X Y n → (H : List View) → H ≡ candidates (d .ring) X → (v : View) → v ≡ last (d .ring .init) H
         → turn.rule4 d X ≡ actionIs s H (each (s .stands ∷ not (sameView v t) ∷ not (any (sameStmt (agreeHistory n t H)) Y) ∷ []) AgreeHistory)
-    unfolding turn.rule4 turn.hasSigned actionIs signedBy
+    unfolding turn.rule4 turn.hasSigned actionIs statementOf
     agreeing d X k y H e v q = rw (owns-same y (agreeHistory n t H) refl, q, e, k .stands, k .top, k .number) (all3 s (candidates (d .ring) X) AgreeHistory refl _ _ _)
 
     pub fourth : {K : List View} → K ≡ viewsIn C (s .shown .count) → 0 < s .shown .count
@@ -279,7 +291,7 @@ module _ (Y : List Stmt) (s : Situation) where
 
   storing : (d : Controller) (X : List Stmt) → SituationOf d X s → Owns X Y n
       → when (turn.stands d X && not (turn.own d X (storesAt (turn.T d X)))) (turn.sign (store (d .number) (turn.T d X) m)) ≡ actionIs s (candidates (d .ring) X) (each (s .stands ∷ not (any (ownAt n 8 t) Y) ∷ []) (Store m))
-  unfolding turn.own ownAt actionIs signedBy
+  unfolding turn.own ownAt actionIs statementOf
   storing d X k y = rw (owns-at y 8 t, k .stands, k .top, k .number) (all2 s (candidates (d .ring) X) (Store m) refl _ _)
 
   pub sixth : Is (ownStatements Y ∷ []) s turn.rule6 (each (s .shown .certified ∷ s .stands ∷ not (any (ownAt n 8 t) Y) ∷ []) (Store m))
@@ -289,29 +301,29 @@ module _ (Y : List Stmt) (s : Situation) where
       ∙ given-when s (candidates (d .ring) X) (s .shown .certified) m (λ m. when (turn.stands d X && not (turn.own d X (storesAt (turn.T d X)))) (turn.sign (store (d .number) (turn.T d X) m))) _ _ (λ c. storing d X k (h .0))
 
   pub eighth : Is (ownStatements Y ∷ []) s turn.rule8 (each (s .joining ∷ not (any (sameStmt (join n)) Y) ∷ []) Join)
-  unfolding turn.rule8 turn.hasSigned actionIs signedBy
+  unfolding turn.rule8 turn.hasSigned actionIs statementOf
   eighth d X k h = rw (owns-same (h .0) (join n) refl, k .joining, k .number) (all2 s (candidates (d .ring) X) Join refl _ _)
 
   pub ninth : Is (ownStatements Y ∷ []) s turn.rule9 (each (s .leaving ∷ not (any (sameStmt (leave n)) Y) ∷ (s .delivered || not (s .shown .certified || any (ownKind n 6) Y)) ∷ []) Leave)
-  unfolding turn.rule9 turn.hasSigned turn.own ownKind actionIs signedBy
+  unfolding turn.rule9 turn.hasSigned turn.own ownKind actionIs statementOf
   ninth d X k h =
       rw (owns-same (h .0) (leave n) refl, owns-kind (h .0) 6, k .certificate, some-when (s .shown .certified) m, k .leaving, k .number, k .delivered) (all3 s (candidates (d .ring) X) Leave refl _ _ _)
 
   pub tenth-none : s .sending ≡ Nothing → Is (ownStatements Y ∷ []) s turn.rule10 Rest
   unfolding turn.rule10 actionIs
-  tenth-none e d X k h = rw (k .sending ∙ ap sendIs e)
+  tenth-none e d X k h = rw (k .sending ∙ ap payloadIs e)
 
   preparing : (d : Controller) (X : List Stmt) → SituationOf d X s → Owns X Y n → (p : ℕ)
       → when (turn.stands d X && not (turn.hasSigned d X (leave (d .number))) && not (turn.hasSigned d X (prepare (d .number) p))) (turn.sign (prepare (d .number) p))
       ≡ actionIs s (candidates (d .ring) X) (each (s .stands ∷ not (any (sameStmt (leave n)) Y) ∷ not (any (sameStmt (prepare n p)) Y) ∷ []) (Prepare p))
-  unfolding turn.hasSigned actionIs signedBy
+  unfolding turn.hasSigned actionIs statementOf
   preparing d X k y p = rw (owns-same y (leave n) refl, owns-same y (prepare n p) refl, k .stands, k .number) (all3 s (candidates (d .ring) X) (Prepare p) refl _ _ _)
 
   pub tenth : (p : ℕ) → s .sending ≡ Payload p
       → Is (ownStatements Y ∷ []) s turn.rule10 (each (s .stands ∷ not (any (sameStmt (leave n)) Y) ∷ not (any (sameStmt (prepare n p)) Y) ∷ []) (Prepare p))
   unfolding turn.rule10
   tenth p e d X k h =
-      ap (λ o. given o (λ p. when (turn.stands d X && not (turn.hasSigned d X (leave (d .number))) && not (turn.hasSigned d X (prepare (d .number) p))) (turn.sign (prepare (d .number) p)))) (k .sending ∙ ap sendIs e)
+      ap (λ o. given o (λ p. when (turn.stands d X && not (turn.hasSigned d X (leave (d .number))) && not (turn.hasSigned d X (prepare (d .number) p))) (turn.sign (prepare (d .number) p)))) (k .sending ∙ ap payloadIs e)
       ∙ preparing d X k (h .0) p
 
 -- ---- rule 7
@@ -319,11 +331,11 @@ module _ (Y : List Stmt) (s : Situation) where
 module _ (s : Situation) where
   delivering : (d : Controller) (X : List Stmt) → SituationOf d X s → s .shown .certified ≡ true
       → when (ltb 0 (length (d .entered)) && not (bit (turn.T d X .left) (d .number)) && not (d .delivered) && isStored (d .ring) X (s .shown .payload)) (turn.deliver (s .shown .payload))
-      ≡ actionIs s (candidates (d .ring) X) (each (s .active ∷ not (bit (viewIs (s .top) .left) (s .number)) ∷ not (s .delivered) ∷ s .shown .stored ∷ []) (Deliver (s .shown .payload)))
+      ≡ actionIs s (candidates (d .ring) X) (each (s .active ∷ not (s .left) ∷ not (s .delivered) ∷ s .shown .stored ∷ []) (Deliver (s .shown .payload)))
   unfolding actionIs
-  delivering d X k c = rw (k .top, k .stored c, k .active, k .number, k .delivered) (all4 s (candidates (d .ring) X) (Deliver (s .shown .payload)) refl _ _ _ _)
+  delivering d X k c = rw (k .left, k .stored c, k .active, k .delivered) (all4 s (candidates (d .ring) X) (Deliver (s .shown .payload)) refl _ _ _ _)
 
-  pub seventh : Is [] s turn.rule7 (each (s .shown .certified ∷ s .active ∷ not (bit (viewIs (s .top) .left) (s .number)) ∷ not (s .delivered) ∷ s .shown .stored ∷ []) (Deliver (s .shown .payload)))
+  pub seventh : Is [] s turn.rule7 (each (s .shown .certified ∷ s .active ∷ not (s .left) ∷ not (s .delivered) ∷ s .shown .stored ∷ []) (Deliver (s .shown .payload)))
   unfolding turn.rule7
   seventh d X k h =
       ap (λ o. given o (λ m. when (ltb 0 (length (d .entered)) && not (bit (turn.T d X .left) (d .number)) && not (d .delivered) && isStored (d .ring) X m) (turn.deliver m))) (k .certificate)
@@ -341,17 +353,17 @@ module _ (X Y : List Stmt) (s : Situation) where
   -- "bound to m, or unbound [..]: bind to m and sign"
   acking : (d : Controller) → SituationOf d X s → Owns X Y (s .number) → (m : ℕ)
       → when (turn.stands d X && not (turn.own d X (acksAt (turn.T d X)))) (turn.bindAndSign m (ack (d .number) (turn.T d X) m)) ≡ actionIs s (candidates (d .ring) X) (each ackTests (Ack m))
-  unfolding turn.own ownAt actionIs signedBy
+  unfolding turn.own ownAt actionIs statementOf
   acking d k y m = rw (owns-at y 7 (viewIs (s .top)), k .stands, k .top, k .number) (all2 s (candidates (d .ring) X) (Ack m) refl _ _)
 
-  module _ (r : Send) (a : Acks X s r) where
+  module _ (r : OptionalPayload) (a : Acks X s r) where
     pub fifth-none : r ≡ Nothing → Is5 Rest
     unfolding turn.rule5 actionIs
-    fifth-none q = with-record (ownStatements Y ∷ []) turn.rule5 Rest X (λ d k h. rw (a .means d k ∙ ap sendIs q))
+    fifth-none q = with-record (ownStatements Y ∷ []) turn.rule5 Rest X (λ d k h. rw (a .means d k ∙ ap payloadIs q))
 
     pub fifth-on : (m : ℕ) → r ≡ Payload m → Is5 (each ackTests (Ack m))
     unfolding turn.rule5
-    fifth-on m q = with-record (ownStatements Y ∷ []) turn.rule5 (each ackTests (Ack m)) X (λ d k h. rw (a .means d k ∙ ap sendIs q) (acking d k (h .0) m))
+    fifth-on m q = with-record (ownStatements Y ∷ []) turn.rule5 (each ackTests (Ack m)) X (λ d k h. rw (a .means d k ∙ ap payloadIs q) (acking d k (h .0) m))
 
   -- whatever there is to ack
   pub fifth-off : Rest ≡ each ackTests (Ack 0) → Is5 Rest
@@ -361,7 +373,7 @@ module _ (X Y : List Stmt) (s : Situation) where
 module _ (X : List Stmt) (s : Situation) where
   -- ---- what there is to ack
 
-  acks-by : (b : bindings.Binding) (r : Send) → s .binding ≡ b → ((d : Controller) → SituationOf d X s → turn.toAck d X (bindingIs b) ≡ sendIs r) → Acks X s r
+  acks-by : (b : bindings.Binding) (r : OptionalPayload) → s .binding ≡ b → ((d : Controller) → SituationOf d X s → turn.toAck d X (bindingIs b) ≡ payloadIs r) → Acks X s r
   acks-by b r e h = record { means = λ d k. ap (turn.toAck d X) (k .binding ∙ ap bindingIs e) ∙ h d k }
 
   pub ack-bound : (m : ℕ) → s .binding ≡ Bound m → Acks X s (Payload m)
@@ -383,37 +395,11 @@ module _ (X : List Stmt) (s : Situation) where
     unfolding turn.toAck
     ack-outside f = acks-by Unbound Nothing e (λ d k. given-off (find (prepares (d .sender)) X) (λ x. when (member (turn.T d X) (d .sender)) (x .payload)) (no-payload f d k))
 
-    pub ack-first : (r : Send) → b ≡ true → sendIs r ≡ firstPrepare (s .ring .sender) X → Acks X s r
+    pub ack-first : (r : OptionalPayload) → b ≡ true → payloadIs r ≡ firstPrepare (s .ring .sender) X → Acks X s r
     unfolding turn.toAck firstPrepare
     ack-first r f q = acks-by Unbound r e (λ d k.
         given-cong (find (prepares (d .sender)) X) (λ x. when (member (turn.T d X) (d .sender)) (x .payload)) (λ x. some (x .payload)) (the-payload f d k)
         ∙ ap (λ x. given (find (prepares x) X) (λ y. some (y .payload))) (k .sender) ∙ sym q)
-
--- a statement of its own at the view of a word
-module _ (X : List Stmt) (b : Bool) (k kind u : ℕ) {v : View} (is : viewOf u ≡ v) (e : b ≡ any (ownAt k kind (viewOf u)) X) where
-  own-asked : any (ownAt k kind v) X ≡ b
-  own-asked = ap (λ x. any (ownAt k kind x) X) (sym is) ∙ sym e
-
-  pub own-yes : b ≡ true → not (any (ownAt k kind v) X) ≡ false
-  own-yes f = ap not (own-asked ∙ f)
-
-  pub own-no : b ≡ false → not (any (ownAt k kind v) X) ≡ true
-  own-no f = ap not (own-asked ∙ f)
-
--- whether the view u, which v is, is the top
-module _ (b : Bool) (t : View) {u v : View} (is : v ≡ u) (e : b ≡ sameView v t) where
-  top-asked : sameView u t ≡ b
-  top-asked = ap (λ x. sameView x t) (sym is) ∙ sym e
-
-  pub is-top : b ≡ true → not (sameView u t) ≡ false
-  is-top f = ap not (top-asked ∙ f)
-
-  pub not-top : b ≡ false → not (sameView u t) ≡ true
-  not-top f = ap not (top-asked ∙ f)
-
--- whether the view u, which v is, has members
-pub members-asked : (b c : Bool) {u v : View} → v ≡ u → b ≡ hasMembers 16 v → b ≡ c → hasMembers 16 u ≡ c
-members-asked b c is e f = ap (hasMembers 16) (sym is) ∙ sym e ∙ f
 
 -- ---- rule 2
 
@@ -427,10 +413,10 @@ module _ (X : List Stmt) (s : Situation) where
   entering d k reported e = rw (e, k .top, k .entered, k .number)
 
   -- what the evidence says of the reports
-  in-ring : (d : Controller) → SituationOf d X s → (b : Bool) → b ≡ reportedAll (ringOf (s .ring)) (s .ring .sender) X → turn.isReported d X ≡ b
+  in-ring : (d : Controller) → SituationOf d X s → (b : Bool) → b ≡ reportedAll (ringIs (s .ring)) (s .ring .sender) X → turn.isReported d X ≡ b
   in-ring d k b e = reported-turn d X ∙ ap₂ (λ x y. reportedAll x y X) (k .ring) (k .sender) ∙ sym e
 
-  merging : (d : Controller) → SituationOf d X s → (b : bindings.Binding) → bindingIs b ≡ turn.mergeAll (bindingIs (s .binding)) (reportsBelow (ringOf (s .ring)) (s .ring .sender) X)
+  merging : (d : Controller) → SituationOf d X s → (b : bindings.Binding) → bindingIs b ≡ turn.mergeAll (bindingIs (s .binding)) (reportsBelow (ringIs (s .ring)) (s .ring .sender) X)
       → turn.mergeAll (d .binding) (turn.countedReports d X) ≡ bindingIs b
   merging d k b e = ap₂ turn.mergeAll (k .binding) (counted-turn d X ∙ ap₂ (λ x y. reportsBelow x y X) (k .ring) (k .sender)) ∙ sym e
 
@@ -444,12 +430,12 @@ module _ (X : List Stmt) (s : Situation) where
       unfolding actionIs
       entered-already g = with-record [] turn.rule2 Rest X (λ d k h. entering d k (turn.isReported d X) refl ∙ rw (sym i ∙ f, g))
 
-      module _ (g : s .entered ≡ false) (reported : Bool) (e : reported ≡ reportedAll (ringOf (s .ring)) (s .ring .sender) X) where
+      module _ (g : s .entered ≡ false) (reported : Bool) (e : reported ≡ reportedAll (ringIs (s .ring)) (s .ring .sender) X) where
         pub not-reported : reported ≡ false → Is2 Rest
         unfolding actionIs
         not-reported b = with-record [] turn.rule2 Rest X (λ d k h. entering d k reported (in-ring d k reported e) ∙ rw (sym i ∙ f, g, b))
 
-        pub enters : reported ≡ true → (merged : bindings.Binding) → bindingIs merged ≡ turn.mergeAll (bindingIs (s .binding)) (reportsBelow (ringOf (s .ring)) (s .ring .sender) X) → Is2 (Enter (s .top) merged)
+        pub enters : reported ≡ true → (merged : bindings.Binding) → bindingIs merged ≡ turn.mergeAll (bindingIs (s .binding)) (reportsBelow (ringIs (s .ring)) (s .ring .sender) X) → Is2 (Enter (s .top) merged)
         unfolding actionIs
         enters b merged q = with-record [] turn.rule2 (Enter (s .top) merged) X (λ d k h. entering d k reported (in-ring d k reported e) ∙ rw (sym i ∙ f, g, b, merging d k merged q))
 

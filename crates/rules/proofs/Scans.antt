@@ -8,7 +8,7 @@ use Prim.Native.Nat.{ℕ, zero, suc, _+_, _≤_, _<_, min}
 use native.Mathlib.Decide.{decLt}
 use native.Mathlib.Numerals.{add-one}
 use native.Mathlib.Omega.{arith}
-use lib.Dec.{T, eqb}
+use lib.Dec.{eqb}
 use lib.ListN.{length, getD, set, length-set}
 use borrow.Author.Tests.{eq-eqb, ne-eqb, eqb-true}
 use Rattle.protocol.specs.Lists.{if_then_else_, any, filter, find}
@@ -20,14 +20,14 @@ use Rattle.protocol.proofs.Asked.{says-same-stmt}
 use Rattle.views.specs.declared.View as held
 use Rattle.views.specs.declared.History.{History}
 use Rattle.views.specs.Table.{table}
-use Rattle.views.specs.View.{viewIn}
+use Rattle.views.specs.View.{viewIn, viewsIn}
 use Rattle.views.specs.Held.{viewIs, heldAt, viewsIs}
 use Rattle.views.proofs.Tables.{any-zero, any-more}
 use Rattle.views.proofs.Held.{views-of, cut-is}
-use Rattle.pool.specs.Pool.{recordOf}
+use Rattle.pool.specs.Pool.{recordUpTo}
 use Rattle.pool.proofs.Records as records
-use Rattle.evidence.proofs.Sifted.{any-among}
-use Rattle.rules.specs.Actions.{viewsIn}
+use Rattle.evidence.proofs.Listing.{any-among}
+use Rattle.protocol.proofs.Says.{from-true}
 use Rattle.rules.specs.Rules.{ownKind, ownAt, Owns, firstPrepare}
 
 -- ---- one statement
@@ -66,12 +66,9 @@ at-own s k kind t e = eqb-true (s .origin) k (and-left (eqb (s .origin) k) (eqb 
 
 -- ---- the statements of one controller
 
-to-true : {b : Bool} → b ≡ true → T b
-to-true e = rw e tt
-
 module _ {X Y : List Stmt} {k : ℕ} (y : Owns X Y k) where
   pub owns-same : (a : Stmt) → a .origin ≡ k → any (sameStmt a) Y ≡ any (sameStmt a) X
-  owns-same a e = y .asked (sameStmt a) (λ s t. ap (λ x. x .origin) (sym (says-same-stmt .sound (to-true t))) ∙ e)
+  owns-same a e = y .asked (sameStmt a) (λ s t. ap (λ x. x .origin) (sym (says-same-stmt .sound (from-true t))) ∙ e)
 
   pub owns-kind : (kind : ℕ) → any (ownKind k kind) Y ≡ any (ownKind k kind) X
   owns-kind kind = y .asked (ownKind k kind) (λ s t. kind-own s k kind t)
@@ -134,15 +131,15 @@ pub prepare-own : (sender : ℕ) (s : Stmt) (b r : Bool) → b ≡ ownKind sende
 unfolding prepares isKind ownKind
 prepare-own sender s b r e f = and-comm (eqb (s .kind) 6) (eqb (s .origin) sender) ∙ sym e ∙ f
 
-module _ (W ids : List ℕ) (sender len i : ℕ) (so-far : any (prepares sender) (recordOf W ids i) ≡ false) where
+module _ (W ids : List ℕ) (sender len i : ℕ) (so-far : any (prepares sender) (recordUpTo W ids i) ≡ false) where
   pub prepare-first : (m : ℕ) → i < min len 512 → prepares sender (records.entry W ids i) ≡ true → m ≡ records.entry W ids i .payload
-      → some m ≡ firstPrepare sender (recordOf W ids len)
-  unfolding firstPrepare recordOf
+      → some m ≡ firstPrepare sender (recordUpTo W ids len)
+  unfolding firstPrepare recordUpTo
   prepare-first m l e q = rw (find-at (prepares sender) (records.entry W ids) (min len 512) i l (rw (records.so-far W ids i (omega arith)) at so-far) e) (ap some q)
 
-  pub prepare-none : i ≡ min len 512 → none ≡ firstPrepare sender (recordOf W ids len)
+  pub prepare-none : i ≡ min len 512 → none ≡ firstPrepare sender (recordUpTo W ids len)
   unfolding firstPrepare
-  prepare-none l = rw (find-nothing (prepares sender) (recordOf W ids len) (records.none W ids (prepares sender) len i l so-far))
+  prepare-none l = rw (find-nothing (prepares sender) (recordUpTo W ids len) (records.none W ids (prepares sender) len i l so-far))
 
 -- ---- words as a history
 

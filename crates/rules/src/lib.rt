@@ -13,7 +13,6 @@ pub use membership::rule1;
 pub use membership::rule2;
 pub use membership::rule3;
 pub use membership::rule4;
-pub use notice::has_left;
 pub use notice::rule5;
 pub use notice::rule6;
 pub use notice::rule7;
@@ -25,7 +24,7 @@ use statements::Binding;
 use views::View;
 
 // A payload that is to be sent, or none.
-pub enum Send {
+pub enum OptionalPayload {
     Nothing,
     Payload(u64),
 }
@@ -53,11 +52,13 @@ pub struct Situation {
     pub delivered: bool,
     pub joining: bool,
     pub leaving: bool,
-    pub sending: Send,
+    pub sending: OptionalPayload,
     // It has entered some view; the top; the top and nothing greater.
     pub active: bool,
     pub entered: bool,
     pub stands: bool,
+    // It is in the top's left set.
+    pub left: bool,
     pub top: View,
     pub shown: Evidence,
 }

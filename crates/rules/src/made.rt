@@ -3,7 +3,8 @@ ghost use mathlib.Core.Path.{_≡_};
 ghost use Prim.Native.Nat.{_≤_};
 ghost use Rattle.views.specs.Held.{viewsIs};
 ghost use Rattle.statements.specs.Made.{Made};
-ghost use Rattle.rules.specs.Actions.{acts, viewsIn, signedBy};
+ghost use Rattle.views.specs.View.{viewsIn};
+ghost use Rattle.rules.specs.Actions.{acts, statementOf};
 use crate::Action;
 use crate::Situation;
 use statements::Statement;
@@ -39,9 +40,9 @@ pub fn history_of(list: &[u64; View::LIMIT], n: usize) -> History
 }
 
 // The report on u.
-pub fn report(candidates: &[u64; View::LIMIT], s: Situation, u: View) -> Statement
+fn report(candidates: &[u64; View::LIMIT], s: Situation, u: View) -> Statement
     requires { ⌜ s .shown .count ≤ 16 ⌝ }
-    ensures { λ r. ⌜ Made (signedBy s (viewsIn (now (candidates .entry)) (s .shown .count)) (Action.Report u)) r ⌝ }
+    ensures { λ r. ⌜ Made (statementOf s (viewsIn (now (candidates .entry)) (s .shown .count)) (Action.Report u)) r ⌝ }
 {
     let e = s.shown;
     let b = s.binding;
@@ -53,7 +54,7 @@ pub fn report(candidates: &[u64; View::LIMIT], s: Situation, u: View) -> Stateme
 // The statement that an action signs. Of an action that signs none it means nothing.
 pub fn statement(candidates: &[u64; View::LIMIT], s: Situation, a: Action) -> Statement
     requires { ⌜ s .shown .count ≤ 16 ⌝ }
-    ensures { λ r. ⌜ Made (signedBy s (viewsIn (now (candidates .entry)) (s .shown .count)) a) r ⌝ }
+    ensures { λ r. ⌜ Made (statementOf s (viewsIn (now (candidates .entry)) (s .shown .count)) a) r ⌝ }
 {
     let k = s.number;
     let t = s.top;

@@ -7,7 +7,7 @@ ghost use Rattle.protocol.specs.Turn as turn;
 ghost use Rattle.views.specs.View.{viewIn};
 ghost use Rattle.views.specs.Held.{viewIs};
 ghost use Rattle.pool.specs.Pool.{recordIn};
-ghost use Rattle.evidence.specs.Evidence.{ringOf, Settled};
+ghost use Rattle.evidence.specs.Evidence.{ringIs, Settled};
 ghost use Rattle.rules.specs.Rules.{reportDue, statements, ownStatements, candidateViews, greatestViews, Does};
 use crate::Action;
 use crate::Situation;
@@ -18,7 +18,7 @@ use pool::RECORD;
 use views::View;
 
 // Whether a report on the view of the word u is due.
-pub fn is_due(words: &[u64; POOL_WORDS], own: &[u16; RECORD], number: u8, t: View, u: u64) -> bool
+fn is_due(words: &[u64; POOL_WORDS], own: &[u16; RECORD], number: u8, t: View, u: u64) -> bool
     ensures { λ r. ⌜ r ≡ reportDue (recordIn (now (words .entry)) (now (own .entry))) number (viewIs t) (viewIn u) ⌝ }
 {
     let v = View::of_word(u);
@@ -64,7 +64,7 @@ pub fn rule2(
     greatest: &[u64; View::LIMIT],
     s: Situation,
 ) -> Action
-    requires { ⌜ Settled (ringOf (s .ring)) (s .ring .sender) (recordIn (now words) (now ids)) (now candidates) (now greatest) (s .shown) ⌝ }
+    requires { ⌜ Settled (ringIs (s .ring)) (s .ring .sender) (recordIn (now words) (now ids)) (now candidates) (now greatest) (s .shown) ⌝ }
     ensures { λ r. ⌜ Does (statements (recordIn (now (words .entry)) (now (ids .entry))) ∷ []) s turn.rule2 r ⌝ }
 {
     let t = s.top;

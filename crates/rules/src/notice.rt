@@ -1,36 +1,32 @@
 // Rules 5 to 7: the notice is acked, stored and delivered.
 // A rule that is lent `own` is lent the controller's own statements, since it asks for no others.
-ghost use mathlib.Core.Path.{_≡_};
 ghost use mathlib.Core.List.{[], _∷_};
-ghost use Rattle.protocol.specs.Sets.{bit};
 ghost use Rattle.protocol.specs.Turn as turn;
-ghost use Rattle.views.specs.Held.{viewIs};
 ghost use Rattle.pool.specs.Pool.{recordIn};
 ghost use Rattle.rules.specs.Rules.{statements, ownStatements, Does, Acks};
 use crate::Action;
-use crate::Send;
+use crate::OptionalPayload;
 use crate::Situation;
 use crate::signed;
 use pool::POOL_WORDS;
 use pool::RECORD;
 use statements::Binding;
-use views::View;
 
 // What there is to ack.
-pub fn to_ack(words: &[u64; POOL_WORDS], ids: &[u16; RECORD], s: Situation) -> Send
+fn to_ack(words: &[u64; POOL_WORDS], ids: &[u16; RECORD], s: Situation) -> OptionalPayload
     ensures { λ r. ⌜ Acks (recordIn (now (words .entry)) (now (ids .entry))) s r ⌝ }
 {
     let t = s.top;
     let b = s.binding;
     let ring = s.ring;
     match b {
-        Binding::Bound(m) => Send::Payload(m),
-        Binding::Barred => Send::Nothing,
+        Binding::Bound(m) => OptionalPayload::Payload(m),
+        Binding::Barred => OptionalPayload::Nothing,
         Binding::Unbound => {
             if t.has_member(ring.sender) {
                 signed::first_prepare(words, ids, ring.sender)
             } else {
-                Send::Nothing
+                OptionalPayload::Nothing
             }
         }
     }
@@ -52,7 +48,7 @@ pub fn rule5(
     if signed::signed_at(words, own, s.number, 7, t.word()) {
         return Action::Rest;
     }
-    let Send::Payload(m) = to_ack(words, ids, s) else {
+    let OptionalPayload::Payload(m) = to_ack(words, ids, s) else {
         return Action::Rest;
     };
     Action::Ack(m)
@@ -76,16 +72,6 @@ pub fn rule6(words: &[u64; POOL_WORDS], own: &[u16; RECORD], s: Situation) -> Ac
     Action::Store(e.payload)
 }
 
-// Whether controller k is in the left set of v.
-pub fn has_left(v: View, k: u8) -> bool
-    ensures { λ r. ⌜ r ≡ bit (viewIs v .left) k ⌝ }
-{
-    if k >= View::WIDTH {
-        return false;
-    }
-    (v.left_set() >> k) % 2 == 1
-}
-
 // Rule 7: deliver what a quorum stored.
 pub fn rule7(s: Situation) -> Action
     ensures { λ r. ⌜ Does [] s turn.rule7 r ⌝ }
@@ -97,8 +83,7 @@ pub fn rule7(s: Situation) -> Action
     if !s.active {
         return Action::Rest;
     }
-    let t = s.top;
-    if has_left(t, s.number) {
+    if s.left {
         return Action::Rest;
     }
     if s.delivered {

@@ -8,7 +8,7 @@ ghost use Rattle.protocol.specs.Turn as turn;
 ghost use Rattle.pool.specs.Pool.{recordIn};
 ghost use Rattle.rules.specs.Rules.{ownKind, ownStatements, Does};
 use crate::Action;
-use crate::Send;
+use crate::OptionalPayload;
 use crate::Situation;
 use crate::signed;
 use pool::POOL_WORDS;
@@ -28,7 +28,7 @@ pub fn rule8(words: &[u64; POOL_WORDS], own: &[u16; RECORD], s: Situation) -> Ac
 }
 
 // Whether a leave need not wait for delivery.
-pub fn may_leave(words: &[u64; POOL_WORDS], own: &[u16; RECORD], s: Situation) -> bool
+fn may_leave(words: &[u64; POOL_WORDS], own: &[u16; RECORD], s: Situation) -> bool
     ensures { λ r. ⌜ r ≡ (s .delivered || not (s .shown .certified || any (ownKind (s .number) 6) (recordIn (now (words .entry)) (now (own .entry))))) ⌝ }
 {
     if s.delivered {
@@ -62,7 +62,7 @@ pub fn rule10(words: &[u64; POOL_WORDS], own: &[u16; RECORD], s: Situation) -> A
     ensures { λ r. ⌜ Does (ownStatements (recordIn (now (words .entry)) (now (own .entry))) ∷ []) s turn.rule10 r ⌝ }
 {
     let sending = s.sending;
-    let Send::Payload(m) = sending else {
+    let OptionalPayload::Payload(m) = sending else {
         return Action::Rest;
     };
     if !s.stands {

@@ -3,14 +3,15 @@ ghost use mathlib.Core.Path.{_≡_};
 ghost use Rattle.protocol.specs.Lists.{any};
 ghost use Rattle.views.specs.View.{viewOf};
 ghost use Rattle.pool.specs.Pool.{stmtAt, recordIn};
-ghost use Rattle.rules.specs.Actions.{sendIs};
+ghost use Rattle.rules.specs.Payloads.{payloadIs};
 ghost use Rattle.rules.specs.Rules.{ownKind, ownAt, firstPrepare, Owns};
-use crate::Send;
+use crate::OptionalPayload;
+use pool::CAPACITY;
 use pool::POOL_WORDS;
 use pool::RECORD;
 
 // Whether statement n is one of controller k, of this kind.
-pub fn is_own(words: &[u64; POOL_WORDS], n: u16, k: u8, kind: u64) -> bool
+fn is_own(words: &[u64; POOL_WORDS], n: u16, k: u8, kind: u64) -> bool
     ensures { λ r. ⌜ r ≡ ownKind k kind (stmtAt (now (words .entry)) n) ⌝ }
 {
     if pool::origin(words, n) != k as u64 {
@@ -20,7 +21,7 @@ pub fn is_own(words: &[u64; POOL_WORDS], n: u16, k: u8, kind: u64) -> bool
 }
 
 // Whether it is at t too.
-pub fn is_own_at(words: &[u64; POOL_WORDS], n: u16, k: u8, kind: u64, t: u64) -> bool
+fn is_own_at(words: &[u64; POOL_WORDS], n: u16, k: u8, kind: u64, t: u64) -> bool
     ensures { λ r. ⌜ r ≡ ownAt k kind (viewOf t) (stmtAt (now (words .entry)) n) ⌝ }
 {
     if !is_own(words, n, k, kind) {
@@ -60,19 +61,19 @@ pub fn signed_at(words: &[u64; POOL_WORDS], ids: &[u16; RECORD], k: u8, kind: u6
 }
 
 // The payload of the sender's first prepare in the record.
-pub fn first_prepare(words: &[u64; POOL_WORDS], ids: &[u16; RECORD], sender: u8) -> Send
-    ensures { λ r. ⌜ sendIs r ≡ firstPrepare sender (recordIn (now (words .entry)) (now (ids .entry))) ⌝ }
+pub fn first_prepare(words: &[u64; POOL_WORDS], ids: &[u16; RECORD], sender: u8) -> OptionalPayload
+    ensures { λ r. ⌜ payloadIs r ≡ firstPrepare sender (recordIn (now (words .entry)) (now (ids .entry))) ⌝ }
 {
     let end = pool::record_length(ids);
     let mut i = 0usize;
     while i < end {
         let n = ids[i];
         if is_own(words, n, sender, 6) {
-            return Send::Payload(pool::payload(words, n));
+            return OptionalPayload::Payload(pool::payload(words, n));
         }
         i += 1;
     }
-    Send::Nothing
+    OptionalPayload::Nothing
 }
 
 // Fills `own` with the statements of controller k in the record, for the rules that ask for no others: they are few.
@@ -91,5 +92,5 @@ pub fn own_of(words: &[u64; POOL_WORDS], ids: &[u16; RECORD], k: u8, own: &mut [
         count += mine as usize;
         i += 1;
     }
-    own[512] = count as u16;
+    own[CAPACITY] = count as u16;
 }

@@ -21,7 +21,7 @@ use Rattle.schedule.specs.declared.line.Parsed.the-variants.{Readable, U
 use Rattle.schedule.specs.declared.verb.Verb.{Verb}
 use Rattle.schedule.specs.declared.verb.Verb.the-variants.{Setup, Join, Leave, Send, Give, All, Turn, Lie, Unknown}
 use Rattle.schedule.specs.Line.{setupWord, ended, Written}
-use Rattle.schedule.specs.Reading.{wordOf, verbOf, LastAt, SetAt, IsNamed, IsNumbered, NamedBy, NumberedBy, SetBy, LieBy, Understood}
+use Rattle.schedule.specs.Reading.{verbText, verbOf, LastAt, SetAt, IsNamed, IsNumbered, NamedBy, NumberedBy, SetBy, LieBy, Understood}
 use Rattle.schedule.proofs.Words.{begins, ended-same, OfVerb, reads-none}
 use Rattle.schedule.proofs.Fields.{left-none}
 
@@ -57,23 +57,23 @@ module _ (T w : List ℕ) (p : Part) (l : LastAt T (length w) 15 p) where
 module _ (T : List ℕ) (at : ℕ) (p : Part) where
   some : (v : Verb) → NamedBy T v at → LastAt T at 15 p → p .ok ≡ true → Understood T (Readable (namedLine v (p .value)))
   some Setup n l o = absurd (n .named)
-  some Join n l o = record { reads = named-written T (wordOf Join) p (rw (n .place) at l) (begins T Join (n .word)) o }
-  some Leave n l o = record { reads = named-written T (wordOf Leave) p (rw (n .place) at l) (begins T Leave (n .word)) o }
+  some Join n l o = record { reads = named-written T (verbText Join) p (rw (n .place) at l) (begins T Join (n .word)) o }
+  some Leave n l o = record { reads = named-written T (verbText Leave) p (rw (n .place) at l) (begins T Leave (n .word)) o }
   some Send n l o = absurd (n .named)
   some Give n l o = absurd (n .named)
-  some All n l o = record { reads = named-written T (wordOf All) p (rw (n .place) at l) (begins T All (n .word)) o }
-  some Turn n l o = record { reads = named-written T (wordOf Turn) p (rw (n .place) at l) (begins T Turn (n .word)) o }
+  some All n l o = record { reads = named-written T (verbText All) p (rw (n .place) at l) (begins T All (n .word)) o }
+  some Turn n l o = record { reads = named-written T (verbText Turn) p (rw (n .place) at l) (begins T Turn (n .word)) o }
   some Lie n l o = absurd (n .named)
   some Unknown n l o = absurd (n .named)
 
   none : (v : Verb) → NamedBy T v at → LastAt T at 15 p → p .ok ≡ false → OfVerb v (λ l. ¬ Written l (ended T))
   none Setup n l o = absurd (n .named)
-  none Join n l o = named-not T (wordOf Join) p (rw (n .place) at l) o
-  none Leave n l o = named-not T (wordOf Leave) p (rw (n .place) at l) o
+  none Join n l o = named-not T (verbText Join) p (rw (n .place) at l) o
+  none Leave n l o = named-not T (verbText Leave) p (rw (n .place) at l) o
   none Send n l o = absurd (n .named)
   none Give n l o = absurd (n .named)
-  none All n l o = named-not T (wordOf All) p (rw (n .place) at l) o
-  none Turn n l o = named-not T (wordOf Turn) p (rw (n .place) at l) o
+  none All n l o = named-not T (verbText All) p (rw (n .place) at l) o
+  none Turn n l o = named-not T (verbText Turn) p (rw (n .place) at l) o
   none Lie n l o = absurd (n .named)
   none Unknown n l o = absurd (n .named)
 
@@ -117,8 +117,8 @@ module _ (T : List ℕ) (p q : Part) (n : NumberAt T 4 15 p) (l : LastAt T (p .n
   both Setup b o = absurd (b .numbered)
   both Join b o = absurd (b .numbered)
   both Leave b o = absurd (b .numbered)
-  both Send b o = record { reads = numbered-written T (wordOf Send) p q n l (begins T Send (b .word)) o }
-  both Give b o = record { reads = numbered-written T (wordOf Give) p q n l (begins T Give (b .word)) o }
+  both Send b o = record { reads = numbered-written T (verbText Send) p q n l (begins T Send (b .word)) o }
+  both Give b o = record { reads = numbered-written T (verbText Give) p q n l (begins T Give (b .word)) o }
   both All b o = absurd (b .numbered)
   both Turn b o = absurd (b .numbered)
   both Lie b o = absurd (b .numbered)
@@ -128,8 +128,8 @@ module _ (T : List ℕ) (p q : Part) (n : NumberAt T 4 15 p) (l : LastAt T (p .n
   neither Setup b o = absurd (b .numbered)
   neither Join b o = absurd (b .numbered)
   neither Leave b o = absurd (b .numbered)
-  neither Send b o = numbered-not T (wordOf Send) p q n l o
-  neither Give b o = numbered-not T (wordOf Give) p q n l o
+  neither Send b o = numbered-not T (verbText Send) p q n l o
+  neither Give b o = numbered-not T (verbText Give) p q n l o
   neither All b o = absurd (b .numbered)
   neither Turn b o = absurd (b .numbered)
   neither Lie b o = absurd (b .numbered)
@@ -173,8 +173,8 @@ module _ (T : List ℕ) (m s f : Part) (cm : SetAt T 5 m) (cs : NumberAt T (m .n
 
 -- ---- by the word
 module _ (T : List ℕ) (v : Verb) (by : v ≡ verbOf T) where
-  pub named-by : (u : Verb) (at : ℕ) → v ≡ u → at ≡ length (wordOf u) → IsNamed u → NamedBy T v at
-  named-by u at e a n = record { word = by; place = a ∙ ap (λ (x : Verb). length (wordOf x)) (sym e); named = subst IsNamed (sym e) n }
+  pub named-by : (u : Verb) (at : ℕ) → v ≡ u → at ≡ length (verbText u) → IsNamed u → NamedBy T v at
+  named-by u at e a n = record { word = by; place = a ∙ ap (λ (x : Verb). length (verbText x)) (sym e); named = subst IsNamed (sym e) n }
 
   pub numbered-by : (u : Verb) → v ≡ u → IsNumbered u → NumberedBy T v
   numbered-by u e n = record { word = by; numbered = subst IsNumbered (sym e) n }

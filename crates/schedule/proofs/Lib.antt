@@ -3,4 +3,4 @@ pub mod Words
 pub mod Fields
 pub mod Commands
 pub mod Lies
-pub mod Whole
+pub mod Lines

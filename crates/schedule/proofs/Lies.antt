@@ -17,6 +17,7 @@ use Rattle.statements.specs.declared.ReadStatement.{ReadStatement}
 use Rattle.statements.specs.Text.{parted, text}
 use Rattle.statements.specs.Meaning.{stmtOf}
 use Rattle.statements.specs.Promise.{ReadOf}
+use Rattle.protocol.proofs.Says.{is-true}
 use Rattle.schedule.specs.declared.line.Line.the-variants as is
 use Rattle.schedule.specs.declared.line.Parsed.the-variants.{Readable, Unreadable}
 use Rattle.schedule.specs.declared.verb.Verb.the-variants.{Lie}
@@ -26,9 +27,6 @@ use Rattle.schedule.proofs.Words.{starts-only, begins, ended-same, read
 use Rattle.schedule.proofs.Commands.{follows, put-together}
 use Rattle.statements.proofs.Fits.{keeps-fits}
 use Rattle.statements.proofs.Written.{text-size}
-
-is-true : (b : Bool) → T b → b ≡ true
-is-true true t = refl
 
 both : (a b : Bool) → (a && b) ≡ true → (a ≡ true) × (T b)
 both true true e = (refl, tt)

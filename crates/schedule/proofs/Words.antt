@@ -16,7 +16,7 @@ use Rattle.statements.specs.Text.{parted, text}
 use Rattle.schedule.specs.declared.verb.Verb.{Verb}
 use Rattle.schedule.specs.declared.verb.Verb.the-variants.{Setup, Join, Leave, Send, Give, All, Turn, Lie, Unknown}
 use Rattle.schedule.specs.Line.{Line, setup, join, leave, send, give, all, turn, lie, noStatement, setupWord, joinWord, leaveWord, sendWord, giveWord, allWord, turnWord, lieWord, ended, Written, Reads}
-use Rattle.schedule.specs.Reading.{startsWith, wordOf, verbOf}
+use Rattle.schedule.specs.Reading.{startsWith, verbText, verbOf}
 
 -- ---- a text begins with its word
 pub starts-only : (T w : List ℕ) → startsWith T w ≡ true → T ≡ w ++ drop (length w) T
@@ -30,13 +30,13 @@ starts-only (a ∷ T) (c ∷ w) e = go (eqb a c) refl (starts-only T w)
     go false p ih = absurd (false≢true (simp p at e))
 
 abbrev Begins : List ℕ → Verb → Type 0
-Begins T v = T ≡ wordOf v ++ drop (length (wordOf v)) T
+Begins T v = T ≡ verbText v ++ drop (length (verbText v)) T
 
-begins-if : (T : List ℕ) (v u : Verb) → Begins T u → Begins T (cond (startsWith T (wordOf v)) v u)
-begins-if T v u b = go (startsWith T (wordOf v)) refl
+begins-if : (T : List ℕ) (v u : Verb) → Begins T u → Begins T (cond (startsWith T (verbText v)) v u)
+begins-if T v u b = go (startsWith T (verbText v)) refl
   where
-    go : (t : Bool) → startsWith T (wordOf v) ≡ t → Begins T (cond t v u)
-    go true e = starts-only T (wordOf v) e
+    go : (t : Bool) → startsWith T (verbText v) ≡ t → Begins T (cond t v u)
+    go true e = starts-only T (verbText v) e
     go false e = b
 
 verb-begins : (T : List ℕ) → Begins T (verbOf T)
@@ -44,7 +44,7 @@ unfolding verbOf
 verb-begins T =
     begins-if T Setup _ (begins-if T Join _ (begins-if T Leave _ (begins-if T Send _ (begins-if T Give _ (begins-if T All _ (begins-if T Turn _ (begins-if T Lie _ refl)))))))
 
-pub begins : (T : List ℕ) (v : Verb) → v ≡ verbOf T → T ≡ wordOf v ++ drop (length (wordOf v)) T
+pub begins : (T : List ℕ) (v : Verb) → v ≡ verbOf T → T ≡ verbText v ++ drop (length (verbText v)) T
 begins T v e = subst (Begins T) (sym e) (verb-begins T)
 
 -- ---- a line's newline

@@ -79,16 +79,16 @@ startsWith S [] = true
 startsWith [] (c ∷ w) = false
 startsWith (a ∷ S) (c ∷ w) = cond (eqb a c) (startsWith S w) false
 
-abbrev pub wordOf : Verb → List ℕ
-wordOf Setup = setupWord
-wordOf Join = joinWord
-wordOf Leave = leaveWord
-wordOf Send = sendWord
-wordOf Give = giveWord
-wordOf All = allWord
-wordOf Turn = turnWord
-wordOf Lie = lieWord
-wordOf Unknown = []
+abbrev pub verbText : Verb → List ℕ
+verbText Setup = setupWord
+verbText Join = joinWord
+verbText Leave = leaveWord
+verbText Send = sendWord
+verbText Give = giveWord
+verbText All = allWord
+verbText Turn = turnWord
+verbText Lie = lieWord
+verbText Unknown = []
 
 -- No word begins with another, so the order of the tests is free.
 unfoldable pub verbOf : List ℕ → Verb
@@ -135,7 +135,7 @@ IsNumbered Unknown = ⊥
 
 pub record NamedBy (T : List ℕ) (v : Verb) (at : ℕ) : Type 0 where
   pub word : v ≡ verbOf T
-  pub place : at ≡ length (wordOf v)
+  pub place : at ≡ length (verbText v)
   pub named : IsNamed v
 
 pub record NumberedBy (T : List ℕ) (v : Verb) : Type 0 where

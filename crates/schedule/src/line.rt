@@ -5,9 +5,19 @@ ghost use Rattle.schedule.specs.Reading.{bodyLength, LastAt, SetAt, Name
 use crate::verb::Verb;
 use crate::verb::starts_with;
 use crate::verb::verb_of;
+use statements::BYTE_MAX;
 use statements::Part;
 use statements::ReadStatement;
+use text::NEWLINE;
+use text::NUMBER_MAX;
 use text::Read;
+use views::View;
+
+// A set is written as four hexadecimal digits.
+const SET_DIGITS: usize = 4;
+
+// The last controller's number.
+const LAST: u64 = View::WIDTH as u64 - 1;
 
 // A lie's statement is read where the lie is told (`lied`), so that no other line pays for it.
 pub enum Line {
@@ -38,7 +48,7 @@ fn line_end(s: &[u8]) -> usize
 {
     let mut i = 0usize;
     while i < s.len() {
-        if s[i] == 10 {
+        if s[i] == NEWLINE {
             return i;
         }
         i += 1;
@@ -71,7 +81,7 @@ fn set_at(line: &[u8], at: usize) -> Part
         next: line.len(),
     };
     if text::comma_at(line, at) {
-        let r = text::read_hex(line, at + 1, 4);
+        let r = text::read_hex(line, at + 1, SET_DIGITS);
         let Read::Got { value, next } = r else {
             return none;
         };
@@ -89,7 +99,7 @@ fn read_named(line: &[u8], verb: Verb, at: usize) -> Parsed
     requires { ⌜ NamedBy (now line) verb at ⌝ }
     ensures { λ r. ⌜ Understood (now (line .entry)) r ⌝ }
 {
-    let p = last_at(line, at, 15);
+    let p = last_at(line, at, LAST);
     if !p.ok {
         return Parsed::Unreadable;
     }
@@ -107,8 +117,8 @@ fn read_numbered(line: &[u8], verb: Verb) -> Parsed
     requires { ⌜ NumberedBy (now line) verb ⌝ }
     ensures { λ r. ⌜ Understood (now (line .entry)) r ⌝ }
 {
-    let p = statements::number_at(line, 4, 15);
-    let n = last_at(line, p.next, 18446744073709551615);
+    let p = statements::number_at(line, 4, LAST);
+    let n = last_at(line, p.next, NUMBER_MAX);
     if !n.ok {
         return Parsed::Unreadable;
     }
@@ -124,7 +134,7 @@ fn read_setup(line: &[u8]) -> Parsed
     ensures { λ r. ⌜ Understood (now (line .entry)) r ⌝ }
 {
     let members = set_at(line, 5);
-    let sender = statements::number_at(line, members.next, 255);
+    let sender = statements::number_at(line, members.next, BYTE_MAX);
     let faulty = set_at(line, sender.next);
     if faulty.next < line.len() {
         return Parsed::Unreadable;

@@ -46,29 +46,29 @@ keptWord = 107 ∷ 101 ∷ 112 ∷ 116 ∷ []
 -- ---- the lines
 
 -- A line: its fields parted by commas, and a newline.
-unfoldable pub line : List (List ℕ) → List ℕ
-line fields = parted fields ++ (10 ∷ [])
+unfoldable pub lineText : List (List ℕ) → List ℕ
+lineText fields = parted fields ++ (10 ∷ [])
 
 -- A name, how many views there are, and the views.
 unfoldable pub viewsLine : List ℕ → List View → List ℕ
-viewsLine name views = line (name ∷ decText (length views) ∷ map viewText views)
+viewsLine name views = lineText (name ∷ decText (length views) ∷ map viewText views)
 
 -- The wished view.
 unfoldable pub wishedLine : View → List ℕ
-wishedLine v = line (wishedWord ∷ viewText v ∷ [])
+wishedLine v = lineText (wishedWord ∷ viewText v ∷ [])
 
 -- That there is a conflict.
 unfoldable pub conflictLine : List ℕ
-conflictLine = line (conflictWord ∷ [])
+conflictLine = lineText (conflictWord ∷ [])
 
 -- More than sixteen candidates are not told.
 unfoldable pub candidatesLine : Bool → List View → List ℕ
-candidatesLine many views = if many then line (candidatesWord ∷ manyWord ∷ []) else viewsLine candidatesWord views
+candidatesLine many views = if many then lineText (candidatesWord ∷ manyWord ∷ []) else viewsLine candidatesWord views
 
 -- The payload that has a certificate, and whether it is stored or only kept; or that there is none.
 unfoldable pub certificateLine : Option ℕ → (ℕ → Bool) → List ℕ
-certificateLine none stored = line (certificateWord ∷ noneWord ∷ [])
-certificateLine (some m) stored = line (certificateWord ∷ decText m ∷ (if stored m then storedWord else keptWord) ∷ [])
+certificateLine none stored = lineText (certificateWord ∷ noneWord ∷ [])
+certificateLine (some m) stored = lineText (certificateWord ∷ decText m ∷ (if stored m then storedWord else keptWord) ∷ [])
 
 -- ---- the whole
 
@@ -78,13 +78,13 @@ agreedText R sender X =
     candidatesLine (ltb 16 (length (candidates R X))) (candidates R X) ++ (viewsLine greatestWord (greatest R X) ++ certificateLine (first (certificates R sender X)) (isStored R X))
 
 -- What X shows in the ring R with this sender. After a conflict nothing but the wished view is told.
-unfoldable pub shownText : Ring → ℕ → List Stmt → List ℕ
-shownText R sender X = wishedLine (wished R X) ++ (if isConflict R sender X then conflictLine else agreedText R sender X)
+unfoldable pub screenText : Ring → ℕ → List Stmt → List ℕ
+screenText R sender X = wishedLine (wished R X) ++ (if isConflict R sender X then conflictLine else agreedText R sender X)
 
 -- n was answered for the memory out, which holds `after` then: its text stands from the start if there are 512 bytes, which are enough, and what is behind it is
 -- as before; otherwise n is 0 and all is as before.
-pub record Shows (R : Ring) (sender : ℕ) (X : List Stmt) (out : List ℕ) (n : ℕ) (after : List ℕ) : Type 0 where
-  pub count : 512 ≤ length out → n ≡ length (shownText R sender X)
-  pub fits : 512 ≤ length out → length (shownText R sender X) ≤ 512
-  pub is : 512 ≤ length out → after ≡ sets out 0 (shownText R sender X)
+pub record ScreenShows (R : Ring) (sender : ℕ) (X : List Stmt) (out : List ℕ) (n : ℕ) (after : List ℕ) : Type 0 where
+  pub count : 512 ≤ length out → n ≡ length (screenText R sender X)
+  pub fits : 512 ≤ length out → length (screenText R sender X) ≤ 512
+  pub is : 512 ≤ length out → after ≡ sets out 0 (screenText R sender X)
   pub short : length out < 512 → (n ≡ 0) × (after ≡ out)

@@ -1,21 +1,13 @@
 -- What the functions that write the text of a service screen promise each other: the same lines, from the evidence as it is held.
 -- Assumes nothing.
-use Prim.Native.Nat.{ℕ, _+_, _≤_}
+use Prim.Native.Nat.{ℕ, _≤_}
 use mathlib.Core.Path.{_≡_}
 use mathlib.Core.Bool.{Bool, false}
 use mathlib.Core.List.{List, _++_}
-use lib.ListN.{length}
-use lib.Seq.{sets}
 use Rattle.protocol.specs.Lists.{if_then_else_, when}
-use Rattle.views.specs.View.{viewOf}
+use Rattle.views.specs.View.{viewOf, viewsOf}
 use Rattle.evidence.specs.declared.Evidence.{Evidence}
-use Rattle.ranking.specs.Slots.{viewsOf}
 use Rattle.screen.specs.Screen.{wishedLine, conflictLine, candidatesLine, viewsLine, certificateLine, greatestWord}
-
--- t was written over `out` from `at`, and n is the position after it.
-pub record Wrote (out : List ℕ) (at : ℕ) (t : List ℕ) (n : ℕ) (after : List ℕ) : Type 0 where
-  pub next : n ≡ at + length t
-  pub is : after ≡ sets out at t
 
 -- The certificate's line.
 unfoldable pub certifiedLine : Bool → ℕ → Bool → List ℕ

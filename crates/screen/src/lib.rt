@@ -3,15 +3,15 @@ ghost use mathlib.Core.Path.{_≡_};
 ghost use mathlib.Core.Bool.{false};
 ghost use mathlib.Core.List.{[], _∷_, _++_};
 ghost use Prim.Native.Nat.{_+_, _*_, _≤_, _<_};
-ghost use lib.ListN.{length, getD};
+ghost use lib.ListN.{length};
 ghost use Rattle.text.specs.Text.{decText};
+ghost use Rattle.text.specs.Written.{Wrote};
 ghost use Rattle.statements.specs.Parts.{tailText};
-ghost use Rattle.views.specs.View.{viewOf};
+ghost use Rattle.views.specs.View.{viewOf, viewsOf};
 ghost use Rattle.pool.specs.Pool.{recordIn};
-ghost use Rattle.ranking.specs.Slots.{viewsOf};
-ghost use Rattle.evidence.specs.Evidence.{ringOf};
-ghost use Rattle.screen.specs.Screen.{wishedLine, candidatesLine, viewsLine, greatestWord, Shows};
-ghost use Rattle.screen.specs.ScreenParts.{Wrote, certifiedLine, linesOf, Few};
+ghost use Rattle.evidence.specs.Evidence.{ringIs};
+ghost use Rattle.screen.specs.Screen.{wishedLine, candidatesLine, viewsLine, greatestWord, ScreenShows};
+ghost use Rattle.screen.specs.ScreenParts.{certifiedLine, linesOf, Few};
 use evidence::Evidence;
 use evidence::Ring;
 use pool::POOL_WORDS;
@@ -21,26 +21,6 @@ use views::View;
 // No text is longer: 16 bytes of the wished view, 158 of sixteen candidates, 156 of sixteen views of a history and 40 of a certificate.
 pub const SHOWN_BYTES: usize = 512;
 
-fn put_text(out: &mut [u8], at: usize, t: &[u8]) -> usize
-    requires { ⌜ at + length (now t) ≤ length (now out) ⌝ }
-    ensures { λ r. ⌜ Wrote (now (out .entry)) at (now (t .entry)) r (now (out .exit)) ⌝ }
-{
-    let mut i = 0usize;
-    while i < t.len() {
-        out[at + i] = t[i];
-        i += 1;
-    }
-    at + i
-}
-
-// View i of a list.
-fn view_in(list: &[u64; View::LIMIT], i: usize) -> u64
-    requires { ⌜ i < 16 ⌝ }
-    ensures { λ r. ⌜ r ≡ getD (now (list .entry)) i 0 ⌝ }
-{
-    list[i]
-}
-
 // A comma and a view for each of the first `n` of a list.
 fn put_list(out: &mut [u8], from: usize, list: &[u64; View::LIMIT], n: usize) -> usize
     requires { ⌜ (n ≤ 16) × (from + 9 * n ≤ length (now out)) ⌝ }
@@ -49,7 +29,7 @@ fn put_list(out: &mut [u8], from: usize, list: &[u64; View::LIMIT], n: usize) ->
     let mut at = from;
     let mut i = 0usize;
     while i < n {
-        let v = View::of_word(view_in(list, i));
+        let v = View::of_word(views::list_at(list, i));
         at = statements::put_view(out, at, v);
         i += 1;
     }
@@ -63,17 +43,17 @@ fn put_views(out: &mut [u8], at: usize, list: &[u64; View::LIMIT], n: usize) -> 
 {
     let a = statements::put_number(out, at, n as u64);
     let b = put_list(out, a, list, n);
-    put_text(out, b, b"\n")
+    text::write_text(out, b, b"\n")
 }
 
 fn put_wished(out: &mut [u8], wished: u64) -> usize
     requires { ⌜ 16 ≤ length (now out) ⌝ }
     ensures { λ r. ⌜ Wrote (now (out .entry)) 0 (wishedLine (viewOf wished)) r (now (out .exit)) ⌝ }
 {
-    let a = put_text(out, 0, b"wished");
+    let a = text::write_text(out, 0, b"wished");
     let v = View::of_word(wished);
     let b = statements::put_view(out, a, v);
-    put_text(out, b, b"\n")
+    text::write_text(out, b, b"\n")
 }
 
 fn put_candidates(
@@ -87,9 +67,9 @@ fn put_candidates(
     ensures { λ r. ⌜ Wrote (now (out .entry)) at (candidatesLine many (viewsOf (now (list .entry)) n)) r (now (out .exit)) ⌝ }
 {
     if many {
-        return put_text(out, at, b"candidates,many\n");
+        return text::write_text(out, at, b"candidates,many\n");
     }
-    let a = put_text(out, at, b"candidates");
+    let a = text::write_text(out, at, b"candidates");
     put_views(out, a, list, n)
 }
 
@@ -97,7 +77,7 @@ fn put_greatest(out: &mut [u8], at: usize, list: &[u64; View::LIMIT], n: usize) 
     requires { ⌜ (n ≤ 16) × (at + 156 ≤ length (now out)) ⌝ }
     ensures { λ r. ⌜ Wrote (now (out .entry)) at (viewsLine greatestWord (viewsOf (now (list .entry)) n)) r (now (out .exit)) ⌝ }
 {
-    let a = put_text(out, at, b"greatest");
+    let a = text::write_text(out, at, b"greatest");
     put_views(out, a, list, n)
 }
 
@@ -106,14 +86,14 @@ fn put_certificate(out: &mut [u8], at: usize, certified: bool, payload: u64, sto
     ensures { λ r. ⌜ Wrote (now (out .entry)) at (certifiedLine certified payload stored) r (now (out .exit)) ⌝ }
 {
     if !certified {
-        return put_text(out, at, b"certificate,none\n");
+        return text::write_text(out, at, b"certificate,none\n");
     }
-    let a = put_text(out, at, b"certificate");
+    let a = text::write_text(out, at, b"certificate");
     let b = statements::put_number(out, a, payload);
     if stored {
-        return put_text(out, b, b",stored\n");
+        return text::write_text(out, b, b",stored\n");
     }
-    put_text(out, b, b",kept\n")
+    text::write_text(out, b, b",kept\n")
 }
 
 fn put_evidence(
@@ -127,7 +107,7 @@ fn put_evidence(
 {
     let a = put_wished(out, e.wished);
     if e.conflict {
-        return put_text(out, a, b"conflict\n");
+        return text::write_text(out, a, b"conflict\n");
     }
     let b = put_candidates(out, a, e.many, candidates, e.count);
     let c = put_greatest(out, b, greatest, e.length);
@@ -136,7 +116,7 @@ fn put_evidence(
 
 // Writes what a record shows from the start of `out`, in lines, and answers the text's length; 0, and `out` as it was, where `out` has fewer than 512 bytes.
 pub fn shown(words: &[u64; POOL_WORDS], ids: &[u16; RECORD], ring: Ring, out: &mut [u8]) -> usize
-    ensures { λ r. ⌜ Shows (ringOf ring) (ring .sender) (recordIn (now (words .entry)) (now (ids .entry))) (now (out .entry)) r (now (out .exit)) ⌝ }
+    ensures { λ r. ⌜ ScreenShows (ringIs ring) (ring .sender) (recordIn (now (words .entry)) (now (ids .entry))) (now (out .entry)) r (now (out .exit)) ⌝ }
 {
     if out.len() < SHOWN_BYTES {
         return 0;

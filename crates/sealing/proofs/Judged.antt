@@ -4,14 +4,15 @@ use mathlib.Core.Path.{_≡_, sym, ap, _∙_, subst}
 use mathlib.Core.Bool.{Bool, true, false}
 use mathlib.Core.List.{List}
 use Prim.Native.Nat.{ℕ, _+_, _≤_, _<_}
-use native.Mathlib.Decide.{decLt, ℕ-discrete}
+use native.Mathlib.Decide.{ℕ-discrete}
 use native.Mathlib.Omega.{arith}
 use lib.Dec.{eqb}
-use lib.ListN.{length, getD, set, replicate, getD-replicate, length-replicate, List·getD-eq-default}
+use lib.ListN.{length, getD, set, replicate}
 use lib.Seq.{getD-set-same, getD-set-other}
 use borrow.Author.Tests.{eq-eqb, ne-eqb}
 use Rattle.protocol.specs.Statement.{Stmt}
 use Rattle.views.specs.View.{viewOf}
+use Rattle.pool.proofs.Searches.{zeros}
 use Rattle.tables.specs.Index.{keyAt}
 use Rattle.votes.specs.Tables.{sealsAt, Tables, Verdicts}
 use Rattle.sealing.specs.Memos.{Memos, Later, Known, Blank}
@@ -39,11 +40,7 @@ known-all w l = record { known = λ k h i. w .known k h (omega arith) }
 
 -- an array that was just made
 pub blank-made : (n : ℕ) → Blank (replicate n 0)
-blank-made n = record { none = λ i. go i (decLt i n) }
-  where
-    go : (i : ℕ) → Dec (i < n) → _≡_ {A = ℕ} (getD (replicate n 0) i 0) 0
-    go i (yes l) = getD-replicate n i 0 0 l
-    go i (no l) = List·getD-eq-default (replicate n 0) 0 (omega (arith, length-replicate {A = ℕ} n 0))
+blank-made n = record { none = zeros n }
 
 pub memos-first : {W : List ℕ} {X : List Stmt} {init : ℕ} {K R M : List ℕ} → Blank M → Memos W X init K R M
 memos-first b = record { right = λ k d. absurd (d (b .none k)) }
@@ -59,15 +56,15 @@ module _ {W : List ℕ} {X : List Stmt} {init : ℕ} {K R M N : List ℕ} (ok : 
 
 -- ---- what the verdicts say
 
-module _ {W : List ℕ} {X : List Stmt} {init : ℕ} {K R : List ℕ} {nc na : ℕ} where
-  pub verdicts-of : {M : List ℕ} → Tables W X init K R nc na → Memos W X init K R M → Known 0 nc M → Known 512 (512 + na) M → Verdicts W X init K R nc na M
+module _ {W : List ℕ} {X : List Stmt} {init : ℕ} {K R : List ℕ} {choiceCount agreementCount : ℕ} where
+  pub verdicts-of : {M : List ℕ} → Tables W X init K R choiceCount agreementCount → Memos W X init K R M → Known 0 choiceCount M → Known 512 (512 + agreementCount) M → Verdicts W X init K R choiceCount agreementCount M
   verdicts-of {M} ok m c a = record {
     candidate = λ i l. m .right i (c .known i (omega arith) l) ∙ about-choice (omega (arith, ok .chosen .few)) .so;
     sealed = λ i l. m .right (512 + i) (a .known (512 + i) (omega arith) (omega arith)) ∙ about-agreement i .so;
   }
 
-  pub says-yes : {M : List ℕ} {a : ℕ} → Verdicts W X init K R nc na M → a < na → getD M (512 + a) 0 ≡ 1 → sealsAt W X init K R a ≡ true
+  pub says-yes : {M : List ℕ} {a : ℕ} → Verdicts W X init K R choiceCount agreementCount M → a < agreementCount → getD M (512 + a) 0 ≡ 1 → sealsAt W X init K R a ≡ true
   says-yes {M} {a} ok l e = sym (ok .sealed a l) ∙ eq-eqb (getD M (512 + a) 0) 1 e
 
-  pub says-no : {M : List ℕ} {a : ℕ} → Verdicts W X init K R nc na M → a < na → (getD M (512 + a) 0 ≡ 1 → ⊥) → false ≡ sealsAt W X init K R a
+  pub says-no : {M : List ℕ} {a : ℕ} → Verdicts W X init K R choiceCount agreementCount M → a < agreementCount → (getD M (512 + a) 0 ≡ 1 → ⊥) → false ≡ sealsAt W X init K R a
   says-no {M} {a} ok l e = sym (ne-eqb (getD M (512 + a) 0) 1 e) ∙ ok .sealed a l

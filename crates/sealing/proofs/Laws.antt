@@ -10,20 +10,21 @@ use lib.Dec.{eqb}
 use lib.ListN.{length, getD, set}
 use lib.Seq.{getD-set-same, getD-set-other, set-out}
 use borrow.Author.Tests.{eq-eqb, ne-eqb, lt-ltb, le-ltb}
-use Rattle.protocol.specs.Lists.{any, all, if_then_else_}
+use Rattle.protocol.specs.Lists.{any, all}
 use Rattle.protocol.specs.View.{View, sameView, size}
 use Rattle.protocol.specs.Statement.{Stmt}
 use Rattle.protocol.specs.Evidence.{isCandidate}
 use Rattle.protocol.specs.Grounds.{isTop}
 use Rattle.protocol.proofs.Decided.{says-in}
 use Rattle.views.specs.Table.{table}
-use Rattle.views.specs.View.{viewOf, ring}
+use Rattle.views.specs.View.{viewOf, ringOfWord}
 use Rattle.views.proofs.Tables.{any-zero, any-suc, any-at, all-zero, all-more, all-miss}
 use Rattle.views.proofs.Views.{same-yes}
 use Rattle.pool.specs.Pool.{viewAt, countOf, stmtAt}
 use Rattle.tables.specs.Index.{keyAt, numberAt, Indexed, Latest, Passed}
 use Rattle.tables.proofs.Searches.{passed-first, passed-next}
 use Rattle.votes.specs.Tables.{upTo, IsWord, choiceAt, agreementAt, gives, sealsAt, ends, Tables}
+use Rattle.protocol.proofs.Found.{if-true, if-false}
 use Rattle.sealing.specs.Memos.{asked, Memos, Later}
 
 or-none : (a b : Bool) → a ≡ false → b ≡ false → (a || b) ≡ false
@@ -46,10 +47,10 @@ none-has {p} (suc n) h = any-suc p (λ i. i) n ∙ ap₂ _||_ (none-has n (λ i 
 
 module _ (X : List Stmt) (init : ℕ) where
   abbrev pub cand : View → Bool
-  cand v = isCandidate (ring init) X v
+  cand v = isCandidate (ringOfWord init) X v
 
   abbrev pub tops : View → Bool
-  tops t = isTop (ring init) X t
+  tops t = isTop (ringOfWord init) X t
 
 module _ (W : List ℕ) (X : List Stmt) (init : ℕ) (K R : List ℕ) where
   -- the search for a choice that gives v has come down to x, and the search for an agreement to a history with the top t that seals it to y
@@ -92,47 +93,47 @@ module _ {W : List ℕ} {X : List Stmt} {init : ℕ} {K R : List ℕ} where
     so = λ n i. passed-next (end-other W X init K R t) (w .so n i) l (end-is W X init K R t (y - 1) false (w .so n i .here l) (sym e ∙ f)) s;
   }
 
-module _ {W : List ℕ} {X : List Stmt} {init : ℕ} {K R : List ℕ} {nc na : ℕ} (ok : Tables W X init K R nc na) where
+module _ {W : List ℕ} {X : List Stmt} {init : ℕ} {K R : List ℕ} {choiceCount agreementCount : ℕ} (ok : Tables W X init K R choiceCount agreementCount) where
   -- what is found is a row
 
-  pub choice-row : {v x : ℕ} → Tried W X init K R v x → x ≤ nc
-  choice-row w = w .so nc (ok .chosen) .most
+  pub choice-row : {v x : ℕ} → Tried W X init K R v x → x ≤ choiceCount
+  choice-row w = w .so choiceCount (ok .chosen) .most
 
-  pub agreement-row : {t y : ℕ} → Sought W X init K R t y → y ≤ na
-  agreement-row w = w .so na (ok .agreed) .most
+  pub agreement-row : {t y : ℕ} → Sought W X init K R t y → y ≤ agreementCount
+  agreement-row w = w .so agreementCount (ok .agreed) .most
 
   -- ---- sealed tops
 
   pub top-init : {t : ℕ} → IsWord t → t ≡ init → tops X init (viewOf t) ≡ true
-  top-init {t} l e = ok .tops t l ∙ ap (λ b. b || any (ends W X init K R t) (upTo na)) (eq-eqb t init e)
+  top-init {t} l e = ok .tops t l ∙ ap (λ b. b || any (ends W X init K R t) (upTo agreementCount)) (eq-eqb t init e)
 
   pub top-found : {t y : ℕ} → IsWord t → Sought W X init K R t y → 0 < y → sealsAt W X init K R (y - 1) ≡ true → tops X init (viewOf t) ≡ true
   top-found {t} {y} l w m e =
-      let k : y - 1 < na = omega (arith, agreement-row w) in
-      ok .tops t l ∙ or-right (eqb t init) (any (ends W X init K R t) (upTo na))
-      (any-at (ends W X init K R t) (λ i. i) na k (end-is W X init K R t (y - 1) true (w .so na (ok .agreed) .here m) e))
+      let k : y - 1 < agreementCount = omega (arith, agreement-row w) in
+      ok .tops t l ∙ or-right (eqb t init) (any (ends W X init K R t) (upTo agreementCount))
+      (any-at (ends W X init K R t) (λ i. i) agreementCount k (end-is W X init K R t (y - 1) true (w .so agreementCount (ok .agreed) .here m) e))
 
   pub top-none : {t y : ℕ} → IsWord t → (t ≡ init → ⊥) → Sought W X init K R t y → y ≤ 0 → tops X init (viewOf t) ≡ false
   top-none {t} l d w m =
-      ok .tops t l ∙ or-none (eqb t init) (any (ends W X init K R t) (upTo na)) (ne-eqb t init d) (none-has na (λ i h. w .so na (ok .agreed) .none i (omega arith) h))
+      ok .tops t l ∙ or-none (eqb t init) (any (ends W X init K R t) (upTo agreementCount)) (ne-eqb t init d) (none-has agreementCount (λ i h. w .so agreementCount (ok .agreed) .none i (omega arith) h))
 
   -- ---- candidates
 
   pub cand-init : {v : ℕ} → IsWord v → v ≡ init → true ≡ cand X init (viewOf v)
-  cand-init {v} l e = sym (ok .candidates v l ∙ ap (λ b. b || any (gives W X init K R v) (upTo nc)) (eq-eqb v init e))
+  cand-init {v} l e = sym (ok .candidates v l ∙ ap (λ b. b || any (gives W X init K R v) (upTo choiceCount)) (eq-eqb v init e))
 
   pub cand-none : {v x : ℕ} → IsWord v → (v ≡ init → ⊥) → Tried W X init K R v x → x ≤ 0 → cand X init (viewOf v) ≡ false
   cand-none {v} l d w m =
-      ok .candidates v l ∙ or-none (eqb v init) (any (gives W X init K R v) (upTo nc)) (ne-eqb v init d) (none-has nc (λ i h. w .so nc (ok .chosen) .none i (omega arith) h))
+      ok .candidates v l ∙ or-none (eqb v init) (any (gives W X init K R v) (upTo choiceCount)) (ne-eqb v init d) (none-has choiceCount (λ i h. w .so choiceCount (ok .chosen) .none i (omega arith) h))
 
   pub cand-rowless : {v x : ℕ} → IsWord v → (v ≡ init → ⊥) → ((n : ℕ) → Indexed K R 0 n → Latest K 0 v n x) → x ≡ 0 → false ≡ cand X init (viewOf v)
   cand-rowless l d s e = sym (cand-none l d (try-first s) (omega arith))
 
   chosen-at : {v x : ℕ} (t : ℕ) → IsWord v → Tried W X init K R v x → 0 < x → viewOf t ≡ choiceAt W R (x - 1) .at → tops X init (viewOf t) ≡ true → cand X init (viewOf v) ≡ true
   chosen-at {v} {x} t l w m e f =
-      let k : x - 1 < nc = omega (arith, choice-row w) in
-      ok .candidates v l ∙ or-right (eqb v init) (any (gives W X init K R v) (upTo nc))
-      (any-at (gives W X init K R v) (λ i. i) nc k (give-is W X init K R v (x - 1) t true (w .so nc (ok .chosen) .here m) e f))
+      let k : x - 1 < choiceCount = omega (arith, choice-row w) in
+      ok .candidates v l ∙ or-right (eqb v init) (any (gives W X init K R v) (upTo choiceCount))
+      (any-at (gives W X init K R v) (λ i. i) choiceCount k (give-is W X init K R v (x - 1) t true (w .so choiceCount (ok .chosen) .here m) e f))
 
   pub cand-at-init : {v x : ℕ} (t : ℕ) → IsWord v → Tried W X init K R v x → 0 < x → viewOf t ≡ choiceAt W R (x - 1) .at → IsWord t → t ≡ init → cand X init (viewOf v) ≡ true
   cand-at-init t l w m e k f = chosen-at t l w m e (top-init k f)
@@ -158,15 +159,15 @@ module _ {W : List ℕ} {X : List Stmt} {init : ℕ} {K R : List ℕ} {nc na : �
       omega (
         arith,
         ok .rises (x - 1) (omega (arith, choice-row w)),
-        same-size (w .so nc (ok .chosen) .here m),
+        same-size (w .so choiceCount (ok .chosen) .here m),
         ap (size 16) e,
-        same-size (s .so na (ok .agreed) .here k),
+        same-size (s .so agreementCount (ok .agreed) .here k),
       )
 
-  pub top-less : {a n y : ℕ} (t : ℕ) → a < na → n ≡ numberAt R 1 a → viewOf t ≡ stmtAt W n .at → Sought W X init K R t y → 0 < y → size 16 (viewOf (keyAt K 1 (y - 1))) < size 16 (viewOf (keyAt K 1 a))
-  top-less {a} t l q e s k = omega (arith, ok .climbs a l, ap (size 16) (e ∙ ap (λ x. stmtAt W x .at) q), same-size (s .so na (ok .agreed) .here k))
+  pub top-less : {a n y : ℕ} (t : ℕ) → a < agreementCount → n ≡ numberAt R 1 a → viewOf t ≡ stmtAt W n .at → Sought W X init K R t y → 0 < y → size 16 (viewOf (keyAt K 1 (y - 1))) < size 16 (viewOf (keyAt K 1 a))
+  top-less {a} t l q e s k = omega (arith, ok .climbs a l, ap (size 16) (e ∙ ap (λ x. stmtAt W x .at) q), same-size (s .so agreementCount (ok .agreed) .here k))
 
-  pub view-less : {a n e p : ℕ} (v : ℕ) → a < na → n ≡ numberAt R 1 a → e ≡ countOf W n → p < e → viewOf v ≡ viewAt W n p → size 16 (viewOf v) ≤ size 16 (viewOf (keyAt K 1 a))
+  pub view-less : {a n e p : ℕ} (v : ℕ) → a < agreementCount → n ≡ numberAt R 1 a → e ≡ countOf W n → p < e → viewOf v ≡ viewAt W n p → size 16 (viewOf v) ≤ size 16 (viewOf (keyAt K 1 a))
   unfolding stmtAt
   view-less {a} {n} {e} {p} v m q f l y =
       ok .within a m (viewOf v) (rw (sym q) (says-in .sound (rw (any-at (sameView (viewOf v)) (viewAt W n) (countOf W n) (omega arith) (same-yes (viewOf v) (viewAt W n p) y)) tt)))
@@ -214,12 +215,6 @@ put Q m j x h g i = go (ℕ-discrete i j) (decLt j (length m))
     go (yes e) (no l) = subst (λ (s : List ℕ). Q i (getD s i 0)) (sym (set-out m j x (omega arith))) (h i)
     go (no d) s = subst (λ (y : ℕ). Q i y) (sym (getD-set-other m j i x 0 d)) (h i)
 
-pick : {A : Type 0} (b : Bool) (x y : A) → b ≡ true → (if b then x else y) ≡ x
-pick b x y e = rw e
-
-skip : {A : Type 0} (b : Bool) (x y : A) → b ≡ false → (if b then x else y) ≡ y
-skip b x y e = rw e
-
 module _ (W : List ℕ) (X : List Stmt) (init : ℕ) (K R : List ℕ) where
   -- place k is about b
   pub record About (k : ℕ) (b : Bool) : Type 0 where
@@ -228,20 +223,20 @@ module _ (W : List ℕ) (X : List Stmt) (init : ℕ) (K R : List ℕ) where
 module _ {W : List ℕ} {X : List Stmt} {init : ℕ} {K R : List ℕ} where
   pub about-choice : {c : ℕ} → c < 512 → About W X init K R c (cand X init (viewOf (keyAt K 0 c)))
   unfolding asked
-  about-choice l = record { so = pick _ _ _ (lt-ltb _ _ l) }
+  about-choice l = record { so = if-true _ _ _ (lt-ltb _ _ l) }
 
   pub about-agreement : (a : ℕ) → About W X init K R (512 + a) (sealsAt W X init K R a)
   unfolding asked
-  about-agreement a = record { so = skip _ _ _ (le-ltb (512 + a) 512 (omega arith)) ∙ ap (sealsAt W X init K R) back }
+  about-agreement a = record { so = if-false _ _ _ (le-ltb (512 + a) 512 (omega arith)) ∙ ap (sealsAt W X init K R) back }
     where
       back : (512 + a) - 512 ≡ a
       back = omega arith
 
-  pub about-view : {nc na v f : ℕ} → Tables W X init K R nc na → ((n : ℕ) → Indexed K R 0 n → Latest K 0 v n f) → (f ≡ 0 → ⊥) → About W X init K R (f - 1) (cand X init (viewOf v))
-  about-view {nc} {na} {v} {f} ok s d =
+  pub about-view : {choiceCount agreementCount v f : ℕ} → Tables W X init K R choiceCount agreementCount → ((n : ℕ) → Indexed K R 0 n → Latest K 0 v n f) → (f ≡ 0 → ⊥) → About W X init K R (f - 1) (cand X init (viewOf v))
+  about-view {choiceCount} {agreementCount} {v} {f} ok s d =
       let l : 0 < f = omega (arith, d) in
       record {
-        so = about-choice (omega (arith, s nc (ok .chosen) .most, ok .chosen .few)) .so ∙ ap (λ x. cand X init (viewOf x)) (s nc (ok .chosen) .here l);
+        so = about-choice (omega (arith, s choiceCount (ok .chosen) .most, ok .chosen .few)) .so ∙ ap (λ x. cand X init (viewOf x)) (s choiceCount (ok .chosen) .here l);
       }
 
   pub later-same : {M : List ℕ} → Memos W X init K R M → Later W X init K R M M

@@ -9,7 +9,7 @@ use lib.ListN.{getD}
 use Rattle.protocol.specs.Lists.{if_then_else_}
 use Rattle.protocol.specs.Statement.{Stmt}
 use Rattle.protocol.specs.Evidence.{isCandidate}
-use Rattle.views.specs.View.{viewOf, ring}
+use Rattle.views.specs.View.{viewOf, ringOfWord}
 use Rattle.tables.specs.Index.{keyAt}
 use Rattle.votes.specs.Tables.{sealsAt, Tables, Verdicts}
 
@@ -44,7 +44,7 @@ module _ (W : List ℕ) (X : List Stmt) (init : ℕ) (K R : List ℕ) where
 
   -- What place k of the memory is about: below 512 a choice, from there on an agreement.
   unfoldable pub asked : ℕ → Bool
-  asked k = if ltb k 512 then isCandidate (ring init) X (viewOf (keyAt K 0 k)) else sealsAt W X init K R (k - 512)
+  asked k = if ltb k 512 then isCandidate (ringOfWord init) X (viewOf (keyAt K 0 k)) else sealsAt W X init K R (k - 512)
 
   -- What is remembered is right: a 0 stands for nothing, a 1 for a yes, and another number for a no.
   pub record Memos (M : List ℕ) : Type 0 where

@@ -2,20 +2,21 @@
 //
 // What falls from call to call is twice the size of the view, or twice the size of the history's top and one more. A size is at most 32, so that the
 // first call has at most 2 * 32 + 1 and at most 66 calls are open at once; compiled, each takes less than 200 bytes of stack, 13 KiB in all.
-// Each verdict, yes or no, is remembered, so that none is found out twice: on the view of a choice at its newest choice, on agreement a at 512 + a.
+// Each verdict, yes or no, is remembered, so that none is found out twice: on the view of a choice at its newest choice, on agreement a behind those, at CAPACITY + a.
 ghost use mathlib.Core.Path.{_≡_};
 ghost use Rattle.protocol.specs.Evidence.{isCandidate};
-ghost use Rattle.views.specs.View.{viewOf, ring};
+ghost use Rattle.views.specs.View.{viewOf, ringOfWord};
 ghost use Rattle.pool.specs.Pool.{recordIn};
 ghost use Rattle.votes.specs.Tables.{sealsAt};
 ghost use Rattle.sealing.specs.Memos.{Tabled, Among, Memos, Later};
 use crate::rows;
-use crate::rows::AGREEMENTS;
-use crate::rows::CHOICES;
 use pool::POOL_WORDS;
 use pool::RECORD;
+use tables::CAPACITY;
 use tables::KEYS;
 use tables::ROWS;
+use votes::AGREEMENTS;
+use votes::CHOICES;
 
 // How many verdicts are remembered: one for each row of the two tables.
 pub const MEMO: usize = KEYS;
@@ -31,7 +32,7 @@ pub fn candidate(
     v: u64,
 ) -> bool
     requires { ⌜ Tabled (now words) (recordIn (now words) (now ids)) init (now keys) (now rows) × Memos (now words) (recordIn (now words) (now ids)) init (now keys) (now rows) (now memo) ⌝ }
-    ensures { λ r. ⌜ (r ≡ isCandidate (ring init) (recordIn (now (words .entry)) (now (ids .entry))) (viewOf v)) × Later (now (words .entry)) (recordIn (now (words .entry)) (now (ids .entry))) init (now (keys .entry)) (now (rows .entry)) (now (memo .entry)) (now (memo .exit)) ⌝ }
+    ensures { λ r. ⌜ (r ≡ isCandidate (ringOfWord init) (recordIn (now (words .entry)) (now (ids .entry))) (viewOf v)) × Later (now (words .entry)) (recordIn (now (words .entry)) (now (ids .entry))) init (now (keys .entry)) (now (rows .entry)) (now (memo .entry)) (now (memo .exit)) ⌝ }
 {
     if v == init {
         return true;
@@ -78,7 +79,7 @@ pub fn sealed(
     requires { ⌜ Among (now words) (recordIn (now words) (now ids)) init (now keys) (now rows) a × Memos (now words) (recordIn (now words) (now ids)) init (now keys) (now rows) (now memo) ⌝ }
     ensures { λ r. ⌜ (r ≡ sealsAt (now (words .entry)) (recordIn (now (words .entry)) (now (ids .entry))) init (now (keys .entry)) (now (rows .entry)) a) × Later (now (words .entry)) (recordIn (now (words .entry)) (now (ids .entry))) init (now (keys .entry)) (now (rows .entry)) (now (memo .entry)) (now (memo .exit)) ⌝ }
 {
-    let known = memo[512 + a];
+    let known = memo[CAPACITY + a];
     if known != 0 {
         return known == 1;
     }
@@ -88,24 +89,24 @@ pub fn sealed(
     while p < e {
         let v = pool::nth(words, n, p);
         if !candidate(words, ids, init, keys, rows, memo, v) {
-            memo[512 + a] = 2;
+            memo[CAPACITY + a] = 2;
             return false;
         }
         p += 1;
     }
     let t = pool::at(words, n);
     if t == init {
-        memo[512 + a] = 1;
+        memo[CAPACITY + a] = 1;
         return true;
     }
     let mut y = tables::first(keys, rows, AGREEMENTS, t);
     while y > 0 {
         if sealed(words, ids, init, keys, rows, memo, y - 1) {
-            memo[512 + a] = 1;
+            memo[CAPACITY + a] = 1;
             return true;
         }
         y = tables::next(keys, rows, AGREEMENTS, y - 1);
     }
-    memo[512 + a] = 2;
+    memo[CAPACITY + a] = 2;
     false
 }

@@ -4,18 +4,19 @@ ghost use Prim.Native.Nat.{ℕ, _+_};
 ghost use lib.Dec.{eqb};
 ghost use lib.ListN.{length};
 ghost use Rattle.protocol.specs.Grounds.{isTop};
-ghost use Rattle.views.specs.View.{viewOf, ring};
+ghost use Rattle.views.specs.View.{viewOf, ringOfWord};
 ghost use Rattle.pool.specs.Pool.{recordIn};
 ghost use Rattle.votes.specs.Tables.{Tables, Verdicts};
 ghost use Rattle.sealing.specs.Memos.{Judged, Memos, Later, Known, Blank};
 use crate::cycle;
 use crate::cycle::MEMO;
-use crate::rows::AGREEMENTS;
-use crate::rows::CHOICES;
 use pool::POOL_WORDS;
 use pool::RECORD;
+use tables::CAPACITY;
 use tables::KEYS;
 use tables::ROWS;
+use votes::AGREEMENTS;
+use votes::CHOICES;
 use votes::Counts;
 
 // A verdict as it is kept: 1 for yes, 2 for no.
@@ -44,13 +45,13 @@ fn judge_choices(
     keys: &[u64; KEYS],
     rows: &[u16; ROWS],
     memo: &mut [u8; MEMO],
-    nc: usize,
+    choices: usize,
 )
-    requires { ⌜ ((na : ℕ) × Tables (now words) (recordIn (now words) (now ids)) init (now keys) (now rows) nc na) × Memos (now words) (recordIn (now words) (now ids)) init (now keys) (now rows) (now memo) ⌝ }
-    ensures { λ _. ⌜ Later (now (words .entry)) (recordIn (now (words .entry)) (now (ids .entry))) init (now (keys .entry)) (now (rows .entry)) (now (memo .entry)) (now (memo .exit)) × Known 0 nc (now (memo .exit)) ⌝ }
+    requires { ⌜ ((agreementCount : ℕ) × Tables (now words) (recordIn (now words) (now ids)) init (now keys) (now rows) choices agreementCount) × Memos (now words) (recordIn (now words) (now ids)) init (now keys) (now rows) (now memo) ⌝ }
+    ensures { λ _. ⌜ Later (now (words .entry)) (recordIn (now (words .entry)) (now (ids .entry))) init (now (keys .entry)) (now (rows .entry)) (now (memo .entry)) (now (memo .exit)) × Known 0 choices (now (memo .exit)) ⌝ }
 {
     let mut c = 0usize;
-    while c < nc {
+    while c < choices {
         let v = tables::key(keys, CHOICES, c);
         let yes = cycle::candidate(words, ids, init, keys, rows, memo, v);
         room(memo);
@@ -67,16 +68,16 @@ fn judge_agreements(
     keys: &[u64; KEYS],
     rows: &[u16; ROWS],
     memo: &mut [u8; MEMO],
-    na: usize,
+    agreements: usize,
 )
-    requires { ⌜ ((nc : ℕ) × Tables (now words) (recordIn (now words) (now ids)) init (now keys) (now rows) nc na) × Memos (now words) (recordIn (now words) (now ids)) init (now keys) (now rows) (now memo) ⌝ }
-    ensures { λ _. ⌜ Later (now (words .entry)) (recordIn (now (words .entry)) (now (ids .entry))) init (now (keys .entry)) (now (rows .entry)) (now (memo .entry)) (now (memo .exit)) × Known 512 (512 + na) (now (memo .exit)) ⌝ }
+    requires { ⌜ ((choiceCount : ℕ) × Tables (now words) (recordIn (now words) (now ids)) init (now keys) (now rows) choiceCount agreements) × Memos (now words) (recordIn (now words) (now ids)) init (now keys) (now rows) (now memo) ⌝ }
+    ensures { λ _. ⌜ Later (now (words .entry)) (recordIn (now (words .entry)) (now (ids .entry))) init (now (keys .entry)) (now (rows .entry)) (now (memo .entry)) (now (memo .exit)) × Known 512 (512 + agreements) (now (memo .exit)) ⌝ }
 {
     let mut a = 0usize;
-    while a < na {
+    while a < agreements {
         let yes = cycle::sealed(words, ids, init, keys, rows, memo, a);
         room(memo);
-        memo[512 + a] = mark(yes);
+        memo[CAPACITY + a] = mark(yes);
         a += 1;
     }
 }
@@ -109,7 +110,7 @@ pub fn is_sealed_top(
     t: u64,
 ) -> bool
     requires { ⌜ Judged (now words) (recordIn (now words) (now ids)) init (now keys) (now rows) (now memo) ⌝ }
-    ensures { λ r. ⌜ r ≡ isTop (ring init) (recordIn (now (words .entry)) (now (ids .entry))) (viewOf t) ⌝ }
+    ensures { λ r. ⌜ r ≡ isTop (ringOfWord init) (recordIn (now (words .entry)) (now (ids .entry))) (viewOf t) ⌝ }
 {
     if t == init {
         return true;
@@ -117,7 +118,7 @@ pub fn is_sealed_top(
     let mut y = tables::first(keys, rows, AGREEMENTS, t);
     while y > 0 {
         let a = y - 1;
-        if memo[512 + a] == 1 {
+        if memo[CAPACITY + a] == 1 {
             return true;
         }
         y = tables::next(keys, rows, AGREEMENTS, a);

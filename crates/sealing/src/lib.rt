@@ -4,7 +4,5 @@ mod judge;
 mod rows;
 
 pub use cycle::MEMO;
-pub use cycle::candidate;
-pub use cycle::sealed;
 pub use judge::is_sealed_top;
 pub use judge::verdicts;

@@ -1,4 +1,4 @@
-// The two tables, and where the statements of their rows were signed.
+// Where the statements of the tables' rows were signed.
 ghost use mathlib.Core.Path.{_≡_};
 ghost use Prim.Native.Nat.{_<_};
 ghost use Rattle.views.specs.View.{viewOf};
@@ -6,10 +6,6 @@ ghost use Rattle.pool.specs.Pool.{stmtAt};
 ghost use Rattle.tables.specs.Index.{numberAt};
 use pool::POOL_WORDS;
 use tables::ROWS;
-
-pub const CHOICES: usize = 0;
-
-pub const AGREEMENTS: usize = 1;
 
 // The view at which the statement of a row was signed.
 pub fn at(words: &[u64; POOL_WORDS], rows: &[u16; ROWS], table: usize, row: usize) -> u64

@@ -8,11 +8,11 @@ use Prim.Native.Nat.{ℕ, zero, suc, _+_, _≤_, _<_, _^_, min}
 use native.Mathlib.Decide.{decLt}
 use native.Mathlib.Omega.{arith}
 use lib.Dec.{eqb, leb, ltb}
-use lib.ListN.{length, getD}
-use borrow.Author.Tests.{eq-eqb, ne-eqb, le-leb, lt-leb, lt-ltb}
+use lib.ListN.{length}
+use borrow.Author.Tests.{ne-eqb, le-leb, lt-leb, lt-ltb}
 use Rattle.protocol.specs.Lists.{all}
 use Rattle.protocol.specs.View.{View, isView, hasMembers}
-use Rattle.protocol.specs.Statement.{Stmt, noView, noAt, noViewField, noBinding, noPayload, noKept, noViews, isRising, viewsRule, reportRule, kindRule, fieldRules}
+use Rattle.protocol.specs.Statement.{Stmt, noView, noAt, noViewField, noBinding, noPayload, noKept, noViews, isRising, viewsRule, reportRule, kindRule, fieldRules, bindingNumber}
 use Rattle.views.specs.declared.View as held
 use Rattle.views.specs.declared.History.{History}
 use Rattle.views.specs.Table.{table}
@@ -24,7 +24,7 @@ use Rattle.statements.proofs.Binding.{the-field}
 use Rattle.statements.specs.declared.Binding.{Binding}
 use Rattle.statements.specs.declared.Binding.the-variants.{Unbound, Bound, Barred}
 use Rattle.statements.specs.declared.Statement.{Statement}
-use Rattle.statements.specs.Meaning.{firstViews, bindingNumber, payloadOf, stmtOf}
+use Rattle.statements.specs.Meaning.{firstViews, bindingIs, payloadOf, stmtOf}
 
 -- ---- the views
 
@@ -174,9 +174,9 @@ module _ (st : Statement) where
   unfolding reportRule stmtOf
   report-rule-is n p e f =
       ap₂ _&&_ (ap₂ (λ k b. eqb k 1 || b) e f) (ap (λ b. b || eqb (st .kept) 0) (flag (st .stored)))
-      ∙ sym (shape (leb (bindingNumber (st .binding)) 2) _ (leb (cond (st .stored) 1 0) 1) _ (few (st .binding)) (flag-le (st .stored)))
+      ∙ sym (shape (leb (bindingNumber (bindingIs (st .binding))) 2) _ (leb (cond (st .stored) 1 0) 1) _ (few (st .binding)) (flag-le (st .stored)))
     where
-      few : (b : Binding) → leb (bindingNumber b) 2 ≡ true
+      few : (b : Binding) → leb (bindingNumber (bindingIs b)) 2 ≡ true
       few Unbound = refl
       few (Bound m) = refl
       few Barred = refl

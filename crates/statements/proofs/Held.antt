@@ -1,9 +1,9 @@
 -- The views of a statement are those of its history.
 -- Assumes nothing.
-use mathlib.Core.Path.{_≡_, refl, sym, ap, ap₂, _∙_}
+use mathlib.Core.Path.{_≡_, refl, ap, _∙_}
 use mathlib.Core.Bool.{Bool, true, false, cond}
-use mathlib.Core.List.{List, [], _∷_, _++_}
-use Prim.Native.Nat.{ℕ, zero, suc, _≤_, min}
+use mathlib.Core.List.{List, []}
+use Prim.Native.Nat.{ℕ, _≤_}
 use native.Mathlib.Omega.{arith}
 use Rattle.protocol.specs.Lists.{when}
 use Rattle.protocol.specs.View.{View}
@@ -11,23 +11,17 @@ use Rattle.protocol.specs.Statement.{bindingPayload, storedNumber, keptPayload}
 use Rattle.protocol.specs.Statement as says
 use Rattle.views.specs.declared.View as held
 use Rattle.views.specs.declared.History.{History}
-use Rattle.views.specs.Table.{table}
-use Rattle.views.specs.Held.{viewIs, heldAt, viewsIs}
+use Rattle.views.specs.Held.{viewIs, viewsIs}
 use Rattle.views.proofs.Held.{views-of}
 use Rattle.statements.specs.declared.Binding.{Binding}
 use Rattle.statements.specs.declared.Binding.the-variants.{Unbound, Bound, Barred}
 use Rattle.statements.specs.declared.Statement.{Statement}
-use Rattle.statements.specs.Meaning.{firstViews, bindingNumber, payloadOf, bindingIs, stmtOf}
+use Rattle.statements.specs.Meaning.{firstViews, payloadOf, bindingIs, stmtOf}
 use Rattle.statements.specs.Made.{Made, plain}
-use Rattle.statements.proofs.Views.{first-then}
-
-first-table : (n : ℕ) (l : List held.View) → firstViews n l ≡ table n (heldAt l)
-unfolding table firstViews
-first-table zero l = refl
-first-table (suc n) l = first-then l n ∙ ap (λ k. k ++ (heldAt l n ∷ [])) (first-table n l)
+use Rattle.statements.proofs.FieldLaws.{views-table}
 
 pub first-held : (h : History) → h .len ≤ 16 → firstViews (h .len) (h .views) ≡ viewsIs h
-first-held h l = first-table (h .len) (h .views) ∙ views-of h (h .len) (omega arith)
+first-held h l = views-table (h .len) (h .views) ∙ views-of h (h .len) (omega arith)
 
 -- ---- what makes a statement
 
@@ -45,11 +39,6 @@ bound-payload Unbound = refl
 bound-payload (Bound m) = refl
 bound-payload Barred = refl
 
-bound-number : (b : Binding) → bindingNumber b ≡ says.bindingNumber (bindingIs b)
-bound-number Unbound = refl
-bound-number (Bound m) = refl
-bound-number Barred = refl
-
 stored-number : (b : Bool) (m : ℕ) → cond b 1 0 ≡ storedNumber (when b m)
 stored-number true m = refl
 stored-number false m = refl
@@ -58,6 +47,6 @@ pub report-made : (r : Statement) (m : ℕ) → r .kind ≡ 5 → r .payload ≡
     → Made (says.report (r .origin) (viewIs (r .at)) (viewIs (r .view)) (bindingIs (r .binding)) (when (r .stored) m) (viewsIs (r .history))) r
 unfolding stmtOf
 report-made r m k p e l = record {
-  means = rw (k, p, e, bound-number (r .binding), bound-payload (r .binding), stored-number (r .stored) m, first-held (r .history) l);
+  means = rw (k, p, e, bound-payload (r .binding), stored-number (r .stored) m, first-held (r .history) l);
   short = l;
 }

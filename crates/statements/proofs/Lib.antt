@@ -1,7 +1,7 @@
 pub mod Held
 pub mod Fields
 pub mod Views
-pub mod Whole
+pub mod Statements
 pub mod Written
 pub mod FieldLaws
 pub mod Laws

@@ -12,7 +12,7 @@ use Rattle.protocol.specs.Statement.{Stmt}
 use Rattle.statements.specs.Text.{viewText, text}
 use Rattle.statements.specs.Meaning.{FitsView, EachFits, Fits}
 use Rattle.statements.specs.Parts.{tailText}
-use Rattle.statements.proofs.Whole.{text-is, tail-stops, made, fromOrigin, fromAt, fromView, fromBinding, fromPayload, fromStored, fromKept, fromCount}
+use Rattle.statements.proofs.Statements.{text-is, tail-stops, made, fromOrigin, fromAt, fromView, fromBinding, fromPayload, fromStored, fromKept, fromCount}
 
 view-same : (v v′ : View) (r r′ : List ℕ) → FitsView v → FitsView v′ → viewText v ++ r ≡ viewText v′ ++ r′ → (v ≡ v′) × (r ≡ r′)
 unfolding viewText

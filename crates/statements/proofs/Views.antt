@@ -1,16 +1,17 @@
 -- A run of views, each with a comma before it: the loops that read and write it.
 -- Assumes nothing.
-use Prim.Native.Nat.{ℕ, zero, suc, _+_, _-_, _*_, _<_, _≤_}
+use Prim.Native.Nat.{ℕ, zero, suc, _+_, _*_, _<_, _≤_}
 use native.Mathlib.Numerals.{add-one}
 use native.Mathlib.Omega.{arith}
 use mathlib.Core.Path.{_≡_, refl, sym, ap, _∙_}
-use mathlib.Core.Bool.{Bool, true, false, true≢false, false≢true}
+use mathlib.Core.Bool.{Bool, true, false, false≢true}
 use mathlib.Core.List.{List, [], _∷_, _++_, append-assoc, append-nil}
 use lib.ListN.{length, take, drop, getD, set, length-append, length-drop, length-set, drop-of-length-le}
-use lib.Seq.{sets, take-suc, drop-cons, take-all}
+use lib.Seq.{take-suc, drop-cons, take-all}
 use Rattle.protocol.specs.View.{View}
 use Rattle.protocol.specs.Statement.{noView}
-use Rattle.text.proofs.Stores.{sets-append}
+use Rattle.text.specs.Written.{Wrote}
+use Rattle.text.proofs.Stores.{both, wrote-as}
 use Rattle.views.specs.declared.View as held
 use Rattle.statements.specs.declared.Part.{Part}
 use Rattle.statements.specs.declared.ViewPart.{ViewPart}
@@ -43,27 +44,11 @@ unfolding tailText
 tail-long [] = refl
 tail-long (v ∷ l) = omega (arith, length-append (viewText v) (tailText l), view-long v, tail-long l)
 
-pub first-none : (l : List held.View) → firstViews 0 l ≡ []
-unfolding firstViews
-first-none l = refl
-
-pub first-long : (n : ℕ) (l : List held.View) → length (firstViews n l) ≡ n
-unfolding firstViews
-first-long zero l = refl
-first-long (suc n) [] = ap suc (first-long n [])
-first-long (suc n) (v ∷ l) = ap suc (first-long n l)
-
 pub first-set : (l : List held.View) (i : ℕ) (v : held.View) → i < length l → firstViews (suc i) (set l i v) ≡ firstViews i l ++ (viewIs v ∷ [])
 unfolding firstViews
 first-set [] i v h = absurd (omega arith)
 first-set (u ∷ l) zero v h = refl
 first-set (u ∷ l) (suc i) v h = ap (λ (t : List View). viewIs u ∷ t) (first-set l i v (omega arith))
-
-pub first-next : (l : List held.View) (i : ℕ) (d : held.View) → i < length l → firstViews (suc i) l ≡ firstViews i l ++ (viewIs (getD l i d) ∷ [])
-unfolding firstViews
-first-next [] i d h = absurd (omega arith)
-first-next (u ∷ l) zero d h = refl
-first-next (u ∷ l) (suc i) d h = ap (λ (t : List View). viewIs u ∷ t) (first-next l i d (omega arith))
 
 each-at : (l : List View) (i : ℕ) → EachFits l → i < length l → FitsView (getD l i noView)
 each-at [] i f h = absurd (omega arith)
@@ -146,9 +131,9 @@ module _ (S : List ℕ) (n : ℕ) (ok₀ : Bool) (at₀ : ℕ) where
       }
 
 -- ---- writing
-pub put-first : (out : List ℕ) (from : ℕ) (l : List held.View) → out ≡ sets out from (tailText (firstViews 0 l))
+pub put-first : (out : List ℕ) (from : ℕ) (l : List held.View) → Wrote out from (tailText (firstViews 0 l)) from out
 unfolding firstViews tailText
-put-first out from l = refl
+put-first out from l = record { next = omega arith; is = refl }
 
 abbrev pub blank : held.View
 blank = record { joined = 0; left = 0 }
@@ -161,10 +146,11 @@ first-then [] (suc i) = ap (λ (t : List View). noView ∷ t) (first-then [] i)
 first-then (u ∷ l) zero = refl
 first-then (u ∷ l) (suc i) = ap (λ (t : List View). viewIs u ∷ t) (first-then l i)
 
-pub put-next : (out₀ out : List ℕ) (from at i : ℕ) (l : List held.View) → out ≡ sets out₀ from (tailText (firstViews i l)) → at ≡ from + 9 * i → sets out at (44 ∷ viewText (viewIs (getD l i blank))) ≡ sets out₀ from (tailText (firstViews (i + 1) l))
-put-next out₀ out from at i l e p =
-    let t : List ℕ = tailText (firstViews i l) in
-    let u : List ℕ = 44 ∷ viewText (viewIs (getD l i blank)) in
-    let place : at ≡ from + length t = p ∙ omega (arith, tail-long (firstViews i l), first-long i l) in
-    ap (λ (o : List ℕ). sets o at u) e ∙ ap (λ (k : ℕ). sets (sets out₀ from t) k u) place ∙ sym (sets-append t u out₀ from)
-    ∙ ap (sets out₀ from) (sym (ap (λ (k : ℕ). tailText (firstViews k l)) (add-one i) ∙ ap tailText (first-then l i) ∙ tail-append (firstViews i l) (viewIs (getD l i blank) ∷ []) ∙ ap (λ (x : List ℕ). t ++ x) (tail-one (viewIs (getD l i blank)))))
+-- one view more
+pub tail-more : {out₀ out₁ out₂ : List ℕ} {from at n : ℕ} (k l : List View) (v : View) → l ≡ k ++ (v ∷ []) → Wrote out₀ from (tailText k) at out₁ → Wrote out₁ at (44 ∷ viewText v) n out₂
+    → Wrote out₀ from (tailText l) n out₂
+tail-more k l v e a b = wrote-as (sym (ap tailText e ∙ tail-append k (v ∷ []) ∙ ap (λ (t : List ℕ). tailText k ++ t) (tail-one v))) (both a b)
+
+pub put-next : {out₀ out₁ out₂ : List ℕ} {from at n : ℕ} (i : ℕ) (l : List held.View) → Wrote out₀ from (tailText (firstViews i l)) at out₁ → Wrote out₁ at (44 ∷ viewText (viewIs (getD l i blank))) n out₂
+    → Wrote out₀ from (tailText (firstViews (i + 1) l)) n out₂
+put-next i l a b = tail-more (firstViews i l) (firstViews (i + 1) l) (viewIs (getD l i blank)) (ap (λ (k : ℕ). firstViews k l) (add-one i) ∙ first-then l i) a b

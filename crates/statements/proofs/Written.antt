@@ -3,42 +3,35 @@
 use Prim.Native.Nat.{ℕ, _+_, _*_, _<_, _≤_}
 use native.Mathlib.Omega.{arith}
 use mathlib.Core.Path.{_≡_, refl, sym, ap, _∙_}
-use mathlib.Core.Bool.{Bool, true, false, cond, _&&_}
-use mathlib.Core.List.{List, [], _∷_, _++_, append-assoc}
-use lib.Dec.{leb}
+use mathlib.Core.Bool.{Bool, true, false, cond}
+use mathlib.Core.List.{List, _∷_, _++_, append-assoc}
 use lib.ListN.{length, length-append}
-use lib.Seq.{sets}
 use borrow.Author.Tests.{le-leb, lt-leb}
 use mir.Val.{boolByte}
 use Rattle.text.specs.Text.{decText}
 use Rattle.text.proofs.Decimal.{one-long}
-use Rattle.text.proofs.Stores.{sets-append}
+use Rattle.text.specs.Written.{Wrote}
+use Rattle.text.proofs.Stores.{wrote-as}
 use Rattle.protocol.specs.View.{View}
-use Rattle.protocol.specs.Statement.{Stmt}
+use Rattle.protocol.specs.Statement.{Stmt, bindingNumber}
 use Rattle.statements.specs.declared.Binding.{Binding}
 use Rattle.statements.specs.declared.Binding.the-variants.{Unbound, Bound, Barred}
 use Rattle.statements.specs.declared.Statement.{Statement}
 use Rattle.statements.specs.Text.{viewText, text}
 use Rattle.views.specs.Held.{viewIs}
-use Rattle.statements.specs.Meaning.{firstViews, bindingNumber, payloadOf, stmtOf}
-use Rattle.statements.specs.Promise.{hasRoom, writtenCount, written}
+use Rattle.statements.specs.Meaning.{firstViews, bindingIs, payloadOf, stmtOf}
+use Rattle.statements.specs.Promise.{isWritable, writtenCount, written}
 use Rattle.statements.specs.Parts.{tailText, firstText, secondText}
 use Rattle.statements.proofs.Fields.{view-long}
-use Rattle.statements.proofs.Views.{first-long, tail-long}
-use Rattle.statements.proofs.Whole.{text-is}
+use Rattle.statements.proofs.FieldLaws.{views-length}
+use Rattle.statements.proofs.Views.{tail-long}
+use Rattle.statements.proofs.Statements.{text-is}
 
--- four runs are one
-pub four-runs : (out : List ℕ) (i j k l : ℕ) (a b c d : List ℕ) → j ≡ i + length a → k ≡ j + length b → l ≡ k + length c → sets (sets (sets (sets out i a) j b) k c) l d ≡ sets out i (a ++ (b ++ (c ++ d)))
-four-runs out i j k l a b c d ej ek el =
-    sym (sets-append a (b ++ (c ++ d)) out i ∙ ap (λ (n : ℕ). sets (sets out i a) n (b ++ (c ++ d))) (sym ej)
-    ∙ sets-append b (c ++ d) (sets out i a) j ∙ ap (λ (n : ℕ). sets (sets (sets out i a) j b) n (c ++ d)) (sym ek)
-    ∙ sets-append c d (sets (sets out i a) j b) k ∙ ap (λ (n : ℕ). sets (sets (sets (sets out i a) j b) k c) n d) (sym el))
-
-pub first-run : (k o : ℕ) (a v : View) → firstText k o a v ≡ decText k ++ ((44 ∷ decText o) ++ ((44 ∷ viewText a) ++ (44 ∷ viewText v)))
+first-run : (k o : ℕ) (a v : View) → firstText k o a v ≡ decText k ++ ((44 ∷ decText o) ++ ((44 ∷ viewText a) ++ (44 ∷ viewText v)))
 unfolding firstText
 first-run k o a v = refl
 
-pub second-run : (b p s e : ℕ) → secondText b p s e ≡ (44 ∷ decText b) ++ ((44 ∷ decText p) ++ ((44 ∷ decText s) ++ (44 ∷ decText e)))
+second-run : (b p s e : ℕ) → secondText b p s e ≡ (44 ∷ decText b) ++ ((44 ∷ decText p) ++ ((44 ∷ decText s) ++ (44 ∷ decText e)))
 unfolding secondText
 second-run b p s e = refl
 
@@ -56,7 +49,7 @@ pub text-runs : (t : Stmt) → text t ≡ firstText (t .kind) (t .origin) (t .at
 unfolding firstText secondText
 text-runs t = text-is t ∙ simp append-assoc
 
-one-digit : (b : Binding) → length (decText (bindingNumber b)) ≡ 1
+one-digit : (b : Binding) → length (decText (bindingNumber (bindingIs b))) ≡ 1
 one-digit Unbound = one-long 0 (omega arith)
 one-digit (Bound m) = one-long 1 (omega arith)
 one-digit Barred = one-long 2 (omega arith)
@@ -72,8 +65,8 @@ module _ (s : Statement) where
   text-size =
       let l = firstViews (s .history .len) (s .history .views) in
       let a = firstText (s .kind) (s .origin) (viewIs (s .at)) (viewIs (s .view)) in
-      let b = secondText (bindingNumber (s .binding)) (payloadOf (s .binding) (s .payload)) (cond (s .stored) 1 0) (s .kept) in
-      let n : length l ≡ s .history .len = first-long (s .history .len) (s .history .views) in
+      let b = secondText (bindingNumber (bindingIs (s .binding))) (payloadOf (s .binding) (s .payload)) (cond (s .stored) 1 0) (s .kept) in
+      let n : length l ≡ s .history .len = views-length (s .history .len) (s .history .views) in
       ap length (text-runs (stmtOf s))
       ∙ omega (
         arith,
@@ -84,30 +77,30 @@ module _ (s : Statement) where
         n,
         ap (λ (k : ℕ). length (decText k)) n,
         first-size (s .kind) (s .origin) (viewIs (s .at)) (viewIs (s .view)),
-        second-size (bindingNumber (s .binding)) (payloadOf (s .binding) (s .payload)) (cond (s .stored) 1 0) (s .kept),
+        second-size (bindingNumber (bindingIs (s .binding))) (payloadOf (s .binding) (s .payload)) (cond (s .stored) 1 0) (s .kept),
         one-digit (s .binding),
         one-bit (s .stored),
       )
 
   module _ (out : List ℕ) where
     pub too-many : 16 < s .history .len → (0 ≡ writtenCount s out) × (out ≡ written s out)
-    unfolding writtenCount written hasRoom
+    unfolding writtenCount written isWritable
     too-many h = rw (lt-leb _ _ h) (refl, refl)
 
     pub too-short : s .history .len ≤ 16 → length out < length (text (stmtOf s)) → (0 ≡ writtenCount s out) × (out ≡ written s out)
-    unfolding writtenCount written hasRoom
+    unfolding writtenCount written isWritable
     too-short few h = rw (le-leb _ _ few) (rw (lt-leb _ _ h) (refl, refl))
 
-    pub wrote : (n : ℕ) (out′ : List ℕ) → s .history .len ≤ 16 → length (text (stmtOf s)) ≤ length out → n ≡ length (text (stmtOf s)) → out′ ≡ sets out 0 (text (stmtOf s)) → (n ≡ writtenCount s out) × (out′ ≡ written s out)
-    unfolding writtenCount written hasRoom
-    wrote n out′ few h en eo = rw (le-leb _ _ few) (rw (le-leb _ _ h) (en, eo))
+    pub wrote : (n : ℕ) (out′ : List ℕ) → s .history .len ≤ 16 → length (text (stmtOf s)) ≤ length out → Wrote out 0 (text (stmtOf s)) n out′ → (n ≡ writtenCount s out) × (out′ ≡ written s out)
+    unfolding writtenCount written isWritable
+    wrote n out′ few h w = rw (le-leb _ _ few) (rw (le-leb _ _ h) (w .next ∙ omega arith, w .is))
 
-    module _ (b p z : ℕ) (eb : b ≡ bindingNumber (s .binding)) (ep : p ≡ payloadOf (s .binding) (s .payload)) (ez : z ≡ cond (s .stored) 1 0) where
+    module _ (b p z : ℕ) (eb : b ≡ bindingNumber (bindingIs (s .binding))) (ep : p ≡ payloadOf (s .binding) (s .payload)) (ez : z ≡ cond (s .stored) 1 0) where
       -- the text in its four runs
       runs : text (stmtOf s) ≡ firstText (s .kind) (s .origin) (viewIs (s .at)) (viewIs (s .view)) ++ (secondText b p z (s .kept) ++ ((44 ∷ decText (s .history .len)) ++ tailText (firstViews (s .history .len) (s .history .views))))
       unfolding stmtOf
       runs =
-          let n = first-long (s .history .len) (s .history .views) in
+          let n = views-length (s .history .len) (s .history .views) in
           text-runs (stmtOf s) ∙ rw (← eb, ← ep, ← ez, n)
 
       pub sizes : length (text (stmtOf s)) ≡ length (firstText (s .kind) (s .origin) (viewIs (s .at)) (viewIs (s .view))) + length (secondText b p z (s .kept)) + 1 + length (decText (s .history .len)) + 9 * s .history .len
@@ -115,13 +108,11 @@ module _ (s : Statement) where
           let l = firstViews (s .history .len) (s .history .views) in
           let c = (44 ∷ decText (s .history .len)) ++ tailText l in
           ap length runs
-          ∙ omega (arith, length-append (firstText (s .kind) (s .origin) (viewIs (s .at)) (viewIs (s .view))) (secondText b p z (s .kept) ++ c), length-append (secondText b p z (s .kept)) c, length-append (decText (s .history .len)) (tailText l), tail-long l, first-long (s .history .len) (s .history .views))
+          ∙ omega (arith, length-append (firstText (s .kind) (s .origin) (viewIs (s .at)) (viewIs (s .view))) (secondText b p z (s .kept) ++ c), length-append (secondText b p z (s .kept)) c, length-append (decText (s .history .len)) (tailText l), tail-long l, views-length (s .history .len) (s .history .views))
 
-      pub all-runs : (j k l : ℕ) → j ≡ length (firstText (s .kind) (s .origin) (viewIs (s .at)) (viewIs (s .view))) → k ≡ j + length (secondText b p z (s .kept)) → l ≡ k + 1 + length (decText (s .history .len))
-          → sets (sets (sets (sets out 0 (firstText (s .kind) (s .origin) (viewIs (s .at)) (viewIs (s .view)))) j (secondText b p z (s .kept))) k (44 ∷ decText (s .history .len))) l (tailText (firstViews (s .history .len) (s .history .views))) ≡ sets out 0 (text (stmtOf s))
-      all-runs j k l ej ek el =
-          four-runs out 0 j k l (firstText (s .kind) (s .origin) (viewIs (s .at)) (viewIs (s .view))) (secondText b p z (s .kept)) (44 ∷ decText (s .history .len)) (tailText (firstViews (s .history .len) (s .history .views))) (omega arith) ek (omega arith)
-          ∙ ap (sets out 0) (sym runs)
+      pub all-runs : (n : ℕ) (out′ : List ℕ) → Wrote out 0 (firstText (s .kind) (s .origin) (viewIs (s .at)) (viewIs (s .view)) ++ (secondText b p z (s .kept) ++ ((44 ∷ decText (s .history .len)) ++ tailText (firstViews (s .history .len) (s .history .views))))) n out′
+          → Wrote out 0 (text (stmtOf s)) n out′
+      all-runs n out′ w = wrote-as (sym runs) w
 
 pub bool-byte : (b : Bool) → boolByte b ≡ cond b 1 0
 bool-byte true = refl

@@ -5,7 +5,7 @@ use mathlib.Core.Bool.{cond}
 use mathlib.Core.List.{List, [], _∷_}
 use lib.ListN.{length}
 use Rattle.protocol.specs.View.{View}
-use Rattle.protocol.specs.Statement.{Stmt, noView, unbound, bound, barred}
+use Rattle.protocol.specs.Statement.{Stmt, noView, unbound, bound, barred, bindingNumber}
 use Rattle.protocol.specs.Statement as statement
 use Rattle.views.specs.declared.View as held
 use Rattle.views.specs.Held.{viewIs}
@@ -19,11 +19,11 @@ firstViews zero l = []
 firstViews (suc n) [] = noView ∷ firstViews n []
 firstViews (suc n) (v ∷ l) = viewIs v ∷ firstViews n l
 
--- "binding (0 unbound, 1 bound to payload, 2 barred)".
-abbrev pub bindingNumber : Binding → ℕ
-bindingNumber Unbound = 0
-bindingNumber (Bound m) = 1
-bindingNumber Barred = 2
+-- The binding that a Binding means.
+abbrev pub bindingIs : Binding → statement.Binding
+bindingIs Unbound = unbound
+bindingIs (Bound m) = bound m
+bindingIs Barred = barred
 
 -- A bound payload is the statement's; otherwise it is the field's.
 abbrev pub payloadOf : Binding → ℕ → ℕ
@@ -37,7 +37,7 @@ stmtOf s = record {
   origin = s .origin;
   at = viewIs (s .at);
   view = viewIs (s .view);
-  binding = bindingNumber (s .binding);
+  binding = bindingNumber (bindingIs (s .binding));
   payload = payloadOf (s .binding) (s .payload);
   stored = cond (s .stored) 1 0;
   kept = s .kept;
@@ -64,9 +64,3 @@ pub record Fits (s : Stmt) : Type 0 where
   pub kept : s .kept < 2 ^ 64
   pub count : length (s .views) ≤ 16
   pub views : EachFits (s .views)
-
--- The binding that a Binding means.
-abbrev pub bindingIs : Binding → statement.Binding
-bindingIs Unbound = unbound
-bindingIs (Bound m) = bound m
-bindingIs Barred = barred

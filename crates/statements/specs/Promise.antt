@@ -21,12 +21,12 @@ pub record ReadOf (S : List ℕ) (r : ReadStatement) : Type 0 where
   pub short : r .statement .history .len ≤ 16
 
 -- A statement is written if it has at most 16 views and its text has room.
-unfoldable pub hasRoom : Statement → List ℕ → Bool
-hasRoom s out = leb (s .history .len) 16 && leb (length (text (stmtOf s))) (length out)
+unfoldable pub isWritable : Statement → List ℕ → Bool
+isWritable s out = leb (s .history .len) 16 && leb (length (text (stmtOf s))) (length out)
 
 -- Writing s over out: the count of bytes, and what out holds then. Without room that is 0, and out as it was.
 unfoldable pub writtenCount : Statement → List ℕ → ℕ
-writtenCount s out = cond (hasRoom s out) (length (text (stmtOf s))) 0
+writtenCount s out = cond (isWritable s out) (length (text (stmtOf s))) 0
 
 unfoldable pub written : Statement → List ℕ → List ℕ
-written s out = cond (hasRoom s out) (sets out 0 (text (stmtOf s))) out
+written s out = cond (isWritable s out) (sets out 0 (text (stmtOf s))) out

@@ -2,17 +2,16 @@
 ghost use mathlib.Core.Path.{_≡_};
 ghost use Prim.Native.Nat.{_≤_};
 ghost use Rattle.protocol.specs.View.{hasMembers};
-ghost use Rattle.protocol.specs.Statement.{noAt, noViewField, noBinding, noPayload, noKept, noViews, viewsRule, reportRule, kindRule, fieldRules};
-ghost use Rattle.statements.specs.Meaning.{stmtOf};
+ghost use Rattle.protocol.specs.Statement.{bindingNumber, noAt, noViewField, noBinding, noPayload, noKept, noViews, viewsRule, reportRule, kindRule, fieldRules};
+ghost use Rattle.statements.specs.Meaning.{bindingIs, payloadOf, stmtOf};
 use crate::Binding;
 use crate::Statement;
 use views::View;
 
-// The number that the binding is written as.
-pub fn binding_number(st: Statement) -> u64
-    ensures { λ r. ⌜ (r ≡ stmtOf st .binding) × (r ≤ 2) ⌝ }
+// The number that a binding is written as.
+pub fn number_of(b: Binding) -> u64
+    ensures { λ r. ⌜ (r ≡ bindingNumber (bindingIs b)) × (r ≤ 2) ⌝ }
 {
-    let b = st.binding;
     match b {
         Binding::Unbound => 0,
         Binding::Bound(_) => 1,
@@ -20,16 +19,31 @@ pub fn binding_number(st: Statement) -> u64
     }
 }
 
-// The payload of the statement: a bound payload stands in the binding.
+// A bound payload stands in the binding.
+pub fn payload_with(b: Binding, payload: u64) -> u64
+    ensures { λ r. ⌜ r ≡ payloadOf b payload ⌝ }
+{
+    match b {
+        Binding::Unbound => payload,
+        Binding::Bound(m) => m,
+        Binding::Barred => payload,
+    }
+}
+
+// The number that the statement's binding is written as.
+pub fn binding_number(st: Statement) -> u64
+    ensures { λ r. ⌜ (r ≡ stmtOf st .binding) × (r ≤ 2) ⌝ }
+{
+    let b = st.binding;
+    number_of(b)
+}
+
+// The payload of the statement.
 pub fn payload_of(st: Statement) -> u64
     ensures { λ r. ⌜ r ≡ stmtOf st .payload ⌝ }
 {
     let b = st.binding;
-    match b {
-        Binding::Unbound => st.payload,
-        Binding::Bound(m) => m,
-        Binding::Barred => st.payload,
-    }
+    payload_with(b, st.payload)
 }
 
 fn no_at(st: Statement) -> bool

@@ -4,11 +4,11 @@ ghost use mathlib.Core.Bool.{false};
 ghost use mathlib.Core.List.{_∷_};
 ghost use Prim.Native.Nat.{_+_, _*_, _<_, _≤_};
 ghost use lib.ListN.{length};
-ghost use lib.Seq.{sets};
 ghost use Rattle.text.specs.Text.{decText};
+ghost use Rattle.text.specs.Written.{Wrote};
 ghost use Rattle.statements.specs.Text.{viewText, text};
 ghost use Rattle.views.specs.Held.{viewIs};
-ghost use Rattle.statements.specs.Meaning.{firstViews, bindingNumber, payloadOf, stmtOf};
+ghost use Rattle.statements.specs.Meaning.{firstViews};
 ghost use Rattle.statements.specs.Promise.{ReadOf, writtenCount, written};
 ghost use Rattle.statements.specs.Parts.{Bounded, NumberAt, ViewAt, ViewsAt, bindingFrom, firstText, secondText, tailText};
 
@@ -17,7 +17,9 @@ mod make;
 
 pub use field_rules::binding_number;
 pub use field_rules::keeps_field_rules;
+pub use field_rules::number_of;
 pub use field_rules::payload_of;
+use field_rules::payload_with;
 pub use make::ack;
 pub use make::agree_history;
 pub use make::agree_view;
@@ -26,9 +28,27 @@ pub use make::leave;
 pub use make::prepare;
 pub use make::report;
 pub use make::store;
+use text::COMMA;
+use text::NUMBER_MAX;
 use text::Read;
 use views::History;
 use views::View;
+
+// A view is written as eight hexadecimal digits, with a comma before it.
+const VIEW_DIGITS: usize = 8;
+
+const VIEW_BYTES: usize = 9;
+
+// The greatest number of eight digits: the joined set times `SETS`, and the left set.
+const VIEW_MAX: u64 = 4294967295;
+
+const SETS: u64 = 65536;
+
+// What every text has besides its numbers and its history: eight commas, two views, and a digit each for binding and stored.
+const FIXED_BYTES: usize = 26;
+
+// The greatest number of eight bits.
+pub const BYTE_MAX: u64 = 255;
 
 pub enum Binding {
     Unbound,
@@ -119,13 +139,13 @@ fn view_at(s: &[u8], at: usize) -> ViewPart
     ensures { λ p. ⌜ ViewAt (now (s .entry)) at p ⌝ }
 {
     if text::comma_at(s, at) {
-        let r = text::read_hex(s, at + 1, 8);
-        let p = bounded(s, r, 4294967295);
+        let r = text::read_hex(s, at + 1, VIEW_DIGITS);
+        let p = bounded(s, r, VIEW_MAX);
         ViewPart {
             ok: p.ok,
             view: View {
-                joined: (p.value / 65536) as u32,
-                left: (p.value % 65536) as u32,
+                joined: (p.value / SETS) as u32,
+                left: (p.value % SETS) as u32,
             },
             next: p.next,
         }
@@ -189,14 +209,14 @@ pub fn read(s: &[u8]) -> ReadStatement
     ensures { λ r. ⌜ ReadOf (now (s .entry)) r ⌝ }
 {
     let first = text::read_dec(s, 0);
-    let kind = bounded(s, first, 255);
-    let origin = number_at(s, kind.next, 255);
+    let kind = bounded(s, first, BYTE_MAX);
+    let origin = number_at(s, kind.next, BYTE_MAX);
     let at = view_at(s, origin.next);
     let view = view_at(s, at.next);
     let binding = number_at(s, view.next, 2);
-    let payload = number_at(s, binding.next, 18446744073709551615);
+    let payload = number_at(s, binding.next, NUMBER_MAX);
     let stored = number_at(s, payload.next, 1);
-    let kept = number_at(s, stored.next, 18446744073709551615);
+    let kept = number_at(s, stored.next, NUMBER_MAX);
     let count = number_at(s, kept.next, View::LIMIT as u64);
     let views = views_at(s, count);
     let u = at.view;
@@ -221,28 +241,28 @@ pub fn read(s: &[u8]) -> ReadStatement
 // Writes a comma and a number from a position with room for them, and answers the next position.
 pub fn put_number(out: &mut [u8], at: usize, v: u64) -> usize
     requires { ⌜ at + 1 + length (decText v) ≤ length (now out) ⌝ }
-    ensures { λ r. ⌜ (r ≡ at + 1 + length (decText v)) × (now (out .exit) ≡ sets (now (out .entry)) at (44 ∷ decText v)) ⌝ }
+    ensures { λ r. ⌜ Wrote (now (out .entry)) at (44 ∷ decText v) r (now (out .exit)) ⌝ }
 {
-    out[at] = 44;
+    out[at] = COMMA;
     text::write_dec(out, at + 1, v)
 }
 
 pub fn put_view(out: &mut [u8], at: usize, v: View) -> usize
     requires { ⌜ at + 9 ≤ length (now out) ⌝ }
-    ensures { λ r. ⌜ (r ≡ at + 9) × (now (out .exit) ≡ sets (now (out .entry)) at (44 ∷ viewText (viewIs v))) ⌝ }
+    ensures { λ r. ⌜ (r ≡ at + 9) × Wrote (now (out .entry)) at (44 ∷ viewText (viewIs v)) r (now (out .exit)) ⌝ }
 {
-    out[at] = 44;
+    out[at] = COMMA;
     text::write_hex(
         out,
         at + 1,
-        v.joined_set() as u64 * 65536 + v.left_set() as u64,
-        8,
+        v.joined_set() as u64 * SETS + v.left_set() as u64,
+        VIEW_DIGITS,
     )
 }
 
 fn put_views(out: &mut [u8], from: usize, h: History) -> usize
     requires { ⌜ (h .len ≤ 16) × (from + 9 * h .len ≤ length (now out)) ⌝ }
-    ensures { λ r. ⌜ (r ≡ from + 9 * h .len) × (now (out .exit) ≡ sets (now (out .entry)) from (tailText (firstViews (h .len) (h .views)))) ⌝ }
+    ensures { λ r. ⌜ (r ≡ from + 9 * h .len) × Wrote (now (out .entry)) from (tailText (firstViews (h .len) (h .views))) r (now (out .exit)) ⌝ }
 {
     let mut at = from;
     let mut i = 0usize;
@@ -257,7 +277,7 @@ fn put_views(out: &mut [u8], from: usize, h: History) -> usize
 // Writes the fields up to the view, from the start.
 fn put_first(out: &mut [u8], kind: u64, origin: u64, at: View, view: View) -> usize
     requires { ⌜ length (firstText kind origin (viewIs at) (viewIs view)) ≤ length (now out) ⌝ }
-    ensures { λ r. ⌜ (r ≡ length (firstText kind origin (viewIs at) (viewIs view))) × (now (out .exit) ≡ sets (now (out .entry)) 0 (firstText kind origin (viewIs at) (viewIs view))) ⌝ }
+    ensures { λ r. ⌜ Wrote (now (out .entry)) 0 (firstText kind origin (viewIs at) (viewIs view)) r (now (out .exit)) ⌝ }
 {
     let a = text::write_dec(out, 0, kind);
     let b = put_number(out, a, origin);
@@ -275,7 +295,7 @@ fn put_second(
     kept: u64,
 ) -> usize
     requires { ⌜ at + length (secondText binding payload stored kept) ≤ length (now out) ⌝ }
-    ensures { λ r. ⌜ (r ≡ at + length (secondText binding payload stored kept)) × (now (out .exit) ≡ sets (now (out .entry)) at (secondText binding payload stored kept)) ⌝ }
+    ensures { λ r. ⌜ Wrote (now (out .entry)) at (secondText binding payload stored kept) r (now (out .exit)) ⌝ }
 {
     let a = put_number(out, at, binding);
     let b = put_number(out, a, payload);
@@ -283,34 +303,14 @@ fn put_second(
     put_number(out, c, kept)
 }
 
-fn number_of(b: Binding) -> u64
-    ensures { λ r. ⌜ r ≡ bindingNumber b ⌝ }
-{
-    match b {
-        Binding::Unbound => 0,
-        Binding::Bound(_) => 1,
-        Binding::Barred => 2,
-    }
-}
-
-fn told_payload(b: Binding, payload: u64) -> u64
-    ensures { λ r. ⌜ r ≡ payloadOf b payload ⌝ }
-{
-    match b {
-        Binding::Unbound => payload,
-        Binding::Bound(m) => m,
-        Binding::Barred => payload,
-    }
-}
-
-// How long a text is: binding and stored have one digit each, and a view eight.
+// How long a text is.
 fn text_len(kind: u64, origin: u64, payload: u64, kept: u64, len: u64) -> usize
     requires { ⌜ len ≤ 16 ⌝ }
     ensures { λ r. ⌜ r ≡ length (decText kind) + length (decText origin) + length (decText payload) + length (decText kept) + length (decText len) + 26 + 9 * len ⌝ }
 {
     let a = text::dec_len(kind) + text::dec_len(origin);
     let b = text::dec_len(payload) + text::dec_len(kept);
-    a + b + text::dec_len(len) + 26 + 9 * (len as usize)
+    a + b + text::dec_len(len) + FIXED_BYTES + VIEW_BYTES * (len as usize)
 }
 
 // Writes a statement's text from the start of `out`, and answers its length; 0 where it has more than 16 views or `out` is too short.
@@ -323,7 +323,7 @@ pub fn write(st: Statement, out: &mut [u8]) -> usize
         return 0;
     }
     let binding = st.binding;
-    let payload = told_payload(binding, st.payload);
+    let payload = payload_with(binding, st.payload);
     let size = text_len(
         st.kind as u64,
         st.origin as u64,

@@ -6,7 +6,7 @@ use Prim.Native.Nat.{ℕ, _+_, _-_, _*_, _≤_, _<_}
 use native.Mathlib.Decide.{ℕ-discrete}
 use native.Mathlib.Omega.{arith}
 use lib.ListN.{replicate, getD-replicate}
-use Rattle.tables.specs.Index.{newestAt, olderAt, SameRows, SameKeys, Empty, Linked, Numbered, Keyed, Newest, Chained, slotOf, slotAt, Indexed, Added}
+use Rattle.tables.specs.Index.{newestAt, olderAt, SameRows, SameKeys, Empty, RowLinked, RowNumbered, RowKeyed, Newest, Chained, slotOf, slotAt, Indexed, RowAdded}
 
 newest-first : (at : ℕ → ℕ) (s x : ℕ) → x ≡ 0 → Newest at 0 s x
 newest-first at s x e = record { most = omega arith; here = λ p. absurd (omega arith); all = λ i l. absurd (omega arith) }
@@ -53,11 +53,11 @@ chained-as few f g w = record { slots = λ s l. rw (f s l) (w .slots s l); links
 pub chained-kept : {at : ℕ → ℕ} {R R′ : List ℕ} {t n : ℕ} → n ≤ 512 → SameRows R R′ t → Chained at R t n → Chained at R′ t n
 chained-kept few same w = chained-as few (same .newest) (same .older) w
 
-pub chained-numbered : {at : ℕ → ℕ} {R R′ : List ℕ} {t n i x : ℕ} → n ≤ 512 → Numbered R t i x R′ → Chained at R t n → Chained at R′ t n
+pub chained-numbered : {at : ℕ → ℕ} {R R′ : List ℕ} {t n i x : ℕ} → n ≤ 512 → RowNumbered R t i x R′ → Chained at R t n → Chained at R′ t n
 chained-numbered few put w = chained-as few (put .slots) (put .links) w
 
 -- row n goes into its slot
-pub chained-new : {at : ℕ → ℕ} {R R′ : List ℕ} {t s n : ℕ} → n < 512 → s < 256 → at n ≡ s → Linked R t s n R′ → Chained at R t n → Chained at R′ t (n + 1)
+pub chained-new : {at : ℕ → ℕ} {R R′ : List ℕ} {t s n : ℕ} → n < 512 → s < 256 → at n ≡ s → RowLinked R t s n R′ → Chained at R t n → Chained at R′ t (n + 1)
 chained-new {at} {R} {R′} {t} {s} {n} l m e put w = record { slots = λ z h. slot z h (ℕ-discrete z s); links = λ i h. link i h (ℕ-discrete i n) }
   where
     slot : (z : ℕ) → z < 256 → Dec (z ≡ s) → Newest at (n + 1) z (newestAt R′ t z)
@@ -93,7 +93,7 @@ pub keys-same : {K : List ℕ} {t : ℕ} → SameKeys K K t
 keys-same = record { key = λ i l. refl }
 
 -- a row with its key, its number and its slot
-pub added : {K K′ R R′ R″ : List ℕ} {t i w x s : ℕ} → t < 2 → i < 512 → Keyed K t i w K′ → Numbered R t i x R′ → s ≡ slotOf w → s < 256 → Linked R′ t s i R″ → Added K R t i w x K′ R″
+pub added : {K K′ R R′ R″ : List ℕ} {t i w x s : ℕ} → t < 2 → i < 512 → RowKeyed K t i w K′ → RowNumbered R t i x R′ → s ≡ slotOf w → s < 256 → RowLinked R′ t s i R″ → RowAdded K R t i w x K′ R″
 unfolding slotAt
 added {K} {K′} {R} {R′} {R″} {t} {i} {w} {x} b l k n e m put = record {
   key = k .here;

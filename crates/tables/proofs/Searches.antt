@@ -1,4 +1,4 @@
--- Laws of searches for the rows of a key.
+-- Laws of walks along the index, and of searches for the rows of a key.
 -- Assumes nothing.
 use mathlib.Core.Path.{_≡_, sym, ap, subst, _∙_}
 use mathlib.Core.Bool.{Bool, false}
@@ -6,7 +6,7 @@ use mathlib.Core.List.{List}
 use Prim.Native.Nat.{ℕ, _-_, _≤_, _<_}
 use native.Mathlib.Decide.{ℕ-discrete, decLt}
 use native.Mathlib.Omega.{arith}
-use Rattle.tables.specs.Index.{newestAt, olderAt, keyAt, Newest, Chained, slotOf, slotAt, Indexed, Latest, Passed}
+use Rattle.tables.specs.Index.{newestAt, olderAt, keyAt, Newest, Chained, slotOf, slotAt, Indexed, LatestOf, HasKey, Latest, Passed}
 
 -- a walk from `from` down over the rows that `at` puts into slot s has come to x, a row of that slot plus one, and no row between has P
 pub record Walked (at : ℕ → ℕ) (s : ℕ) (P : ℕ → Type 0) (from x : ℕ) : Type 0 where
@@ -37,16 +37,15 @@ walked-next {at} {s} {P} {R} {t} {n} {from} {x} {y} ch within f b p d q = record
     go i a c g (no u) (yes v) = omega (arith, before .all i v (within i g ∙ sym (f .here p)))
     go i a c g (no u) (no v) = f .none i (omega arith) c g
 
--- ---- by keys
+-- the walk's end
 
-abbrev pub HasKey : List ℕ → ℕ → ℕ → ℕ → Type 0
-HasKey K t w i = keyAt K t i ≡ w
+pub walked-found : {at : ℕ → ℕ} {s : ℕ} {P : ℕ → Type 0} {from x : ℕ} → Walked at s P from x → P (x - 1) → LatestOf P from x
+walked-found f h = record { most = f .most; here = λ p. h; none = f .none }
 
-pub walked-found : {K : List ℕ} {t w from x k : ℕ} → Walked (slotAt K t) (slotOf w) (HasKey K t w) from x → k ≡ keyAt K t (x - 1) → k ≡ w → Latest K t w from x
-walked-found f e g = record { most = f .most; here = λ p. sym e ∙ g; none = f .none }
-
-pub walked-none : {K : List ℕ} {t w from x : ℕ} → Walked (slotAt K t) (slotOf w) (HasKey K t w) from x → x ≤ 0 → Latest K t w from 0
+pub walked-none : {at : ℕ → ℕ} {s : ℕ} {P : ℕ → Type 0} {from x : ℕ} → Walked at s P from x → x ≤ 0 → LatestOf P from 0
 walked-none f l = record { most = omega arith; here = λ p. absurd (omega arith); none = λ i a b. f .none i (omega arith) b }
+
+-- ---- by keys
 
 pub key-slot : (K : List ℕ) (t w i : ℕ) → HasKey K t w i → slotAt K t i ≡ slotOf w
 unfolding slotAt

@@ -7,7 +7,7 @@ use native.Mathlib.Decide.{decLt}
 use native.Mathlib.Omega.{arith}
 use lib.ListN.{length, getD, set, length-set}
 use lib.Seq.{getD-set-same, getD-set-other}
-use Rattle.tables.specs.Index.{newestAt, olderAt, numberAt, keyAt, Cleared, Linked, Numbered, Keyed}
+use Rattle.tables.specs.Index.{newestAt, olderAt, numberAt, keyAt, SlotsCleared, RowLinked, RowNumbered, RowKeyed}
 
 -- ---- clearing
 
@@ -30,7 +30,7 @@ clearing-next {R} {R′} {t} {s} b l w = record {
   rest = λ j d. getD-set-other R′ (t * 1280 + s) j 0 0 (d s l) ∙ w .rest j d;
 }
 
-pub clearing-all : {R R′ : List ℕ} {t s : ℕ} → t < 2 → 256 ≤ s → Clearing R t R′ s → Cleared R t R′
+pub clearing-all : {R R′ : List ℕ} {t s : ℕ} → t < 2 → 256 ≤ s → Clearing R t R′ s → SlotsCleared R t R′
 unfolding newestAt olderAt numberAt
 clearing-all {R} {R′} {t} b l w = record {
   empty = record { none = λ z m. w .zeros z (omega arith) };
@@ -44,7 +44,7 @@ clearing-all {R} {R′} {t} b l w = record {
 -- ---- a row into a slot
 
 pub linked : (R : List ℕ) (t s i b : ℕ) → length R ≡ 2560 → t < 2 → s < 256 → i < 512 → b ≡ getD R (t * 1280 + s) 0
-    → Linked R t s i (set (set R (t * 1280 + 256 + i) b) (t * 1280 + s) (i + 1))
+    → RowLinked R t s i (set (set R (t * 1280 + 256 + i) b) (t * 1280 + s) (i + 1))
 unfolding newestAt olderAt numberAt
 linked R t s i b h p q l e = record {
   newest = getD-set-same (set R (t * 1280 + 256 + i) b) (t * 1280 + s) (i + 1) 0 (omega (arith, length-set R (t * 1280 + 256 + i) b));
@@ -64,7 +64,7 @@ linked R t s i b h p q l e = record {
 
 -- ---- a number and a key
 
-pub numbered : (R : List ℕ) (t i x : ℕ) → length R ≡ 2560 → t < 2 → i < 512 → Numbered R t i x (set R (t * 1280 + 768 + i) x)
+pub numbered : (R : List ℕ) (t i x : ℕ) → length R ≡ 2560 → t < 2 → i < 512 → RowNumbered R t i x (set R (t * 1280 + 768 + i) x)
 unfolding newestAt olderAt numberAt
 numbered R t i x h p l = record {
   here = getD-set-same R (t * 1280 + 768 + i) x 0 (omega arith);
@@ -78,7 +78,7 @@ numbered R t i x h p l = record {
   };
 }
 
-pub keyed : (K : List ℕ) (t i w : ℕ) → length K ≡ 1024 → t < 2 → i < 512 → Keyed K t i w (set K (t * 512 + i) w)
+pub keyed : (K : List ℕ) (t i w : ℕ) → length K ≡ 1024 → t < 2 → i < 512 → RowKeyed K t i w (set K (t * 512 + i) w)
 unfolding keyAt
 keyed K t i w h p l = record {
   here = getD-set-same K (t * 512 + i) w 0 (omega arith);

@@ -39,12 +39,12 @@ pub record Empty (R : List ℕ) (t : ℕ) : Type 0 where
   pub none : (s : ℕ) → s < 256 → newestAt R t s ≡ 0
 
 -- The slots were emptied.
-pub record Cleared (R : List ℕ) (t : ℕ) (R′ : List ℕ) : Type 0 where
+pub record SlotsCleared (R : List ℕ) (t : ℕ) (R′ : List ℕ) : Type 0 where
   pub empty : Empty R′ t
   pub others : (u : ℕ) → u < 2 → (u ≡ t → ⊥) → SameRows R R′ u
 
 -- Row i went into slot s.
-pub record Linked (R : List ℕ) (t s i : ℕ) (R′ : List ℕ) : Type 0 where
+pub record RowLinked (R : List ℕ) (t s i : ℕ) (R′ : List ℕ) : Type 0 where
   pub newest : newestAt R′ t s ≡ i + 1
   pub older : olderAt R′ t i ≡ newestAt R t s
   pub slots : (z : ℕ) → z < 256 → (z ≡ s → ⊥) → newestAt R′ t z ≡ newestAt R t z
@@ -53,7 +53,7 @@ pub record Linked (R : List ℕ) (t s i : ℕ) (R′ : List ℕ) : Type 0 where
   pub others : (u : ℕ) → u < 2 → (u ≡ t → ⊥) → SameRows R R′ u
 
 -- Row i has the number x now.
-pub record Numbered (R : List ℕ) (t i x : ℕ) (R′ : List ℕ) : Type 0 where
+pub record RowNumbered (R : List ℕ) (t i x : ℕ) (R′ : List ℕ) : Type 0 where
   pub here : numberAt R′ t i ≡ x
   pub numbers : (j : ℕ) → j < 512 → (j ≡ i → ⊥) → numberAt R′ t j ≡ numberAt R t j
   pub slots : (z : ℕ) → z < 256 → newestAt R′ t z ≡ newestAt R t z
@@ -61,7 +61,7 @@ pub record Numbered (R : List ℕ) (t i x : ℕ) (R′ : List ℕ) : Type 0 wher
   pub others : (u : ℕ) → u < 2 → (u ≡ t → ⊥) → SameRows R R′ u
 
 -- Row i has the key w now.
-pub record Keyed (K : List ℕ) (t i w : ℕ) (K′ : List ℕ) : Type 0 where
+pub record RowKeyed (K : List ℕ) (t i w : ℕ) (K′ : List ℕ) : Type 0 where
   pub here : keyAt K′ t i ≡ w
   pub keys : (j : ℕ) → j < 512 → (j ≡ i → ⊥) → keyAt K′ t j ≡ keyAt K t j
   pub others : (u : ℕ) → u < 2 → (u ≡ t → ⊥) → SameKeys K K′ u
@@ -79,6 +79,12 @@ pub record Chained (at : ℕ → ℕ) (R : List ℕ) (t n : ℕ) : Type 0 where
   pub slots : (s : ℕ) → s < 256 → Newest at n s (newestAt R t s)
   pub links : (i : ℕ) → i < n → Newest at i (at i) (olderAt R t i)
 
+-- Of the rows below n that have P, r is the newest plus one, or 0 where there is none.
+pub record LatestOf (P : ℕ → Type 0) (n r : ℕ) : Type 0 where
+  pub most : r ≤ n
+  pub here : 0 < r → P (r - 1)
+  pub none : (i : ℕ) → r ≤ i → i < n → P i → ⊥
+
 -- ---- the index by keys
 
 -- The slot of a word: both halves go into it.
@@ -95,7 +101,7 @@ pub record Indexed (K R : List ℕ) (t n : ℕ) : Type 0 where
   pub chained : Chained (slotAt K t) R t n
 
 -- Row i, with the key w and the number x, was put behind those below it.
-pub record Added (K R : List ℕ) (t i w x : ℕ) (K′ R′ : List ℕ) : Type 0 where
+pub record RowAdded (K R : List ℕ) (t i w x : ℕ) (K′ R′ : List ℕ) : Type 0 where
   pub key : keyAt K′ t i ≡ w
   pub number : numberAt R′ t i ≡ x
   pub keys : (j : ℕ) → j < 512 → (j ≡ i → ⊥) → keyAt K′ t j ≡ keyAt K t j
@@ -104,11 +110,13 @@ pub record Added (K R : List ℕ) (t i w x : ℕ) (K′ R′ : List ℕ) : Type 
   pub rows : (u : ℕ) → u < 2 → (u ≡ t → ⊥) → SameRows R R′ u
   pub others : (u : ℕ) → u < 2 → (u ≡ t → ⊥) → SameKeys K K′ u
 
+-- Row i has the key w.
+abbrev pub HasKey : List ℕ → ℕ → ℕ → ℕ → Type 0
+HasKey K t w i = keyAt K t i ≡ w
+
 -- Of the rows below n with the key w, r is the newest plus one, or 0 where there is none.
-pub record Latest (K : List ℕ) (t w n r : ℕ) : Type 0 where
-  pub most : r ≤ n
-  pub here : 0 < r → keyAt K t (r - 1) ≡ w
-  pub none : (i : ℕ) → r ≤ i → i < n → keyAt K t i ≡ w → ⊥
+abbrev pub Latest : List ℕ → ℕ → ℕ → ℕ → ℕ → Type 0
+Latest K t w n r = LatestOf (HasKey K t w) n r
 
 -- A search from row n down has come to r, a row with the key w plus one or 0, and no row from r on has p.
 pub record Passed (p : ℕ → Bool) (K : List ℕ) (t w n r : ℕ) : Type 0 where

@@ -1,1 +1,2 @@
+-- ---- inside: what functions tell each other, and what loops keep
 pub mod Index

@@ -3,6 +3,7 @@
 mod rows;
 mod search;
 
+pub use rows::CAPACITY;
 pub use rows::KEYS;
 pub use rows::ROWS;
 pub use rows::clear;
@@ -12,7 +13,7 @@ pub use rows::newest;
 pub use rows::number;
 pub use rows::older;
 pub use rows::set_key;
-pub use rows::set_number;
 pub use search::add;
 pub use search::first;
 pub use search::next;
+pub use search::slot_from;

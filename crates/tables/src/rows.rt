@@ -2,13 +2,26 @@
 ghost use mathlib.Core.Path.{_≡_};
 ghost use Prim.Native.Nat.{_<_};
 ghost use lib.ListN.{length};
-ghost use Rattle.tables.specs.Index.{newestAt, olderAt, numberAt, keyAt, Cleared, Linked, Numbered, Keyed};
+ghost use Rattle.tables.specs.Index.{newestAt, olderAt, numberAt, keyAt, SlotsCleared, RowLinked, RowNumbered, RowKeyed};
 
-// 256 slots, 512 links and 512 numbers of two tables. More slots would take longer to clear than they save.
-pub const ROWS: usize = 2560;
+// The most rows of a table.
+pub const CAPACITY: usize = 512;
 
-// 512 keys of two tables.
-pub const KEYS: usize = 1024;
+// The slots of an index. More would take longer to clear than they save where a record is short; with 512 two of three worst cases were 1.5 in 100 faster.
+pub const SLOTS: usize = 256;
+
+// Of the numbers of a table its slots come first. Where its links and the numbers of its rows start, and how many numbers it has.
+const LINKS: usize = SLOTS;
+
+const NUMBERS: usize = LINKS + CAPACITY;
+
+const TABLE: usize = NUMBERS + CAPACITY;
+
+// The numbers of two tables.
+pub const ROWS: usize = 2 * TABLE;
+
+// The keys of two tables.
+pub const KEYS: usize = 2 * CAPACITY;
 
 // How many numbers and words the memory has. A proof that one was written asks for it.
 
@@ -37,7 +50,7 @@ pub fn newest(rows: &[u16; ROWS], t: usize, slot: usize) -> usize
     requires { ⌜ (t < 2) × (slot < 256) ⌝ }
     ensures { λ r. ⌜ r ≡ newestAt (now (rows .entry)) t slot ⌝ }
 {
-    wide(rows[t * 1280 + slot])
+    wide(rows[t * TABLE + slot])
 }
 
 // The row before this one in its slot, plus one.
@@ -45,7 +58,7 @@ pub fn older(rows: &[u16; ROWS], t: usize, row: usize) -> usize
     requires { ⌜ (t < 2) × (row < 512) ⌝ }
     ensures { λ r. ⌜ r ≡ olderAt (now (rows .entry)) t row ⌝ }
 {
-    wide(rows[t * 1280 + 256 + row])
+    wide(rows[t * TABLE + LINKS + row])
 }
 
 // The number of a row.
@@ -53,7 +66,7 @@ pub fn number(rows: &[u16; ROWS], t: usize, row: usize) -> u16
     requires { ⌜ (t < 2) × (row < 512) ⌝ }
     ensures { λ r. ⌜ r ≡ numberAt (now (rows .entry)) t row ⌝ }
 {
-    rows[t * 1280 + 768 + row]
+    rows[t * TABLE + NUMBERS + row]
 }
 
 // The key of a row.
@@ -61,18 +74,18 @@ pub fn key(keys: &[u64; KEYS], t: usize, row: usize) -> u64
     requires { ⌜ (t < 2) × (row < 512) ⌝ }
     ensures { λ r. ⌜ r ≡ keyAt (now (keys .entry)) t row ⌝ }
 {
-    keys[t * 512 + row]
+    keys[t * CAPACITY + row]
 }
 
 // Empties the slots of a table. Its links and numbers are left as they are, since no slot leads to them.
 pub fn clear(rows: &mut [u16; ROWS], t: usize)
     requires { ⌜ t < 2 ⌝ }
-    ensures { λ _. ⌜ Cleared (now (rows .entry)) t (now (rows .exit)) ⌝ }
+    ensures { λ _. ⌜ SlotsCleared (now (rows .entry)) t (now (rows .exit)) ⌝ }
 {
     rows_room(rows);
-    let from = t * 1280;
+    let from = t * TABLE;
     let mut s = 0usize;
-    while s < 256 {
+    while s < SLOTS {
         rows[from + s] = 0;
         s += 1;
     }
@@ -81,28 +94,28 @@ pub fn clear(rows: &mut [u16; ROWS], t: usize)
 // Puts a row into a slot, before the rows that the slot has.
 pub fn link(rows: &mut [u16; ROWS], t: usize, slot: usize, row: usize)
     requires { ⌜ (t < 2) × (slot < 256) × (row < 512) ⌝ }
-    ensures { λ _. ⌜ Linked (now (rows .entry)) t slot row (now (rows .exit)) ⌝ }
+    ensures { λ _. ⌜ RowLinked (now (rows .entry)) t slot row (now (rows .exit)) ⌝ }
 {
     rows_room(rows);
-    let before = rows[t * 1280 + slot];
-    rows[t * 1280 + 256 + row] = before;
-    rows[t * 1280 + slot] = row as u16 + 1;
+    let before = rows[t * TABLE + slot];
+    rows[t * TABLE + LINKS + row] = before;
+    rows[t * TABLE + slot] = row as u16 + 1;
 }
 
 // Gives a row its number.
 pub fn set_number(rows: &mut [u16; ROWS], t: usize, row: usize, x: u16)
     requires { ⌜ (t < 2) × (row < 512) ⌝ }
-    ensures { λ _. ⌜ Numbered (now (rows .entry)) t row x (now (rows .exit)) ⌝ }
+    ensures { λ _. ⌜ RowNumbered (now (rows .entry)) t row x (now (rows .exit)) ⌝ }
 {
     rows_room(rows);
-    rows[t * 1280 + 768 + row] = x;
+    rows[t * TABLE + NUMBERS + row] = x;
 }
 
 // Gives a row its key.
 pub fn set_key(keys: &mut [u64; KEYS], t: usize, row: usize, w: u64)
     requires { ⌜ (t < 2) × (row < 512) ⌝ }
-    ensures { λ _. ⌜ Keyed (now (keys .entry)) t row w (now (keys .exit)) ⌝ }
+    ensures { λ _. ⌜ RowKeyed (now (keys .entry)) t row w (now (keys .exit)) ⌝ }
 {
     keys_room(keys);
-    keys[t * 512 + row] = w;
+    keys[t * CAPACITY + row] = w;
 }

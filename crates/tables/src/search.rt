@@ -1,24 +1,43 @@
 // The rows of a key.
 ghost use mathlib.Core.Path.{_≡_};
-ghost use Prim.Native.Nat.{ℕ, _-_, _≤_, _<_};
-ghost use Rattle.tables.specs.Index.{keyAt, slotOf, slotAt, Indexed, Added, Latest};
+ghost use Prim.Native.Nat.{ℕ, _-_, _/_, _%_, _≤_, _<_};
+ghost use Rattle.tables.specs.Index.{keyAt, slotOf, slotAt, Indexed, RowAdded, Latest};
 use crate::rows;
 use crate::rows::KEYS;
 use crate::rows::ROWS;
+use crate::rows::SLOTS;
 
-// The slot of a word. What multiplication mixes best are the high bits.
+// What the halves of a word are below.
+const HALF: u64 = 4294967296;
+
+// What each half is multiplied by.
+const LOW_FACTOR: u64 = 2654435769;
+
+const HIGH_FACTOR: u64 = 668265263;
+
+// Where the bits of a mix start that are taken.
+const HIGH_BITS: u64 = 16777216;
+
+// The slot of a mix: its high bits, which multiplication mixes best.
+pub fn slot_from(mix: u64) -> usize
+    ensures { λ r. ⌜ (r ≡ mix / 16777216 % 256) × (r < 256) ⌝ }
+{
+    (mix / HIGH_BITS) as usize % SLOTS
+}
+
+// The slot of a word.
 fn slot(w: u64) -> usize
     ensures { λ r. ⌜ (r ≡ slotOf w) × (r < 256) ⌝ }
 {
-    let low = w % 4294967296;
-    let high = w / 4294967296;
-    ((low * 2654435769 + high * 668265263) / 16777216 % 256) as usize
+    let low = w % HALF;
+    let high = w / HALF;
+    slot_from(low * LOW_FACTOR + high * HIGH_FACTOR)
 }
 
 // Puts a row behind those that the table has.
 pub fn add(keys: &mut [u64; KEYS], rows: &mut [u16; ROWS], t: usize, row: usize, w: u64, x: u16)
     requires { ⌜ (t < 2) × (row < 512) ⌝ }
-    ensures { λ _. ⌜ Added (now (keys .entry)) (now (rows .entry)) t row w x (now (keys .exit)) (now (rows .exit)) ⌝ }
+    ensures { λ _. ⌜ RowAdded (now (keys .entry)) (now (rows .entry)) t row w x (now (keys .exit)) (now (rows .exit)) ⌝ }
 {
     rows::set_key(keys, t, row, w);
     rows::set_number(rows, t, row, x);

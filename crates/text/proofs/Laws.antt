@@ -4,7 +4,7 @@
 --     dec-same, hex-same   two fields with one text are one
 --     comma-is, comma-only a comma, both ways
 -- Assumes nothing.
-use Prim.Native.Nat.{ℕ, _+_, _^_, _<_, _≤_}
+use Prim.Native.Nat.{ℕ, _+_, _^_, _<_}
 use native.Mathlib.Nat.{add-zero}
 use native.Mathlib.Numerals.{add-one}
 use native.Mathlib.Omega.{arith}
@@ -12,7 +12,7 @@ use mathlib.Core.Path.{_≡_, refl, sym, ap, _∙_}
 use mathlib.Core.Bool.{true}
 use mathlib.Core.Logic.{⊎-elim}
 use mathlib.Core.List.{List, [], _∷_, _++_}
-use lib.ListN.{length, drop, getD, List·getD-eq-default, length-append, length-drop}
+use lib.ListN.{length, drop, getD, List·getD-eq-default}
 use lib.Seq.{drop-drop, drop-append-seam, drop-cons, getD-drop}
 use borrow.Author.Tests.{eqb-true, eq-eqb}
 use Rattle.text.specs.declared.Read.the-variants.{Got}
@@ -25,10 +25,6 @@ use Rattle.text.proofs.Hex.{hex-from, hex-taken}
 -- after the text the rest is left
 pub after : (S : List ℕ) (at : ℕ) (text rest : List ℕ) → drop at S ≡ text ++ rest → drop (at + length text) S ≡ rest
 after S at text rest e = sym (drop-drop (length text) at S) ∙ ap (λ (l : List ℕ). drop (length text) l) e ∙ drop-append-seam text rest
-
--- a text that stands at a position ends within the line
-pub within : (S : List ℕ) (at : ℕ) (text rest : List ℕ) → 0 < length text → drop at S ≡ text ++ rest → at + length text ≤ length S
-within S at text rest h e = omega (arith, h, sym (length-drop at S) ∙ ap length e ∙ length-append text rest)
 
 -- ---- WHAT IS WRITTEN IS READ BACK
 pub dec-at : (S : List ℕ) (at v : ℕ) (rest : List ℕ) → v < 18446744073709551616 → Stops rest → drop at S ≡ decText v ++ rest → decAt S at ≡ Got v (at + length (decText v))

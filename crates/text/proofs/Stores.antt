@@ -1,18 +1,50 @@
 -- Runs of stores, and the steps of the writers. Assumes nothing.
 use Prim.Native.Nat.{ℕ, zero, suc, _+_, _-_, _*_, _/_, _%_, _<_, _≤_}
 use native.Mathlib.Nat.{add-zero, suc-add, add-suc}
+use native.Mathlib.Numerals.{add-one}
 use native.Mathlib.Omega.{arith}
-use mathlib.Core.Path.{_≡_, refl, sym, ap, _∙_}
+use mathlib.Core.Path.{_≡_, refl, sym, ap, subst, _∙_}
 use mathlib.Core.List.{List, [], _∷_, _++_, append-nil, append-assoc}
-use lib.ListN.{length, set}
-use lib.Seq.{sets, length-sets, set-comm}
+use lib.ListN.{length, take, getD, set, length-append}
+use lib.Seq.{sets, take-suc, take-all, length-take-le, length-sets, set-comm}
 use Rattle.text.specs.Text.{glyph, decText, hexText}
+use Rattle.text.specs.Written.{Wrote}
 use Rattle.text.proofs.Decimal.{dec-small, dec-grow, one-long, one-longer, some-long}
 
 -- texts stored one after the other
 pub sets-append : (xs ys l : List ℕ) (i : ℕ) → sets l i (xs ++ ys) ≡ sets (sets l i xs) (i + length xs) ys
 sets-append [] ys l i = rw (add-zero i)
 sets-append (x ∷ xs) ys l i = sets-append xs ys (set l i x) (suc i) ∙ ap (λ (k : ℕ). sets (sets (set l i x) (suc i) xs) k ys) (suc-add i (length xs) ∙ sym (add-suc i (length xs)))
+
+-- ---- what writers promise, put together
+
+-- two texts, one after the other
+pub both : {out₀ out₁ out₂ s t : List ℕ} {at a b : ℕ} → Wrote out₀ at s a out₁ → Wrote out₁ a t b out₂ → Wrote out₀ at (s ++ t) b out₂
+both {out₀} {out₁} {out₂} {s} {t} {at} {a} {b} v w = record {
+  next = w .next ∙ omega (arith, v .next, length-append s t);
+  is = w .is ∙ ap (λ o. sets o a t) (v .is) ∙ ap (λ k. sets (sets out₀ at s) k t) (v .next) ∙ sym (sets-append s t out₀ at);
+}
+
+-- a text in another form
+pub wrote-as : {out after s t : List ℕ} {at n : ℕ} → s ≡ t → Wrote out at s n after → Wrote out at t n after
+wrote-as {out} {after} {at = at} {n = n} e w = subst (λ t. Wrote out at t n after) e w
+
+-- one byte before a text
+pub after-byte : {out out₁ t : List ℕ} {at n : ℕ} (b : ℕ) → Wrote (set out at b) (at + 1) t n out₁ → Wrote out at (b ∷ t) n out₁
+after-byte {at = at} b w = record { next = w .next ∙ omega arith; is = w .is ∙ rw (add-one at) }
+
+-- one byte more of a text
+pub text-next : (out₀ out t : List ℕ) (at i : ℕ) → i < length t → out ≡ sets out₀ at (take i t) → set out (at + i) (getD t i 0) ≡ sets out₀ at (take (i + 1) t)
+text-next out₀ out t at i h e =
+    let n : length (take i t) ≡ i = length-take-le i t (omega arith) in
+    ap (λ (o : List ℕ). set o (at + i) (getD t i 0)) e ∙ ap (λ (k : ℕ). sets (sets out₀ at (take i t)) (at + k) (getD t i 0 ∷ [])) (sym n)
+    ∙ sym (sets-append (take i t) (getD t i 0 ∷ []) out₀ at) ∙ ap (sets out₀ at) (sym (ap (λ (k : ℕ). take k t) (add-one i) ∙ take-suc t i 0 h))
+
+-- the whole of it
+pub text-whole : (out₀ out t : List ℕ) (at i : ℕ) → i ≤ length t → length t ≤ i → out ≡ sets out₀ at (take i t) → Wrote out₀ at t (at + i) out
+text-whole out₀ out t at i h g e = record { next = ap (λ k. at + k) (omega arith); is = e ∙ ap (sets out₀ at) (take-all i t g) }
+
+-- ---- stores from the last one on
 
 -- a store before a run goes first
 set-sets : (l : List ℕ) (i j x : ℕ) (xs : List ℕ) → j < i → set (sets l i xs) j x ≡ sets (set l j x) i xs
@@ -24,8 +56,8 @@ pub sets-before : (l : List ℕ) (i x : ℕ) (xs : List ℕ) → 0 < i → set (
 sets-before l i x xs h = set-sets l i (i - 1) x xs (omega arith) ∙ ap (λ (k : ℕ). sets (set l (i - 1) x) k xs) (omega arith)
 
 -- ---- a decimal of one digit
-pub one-digit : (out : List ℕ) (at v : ℕ) → v < 10 → (at + 1 ≡ at + length (decText v)) × (set out at (glyph v) ≡ sets out at (decText v))
-one-digit out at v h = (omega (arith, one-long v h), rw (dec-small v h))
+pub one-digit : (out : List ℕ) (at v : ℕ) → v < 10 → Wrote out at (decText v) (at + 1) (set out at (glyph v))
+one-digit out at v h = record { next = omega (arith, one-long v h); is = rw (dec-small v h) }
 
 -- ---- a decimal, written from its last digit on: the digits of x are still to come, and end before i
 pub record Left (out₀ : List ℕ) (at v : ℕ) (out : List ℕ) (i x : ℕ) : Type 0 where

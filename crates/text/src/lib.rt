@@ -3,9 +3,18 @@
 ghost use mathlib.Core.Path.{_≡_};
 ghost use Prim.Native.Nat.{_+_, _-_, _<_, _≤_};
 ghost use lib.ListN.{length, drop};
-ghost use lib.Seq.{sets};
 ghost use Rattle.text.specs.Text.{glyph, decText, hexText};
 ghost use Rattle.text.specs.Scan.{isDigit, hexVal, scanDec, zeroThen, decAt, hexAt, isComma};
+ghost use Rattle.text.specs.Written.{Wrote};
+
+pub const COMMA: u8 = 44;
+
+pub const NEWLINE: u8 = 10;
+
+// The greatest number that a field has: 64 bits.
+pub const NUMBER_MAX: u64 = 18446744073709551615;
+// With one digit more a greater number than this is too great.
+const NUMBER_TENTH: u64 = 1844674407370955161;
 
 pub enum Read {
     Got { value: u64, next: usize },
@@ -59,11 +68,11 @@ fn scan_dec(s: &[u8], from: usize, start: u64) -> Read
             };
         }
         let d = wide(c) - 48;
-        if acc > 1844674407370955161 {
+        if acc > NUMBER_TENTH {
             return Read::Refused;
         }
         let t = acc * 10;
-        if d > 18446744073709551615 - t {
+        if d > NUMBER_MAX - t {
             return Read::Refused;
         }
         acc = t + d;
@@ -144,7 +153,7 @@ pub fn read_hex(s: &[u8], at: usize, digits: usize) -> Read
 pub fn comma_at(s: &[u8], at: usize) -> bool
     ensures { λ r. ⌜ r ≡ isComma (now (s .entry)) at ⌝ }
 {
-    if at < s.len() { s[at] == 44 } else { false }
+    if at < s.len() { s[at] == COMMA } else { false }
 }
 
 // How many digits a number below ten thousand has.
@@ -199,10 +208,23 @@ fn glyph_of(d: u64) -> u8
     }
 }
 
+// Writes t from a position with room for it, and answers the next position.
+pub fn write_text(out: &mut [u8], at: usize, t: &[u8]) -> usize
+    requires { ⌜ at + length (now t) ≤ length (now out) ⌝ }
+    ensures { λ r. ⌜ Wrote (now (out .entry)) at (now (t .entry)) r (now (out .exit)) ⌝ }
+{
+    let mut i = 0usize;
+    while i < t.len() {
+        out[at + i] = t[i];
+        i += 1;
+    }
+    at + i
+}
+
 // Writes v from a position with room for it, and answers the next position. The digits go in from the last one on, two at a time.
 pub fn write_dec(out: &mut [u8], at: usize, v: u64) -> usize
     requires { ⌜ at + length (decText v) ≤ length (now out) ⌝ }
-    ensures { λ r. ⌜ (r ≡ at + length (decText v)) × (now (out .exit) ≡ sets (now (out .entry)) at (decText v)) ⌝ }
+    ensures { λ r. ⌜ Wrote (now (out .entry)) at (decText v) r (now (out .exit)) ⌝ }
 {
     // Most numbers of a line have one digit.
     if v < 10 {
@@ -231,7 +253,7 @@ pub fn write_dec(out: &mut [u8], at: usize, v: u64) -> usize
 // Writes the last `digits` hexadecimal digits of v from a position with room for them, and answers the next position.
 pub fn write_hex(out: &mut [u8], at: usize, v: u64, digits: usize) -> usize
     requires { ⌜ at + digits ≤ length (now out) ⌝ }
-    ensures { λ r. ⌜ (r ≡ at + digits) × (now (out .exit) ≡ sets (now (out .entry)) at (hexText digits v)) ⌝ }
+    ensures { λ r. ⌜ Wrote (now (out .entry)) at (hexText digits v) r (now (out .exit)) ⌝ }
 {
     let end = at + digits;
     let mut i = end;

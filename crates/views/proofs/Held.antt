@@ -1,9 +1,9 @@
 -- Laws of the structs View and History: each is what one method needs.
 -- Assumes nothing.
 use mathlib.Core.Path.{_≡_, sym, ap, ap₂, _∙_}
-use mathlib.Core.Bool.{Bool, true, false, not, _&&_}
+use mathlib.Core.Bool.{Bool, false, not, _&&_}
 use mathlib.Core.List.{List, [], _∷_, _++_}
-use Prim.Native.Nat.{ℕ, suc, _+_, _-_, _*_, _/_, _%_, _^_, _≤_, _<_, min}
+use Prim.Native.Nat.{ℕ, suc, _+_, _-_, _/_, _%_, _^_, _≤_, _<_, min}
 use native.Mathlib.Numerals.{add-one}
 use native.Mathlib.Omega.{arith}
 use lib.Dec.{eqb}
@@ -12,9 +12,7 @@ use lib.ListN.{length, set}
 use lib.Seq.{getD-set-same, getD-set-other}
 use borrow.Author.Tests.{lt-ltb, le-ltb}
 use Rattle.protocol.specs.Sets.{bit, setOf}
-use Rattle.protocol.specs.Lists.{any}
-use Rattle.protocol.specs.View.{View, sameView, member, isView, within, comparable}
-use Rattle.protocol.specs.History.{holds}
+use Rattle.protocol.specs.View.{View, member, isView}
 use Rattle.protocol.specs.Turn.{enteredAfter}
 use Rattle.protocol.proofs.Bits.{bit-setOf, subset-and, Fits}
 use Rattle.views.specs.declared.View as held
@@ -23,24 +21,18 @@ use Rattle.views.specs.Table.{table}
 use Rattle.views.specs.View.{viewOf, viewIn}
 use Rattle.views.specs.Held.{viewIs, heldAt, viewsIs}
 use Rattle.views.proofs.Sets.{bit-shift, bit-far, set-without}
-use Rattle.views.proofs.Tables.{table-length, table-cong, take-table, all-zero, all-more, all-miss}
+use Rattle.views.proofs.Tables.{table-length, table-cong, take-table}
 use Rattle.views.proofs.Views.{pair}
 
 -- ---- one view
 
-pub word-is : (v : held.View) (j l w : ℕ) → j ≡ v .joined → j < 4294967296 → l ≡ v .left → l < 4294967296 → viewOf w ≡ viewIn (j + l * 4294967296) → viewOf w ≡ viewIs v
+pub word-is : (v : held.View) (w h : ℕ) → (h % 4294967296 ≡ v .joined) × (h / 4294967296 % 4294967296 ≡ v .left) → viewOf w ≡ viewIn h → viewOf w ≡ viewIs v
 unfolding viewIn
-word-is v j l w a p b q e = e ∙ (λ i. record { joined = (low ∙ ap (λ x. x % 65536) a) i; left = (high ∙ ap (λ x. x % 65536) b) i })
-  where
-    low : (j + l * 4294967296) % 65536 ≡ j % 65536
-    low = omega arith
+word-is v w h p e = e ∙ (λ i. record { joined = (let q : h % 65536 ≡ v .joined % 65536 = omega arith in q) i; left = (let q : h / 4294967296 % 65536 ≡ v .left % 65536 = omega arith in q) i })
 
-    high : (j + l * 4294967296) / 4294967296 % 65536 ≡ l % 65536
-    high = omega arith
-
-pub of-word-is : (w : ℕ) → pair (w % 4294967296 % 65536) (w / 4294967296 % 65536) ≡ viewIn w
+pub of-word-is : (w j l : ℕ) → j ≡ w % 4294967296 → l ≡ w / 4294967296 % 4294967296 → pair (j % 65536) (l % 65536) ≡ viewIn w
 unfolding viewIn
-of-word-is w i = record { joined = (let e : w % 4294967296 % 65536 ≡ w % 65536 = omega arith in e) i; left = w / 4294967296 % 65536 }
+of-word-is w j l e f i = record { joined = (let q : j % 65536 ≡ w % 65536 = omega arith in q) i; left = (let q : l % 65536 ≡ w / 4294967296 % 65536 = omega arith in q) i }
 
 pub set-low : (a : ℕ) → (bitAnd a 65535 ≡ a % 65536) × (bitAnd a 65535 < 65536)
 set-low a = (and-mask a 16, mask-lt a 16)
@@ -66,14 +58,6 @@ view-test v a b e p f q = rw (sym e, sym f, lt-ltb a 65536 p, lt-ltb b 65536 q) 
 
 pub of-words : (p : View → View → Bool) (a b : ℕ) {u v : View} {r : Bool} → r ≡ p (viewOf a) (viewOf b) → viewOf a ≡ u → viewOf b ≡ v → r ≡ p u v
 of-words p a b e f g = e ∙ ap₂ p f g
-
-pub comparable-one : (u v : View) (b : Bool) → b ≡ within 16 u v → b ≡ true → true ≡ comparable 16 u v
-unfolding comparable
-comparable-one u v b e t = rw (sym e ∙ t)
-
-pub comparable-other : (u v : View) (b r : Bool) → b ≡ within 16 u v → b ≡ false → r ≡ within 16 v u → r ≡ comparable 16 u v
-unfolding comparable
-comparable-other u v b r e f g = rw (sym e ∙ f) g
 
 -- ---- a list of views
 
@@ -115,18 +99,3 @@ unfolding enteredAfter
 push-full h n v e l =
     of-history (enteredAfter v) h n e
     (sym (rw (le-ltb (length (table n (heldAt (h .views)))) 16 (omega (arith, table-length n (heldAt (h .views)))), take-table n 15 (heldAt (h .views)) (omega arith))))
-
--- ---- a list that holds another
-
-module _ (H : List View) (f : ℕ → View) where
-  pub holds-none : holds H (table 0 f) ≡ true
-  unfolding holds
-  holds-none = all-zero (λ v. any (sameView v) H) f
-
-  pub holds-more : (n : ℕ) (b : Bool) → holds H (table n f) ≡ true → b ≡ any (sameView (f n)) H → b ≡ true → holds H (table (n + 1) f) ≡ true
-  unfolding holds
-  holds-more n b t e g = all-more (λ v. any (sameView v) H) f n t (sym e ∙ g)
-
-  pub holds-miss : (n p : ℕ) (b : Bool) → p < n → b ≡ any (sameView (f p)) H → b ≡ false → false ≡ holds H (table n f)
-  unfolding holds
-  holds-miss n p b l e g = sym (all-miss (λ v. any (sameView v) H) f n l (sym e ∙ g))

@@ -16,8 +16,8 @@ use Rattle.protocol.specs.History.{sameViews, last, top, rising, isHistory}
 use Rattle.protocol.specs.Statement.{isRising}
 use Rattle.protocol.proofs.Decided.{says-sames}
 use Rattle.views.specs.Table.{table}
-use Rattle.views.proofs.Tables.{all-append, table-length, tables-at, all-suc}
-use Rattle.views.proofs.Views.{passes, fails, same-yes, same-no}
+use Rattle.views.proofs.Tables.{all-append, table-length, tables-at}
+use Rattle.views.proofs.Views.{passes, fails}
 
 -- a test of one view, and of two, asked of equal ones
 
@@ -92,15 +92,6 @@ module _ (f : ℕ → View) where
 
   pub last-some : (c : ℕ) (u : View) → (c ≡ 0 → ⊥) → f (c - 1) ≡ last u (table c f)
   last-some c u z = sym (table-last c u (omega arith))
-
-  -- the one view u
-
-  pub start-not : (c : ℕ) (u : View) → (c ≡ 1 → ⊥) → false ≡ sameViews (table c f) (u ∷ [])
-  start-not c u d = sym (fails (says-sames (table c f) (u ∷ [])) (λ q. d (sym (table-length c f) ∙ ap length q)))
-
-  pub start-one : (c : ℕ) (u : View) → c ≡ 1 → sameView (f 0) u ≡ sameViews (table c f) (u ∷ [])
-  unfolding table sameViews
-  start-one c u o = rw o (sym (and-true (sameView (f 0) u)))
 
   -- ---- rising
 

@@ -10,7 +10,8 @@ use lib.Bits.{bitAnd, bitOr, or-lt, and-le-l, and-le-r, and-mask, or-add-and}
 use borrow.Author.Tests.{ne-eqb}
 use Rattle.protocol.specs.Sets.{bit, one, count, setOf, every, subset}
 use Rattle.protocol.proofs.Bits.{bit-and, bit-or, bit-zero, bit-pow, bit-setOf, bits-ext}
-use Rattle.views.specs.Sets.{IsSet, Noted}
+use Rattle.views.specs.Steps.{Noted}
+use Rattle.views.specs.Sets.{IsSet}
 
 -- ---- one bit more
 

@@ -2,8 +2,8 @@
 -- Assumes nothing.
 use mathlib.Core.Path.{_≡_, refl, sym, ap, ap₂, _∙_}
 use mathlib.Core.Bool.{Bool, true, false, _&&_, _||_, and-true, and-false, or-true, or-false, and-assoc, or-assoc}
-use mathlib.Core.List.{List, [], _∷_, _++_}
-use Prim.Native.Nat.{ℕ, zero, suc, _+_, _-_, _≤_, _<_}
+use mathlib.Core.List.{List, [], _∷_, _++_, map, map-append}
+use Prim.Native.Nat.{ℕ, zero, suc, _+_, _≤_, _<_}
 use native.Mathlib.Decide.{decLt}
 use native.Mathlib.Numerals.{add-one}
 use native.Mathlib.Omega.{arith}
@@ -11,6 +11,7 @@ use lib.ListN.{length, getD, take, length-append, List·getD-append}
 use lib.Seq.{getD-at, take-all, take-append-le}
 use Rattle.protocol.specs.Lists.{any, all}
 use Rattle.views.specs.Table.{table}
+use Rattle.views.specs.View.{viewOf, viewsOf}
 
 module _ {A : Type 0} where
   pub any-append : (p : A → Bool) (k l : List A) → any p (k ++ l) ≡ (any p k || any p l)
@@ -99,3 +100,12 @@ module _ {A : Type 0} where
     | yes h ↦ (let e : m ≡ suc n = omega arith in rw e (take-all (suc n) (table (suc n) f) (omega (arith, table-length (suc n) f))))
     | no h ↦ take-append-le m (table n f) (f n ∷ []) (omega (arith, table-length n f)) ∙ take-table n m f (omega arith)
   ]
+
+pub map-table : {A B : Type 0} (g : A → B) (n : ℕ) (f : ℕ → A) → map g (table n f) ≡ table n (λ i. g (f i))
+unfolding table
+map-table g zero f = refl
+map-table g (suc n) f = map-append g (table n f) (f n ∷ []) ∙ ap (λ l. l ++ (g (f n) ∷ [])) (map-table g n f)
+
+pub views-count : (ws : List ℕ) (n : ℕ) → length (viewsOf ws n) ≡ n
+unfolding viewsOf
+views-count ws n = table-length n (λ i. viewOf (getD ws i 0))

@@ -1,4 +1,9 @@
+-- Views, histories and quorums, as structs and as words.
+
+-- ---- what is promised
 pub mod Held
-pub mod Sets
 pub mod Table
 pub mod View
+pub mod Sets
+-- ---- inside: what functions tell each other, and what loops keep
+pub mod Steps

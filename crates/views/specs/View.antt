@@ -1,9 +1,12 @@
 -- Views in one word, and quorums of them.
 -- Assumes nothing.
 use mathlib.Core.Bool.{Bool}
-use Prim.Native.Nat.{ℕ, _/_, _%_}
+use mathlib.Core.List.{List}
+use Prim.Native.Nat.{ℕ, _+_, _*_, _/_, _%_}
+use lib.ListN.{getD}
 use Rattle.protocol.specs.View.{View, Ring}
 use Rattle.protocol.specs.Evidence.{hasQuorum}
+use Rattle.views.specs.Table.{table}
 
 -- The view of a word: 32 bits of who joined, and above them 32 of who left.
 unfoldable pub viewOf : ℕ → View
@@ -13,10 +16,22 @@ viewOf w = record { joined = w % 4294967296; left = w / 4294967296 % 4294967296 
 unfoldable pub viewIn : ℕ → View
 viewIn w = record { joined = w % 65536; left = w / 4294967296 % 65536 }
 
+-- The word of a view.
+abbrev pub wordOf : View → ℕ
+wordOf v = v .joined + v .left * 4294967296
+
+-- The views of the first n words, as they stand, and of the sixteen controllers alone.
+
+unfoldable pub viewsOf : List ℕ → ℕ → List View
+viewsOf a n = table n (λ i. viewOf (getD a i 0))
+
+unfoldable pub viewsIn : List ℕ → ℕ → List View
+viewsIn a n = table n (λ i. viewIn (getD a i 0))
+
 -- A quorum of t has q.
 unfoldable pub quorumHas : View → (ℕ → Bool) → Bool
 quorumHas t q = hasQuorum 16 t q
 
 -- The ring of sixteen controllers whose initial view is that of the word.
-abbrev pub ring : ℕ → Ring
-ring init = record { width = 16; init = viewOf init }
+abbrev pub ringOfWord : ℕ → Ring
+ringOfWord init = record { width = 16; init = viewOf init }

@@ -2,22 +2,27 @@
 ghost use mathlib.Core.Path.{_≡_};
 ghost use mathlib.Core.List.{[], _∷_, _++_};
 ghost use Prim.Native.Nat.{_+_, _<_, _≤_, min};
-ghost use Rattle.protocol.specs.Sets.{setOf};
+ghost use Rattle.protocol.specs.Sets.{bit, setOf};
 ghost use Rattle.protocol.specs.Lists.{any, all};
-ghost use Rattle.protocol.specs.View.{sameView, member, quorum, isView, memberCount, hasMembers, within, comparable, size, below};
-ghost use Rattle.protocol.specs.History.{last, holds};
+ghost use Rattle.protocol.specs.View.{sameView, member, quorum, isView, memberCount, hasMembers, below};
 ghost use Rattle.protocol.specs.Statement.{isRising};
 ghost use Rattle.protocol.specs.Turn.{enteredAfter};
 ghost use Rattle.views.specs.Table.{table};
 ghost use Rattle.views.specs.View.{viewOf, viewIn};
 ghost use Rattle.views.specs.Held.{viewIs, heldAt, viewsIs};
 
+mod lists;
 mod words;
 
+pub use lists::list_at;
+pub use lists::list_room;
 pub use words::below_view;
 pub use words::has_members;
+pub use words::high_half;
+pub use words::low_half;
 pub use words::narrow;
 pub use words::note;
+pub use words::of_halves;
 pub use words::quorum_in;
 pub use words::size_view;
 pub use words::union;
@@ -35,13 +40,6 @@ pub struct History {
     pub len: usize,
 }
 
-// A set as a word: it brings the range of its type.
-fn wide(set: u32) -> u64
-    ensures { λ r. ⌜ (r ≡ set) × (r < 4294967296) ⌝ }
-{
-    set as u64
-}
-
 impl View {
     // Controllers are numbered below this.
     pub const WIDTH: u8 = 16;
@@ -56,7 +54,7 @@ impl View {
     pub fn word(self) -> u64
         ensures { λ r. ⌜ viewOf r ≡ viewIs self ⌝ }
     {
-        words::narrow(wide(self.joined) + wide(self.left) * 4294967296)
+        words::narrow(words::of_halves(self.joined, self.left))
     }
 
     // The view of a word.
@@ -64,8 +62,8 @@ impl View {
         ensures { λ r. ⌜ viewIs r ≡ viewIn w ⌝ }
     {
         View {
-            joined: (w % 4294967296) as u32,
-            left: (w / 4294967296) as u32,
+            joined: words::low_half(w),
+            left: words::high_half(w),
         }
     }
 
@@ -130,10 +128,14 @@ impl View {
         (self.members() >> k) % 2 == 1
     }
 
-    pub fn within(self, v: View) -> bool
-        ensures { λ r. ⌜ r ≡ within 16 (viewIs self) (viewIs v) ⌝ }
+    // Whether controller k is in the left set.
+    pub fn has_left(self, k: u8) -> bool
+        ensures { λ r. ⌜ r ≡ bit (viewIs self .left) k ⌝ }
     {
-        words::within_view(self.word(), v.word())
+        if k >= View::WIDTH {
+            return false;
+        }
+        (self.left_set() >> k) % 2 == 1
     }
 
     // Strictly within.
@@ -141,22 +143,6 @@ impl View {
         ensures { λ r. ⌜ r ≡ below 16 (viewIs self) (viewIs v) ⌝ }
     {
         words::below_view(self.word(), v.word())
-    }
-
-    pub fn comparable(self, v: View) -> bool
-        ensures { λ r. ⌜ r ≡ comparable 16 (viewIs self) (viewIs v) ⌝ }
-    {
-        if self.within(v) {
-            return true;
-        }
-        v.within(self)
-    }
-
-    // How many joined and how many left.
-    pub fn size(self) -> u32
-        ensures { λ r. ⌜ (r ≡ size 16 (viewIs self)) × (r ≤ 32) ⌝ }
-    {
-        words::size_view(self.word())
     }
 
     pub fn same(self, v: View) -> bool
@@ -210,18 +196,6 @@ impl History {
         self.cut(View::LIMIT - 1, v)
     }
 
-    // The last view, or `init` if there is none.
-    pub fn last(self, init: View) -> View
-        ensures { λ r. ⌜ viewIs r ≡ last (viewIs init) (viewsIs self) ⌝ }
-    {
-        let n = self.count();
-        if n == 0 {
-            return init;
-        }
-        let views = self.views;
-        views[n - 1]
-    }
-
     pub fn has(self, v: View) -> bool
         ensures { λ r. ⌜ r ≡ any (sameView (viewIs v)) (viewsIs self) ⌝ }
     {
@@ -236,23 +210,6 @@ impl History {
             p += 1;
         }
         false
-    }
-
-    // Whether all views of h are among these.
-    pub fn holds(self, h: History) -> bool
-        ensures { λ r. ⌜ r ≡ holds (viewsIs self) (viewsIs h) ⌝ }
-    {
-        let n = h.count();
-        let views = h.views;
-        let mut p = 0usize;
-        while p < n {
-            let v = views[p];
-            if !self.has(v) {
-                return false;
-            }
-            p += 1;
-        }
-        true
     }
 
     // Whether there are views and they rise strictly.

@@ -1,14 +1,38 @@
 // Sets and views in one word. A set is a word of 32 bits; a view has who joined in the low 32 bits and who left in the high. Tests of views look at the controllers below the width alone.
 ghost use mathlib.Core.Path.{_≡_};
-ghost use Prim.Native.Nat.{_≤_};
+ghost use Prim.Native.Nat.{_/_, _%_, _≤_};
 ghost use Rattle.protocol.specs.Sets.{bit};
 ghost use Rattle.protocol.specs.View.{hasMembers, within, below, size};
-ghost use Rattle.views.specs.Sets.{Noted, Joined};
+ghost use Rattle.views.specs.Steps.{Noted, Joined};
 ghost use Rattle.views.specs.View.{viewOf, viewIn, quorumHas};
 use crate::View;
 
+// The high half of a word counts by this.
+const HALF: u64 = 4294967296;
+
 // All controllers in both sets of a view.
-const BOTH: u64 = View::ALL as u64 * 4294967297;
+const BOTH: u64 = View::ALL as u64 * (HALF + 1);
+
+// The low half of a word: who joined.
+pub fn low_half(w: u64) -> u32
+    ensures { λ r. ⌜ r ≡ w % 4294967296 ⌝ }
+{
+    (w % HALF) as u32
+}
+
+// The high half: who left.
+pub fn high_half(w: u64) -> u32
+    ensures { λ r. ⌜ r ≡ w / 4294967296 % 4294967296 ⌝ }
+{
+    (w / HALF % HALF) as u32
+}
+
+// The word of its two halves.
+pub fn of_halves(low: u32, high: u32) -> u64
+    ensures { λ r. ⌜ (r % 4294967296 ≡ low) × (r / 4294967296 % 4294967296 ≡ high) ⌝ }
+{
+    low as u64 + high as u64 * HALF
+}
 
 // The view w without the bits of its sets that stand for no controller.
 pub fn narrow(w: u64) -> u64

@@ -25,7 +25,12 @@ use Rattle.pool.specs.Pool.{stmtAt}
 use Rattle.pool.proofs.Laws.{at-fits, view-fits}
 use Rattle.votes.specs.Votes.{isVote, alike}
 use Rattle.votes.specs.Tables.{IsWord}
-use Rattle.votes.specs.Keys.{wordOf, folded, weightOf, mixFrom, whatOf, sameNames, slotBy}
+use Rattle.votes.specs.Keys.{keyOf, folded, weightOf, mixFrom, whatOf, sameNames, slotBy}
+
+-- a test and what it says
+
+pub no-T : {b : Bool} → b ≡ false → T b → ⊥
+no-T e t = rw e at t
 
 -- ---- votes
 
@@ -110,18 +115,18 @@ alike-turned {a} p = alike-both p (alike-self a (p .vote))
 -- ---- the words of a vote
 
 -- a view of this width has one word
-word-inj : {u v : View} → Fits 16 u → Fits 16 v → wordOf u ≡ wordOf v → u ≡ v
-unfolding wordOf
+word-inj : {u v : View} → Fits 16 u → Fits 16 v → keyOf u ≡ keyOf v → u ≡ v
+unfolding keyOf
 word-inj {u} {v} f g e i = record {
   joined = (let p : u .joined ≡ v .joined = omega (arith, f .joined, f .left, g .joined, g .left) in p) i;
   left = (let p : u .left ≡ v .left = omega (arith, f .joined, f .left, g .joined, g .left) in p) i;
 }
 
-pub word-of : (w : ℕ) (v : View) → IsWord w → viewOf w ≡ v → w ≡ wordOf v
-unfolding wordOf viewOf
+pub word-of : (w : ℕ) (v : View) → IsWord w → viewOf w ≡ v → w ≡ keyOf v
+unfolding keyOf viewOf
 word-of w v l e = rw (sym e) (omega arith)
 
-pub what-view : (s : Stmt) → s .kind ≡ 3 → whatOf s ≡ wordOf (s .view)
+pub what-view : (s : Stmt) → s .kind ≡ 3 → whatOf s ≡ keyOf (s .view)
 unfolding whatOf
 what-view s e = rw (eq-eqb (s .kind) 3 e)
 
@@ -134,7 +139,7 @@ unfolding whatOf
 what-payload s d e = rw (ne-eqb (s .kind) 3 d, ne-eqb (s .kind) 4 e)
 
 what-same : (a s : Stmt) → Alike a s → Vote a → whatOf a ≡ whatOf s
-what-same a s al (inl (inl (inl k))) = what-view a k ∙ ap wordOf (sym (al .view k)) ∙ sym (what-view s (al .kind ∙ k))
+what-same a s al (inl (inl (inl k))) = what-view a k ∙ ap keyOf (sym (al .view k)) ∙ sym (what-view s (al .kind ∙ k))
 what-same a s al (inl (inl (inr k))) = what-history a k ∙ ap (mixFrom 0 0) (sym (al .views k)) ∙ sym (what-history s (al .kind ∙ k))
 what-same a s al (inl (inr k)) = what-payload a (λ q. omega arith) (λ q. omega arith) ∙ sym (al .acked k) ∙ sym (what-payload s (λ q. omega (arith, al .kind)) (λ q. omega (arith, al .kind)))
 what-same a s al (inr k) = what-payload a (λ q. omega arith) (λ q. omega arith) ∙ sym (al .stored k) ∙ sym (what-payload s (λ q. omega (arith, al .kind)) (λ q. omega (arith, al .kind)))
@@ -147,7 +152,7 @@ pub record Narrow (s : Stmt) : Type 0 where
 pub narrow : (W : List ℕ) (n : ℕ) → Narrow (stmtAt W n)
 narrow W n = record { at = at-fits W n; view = view-fits W n }
 
-words-alike : (a s : Stmt) → Narrow a → Narrow s → Vote a → a .kind ≡ s .kind → wordOf (a .at) ≡ wordOf (s .at) → whatOf a ≡ whatOf s → (s .kind ≡ 4 → a .views ≡ s .views) → Alike a s
+words-alike : (a s : Stmt) → Narrow a → Narrow s → Vote a → a .kind ≡ s .kind → keyOf (a .at) ≡ keyOf (s .at) → whatOf a ≡ whatOf s → (s .kind ≡ 4 → a .views ≡ s .views) → Alike a s
 words-alike a s p q v k e f h = record {
   vote = v;
   kind = sym k;
@@ -177,29 +182,26 @@ names-both a s k b e f g = rw (eq-eqb (s .kind) 4 (sym e ∙ f)) g
 pub other-what : (a s : Stmt) (x y : ℕ) → x ≡ whatOf a → y ≡ whatOf s → (x ≡ y → ⊥) → alike a s ≡ false
 other-what a s x y e f d = fails (says-alike a s) (λ al. d (e ∙ what-same a s al (al .vote) ∙ sym f))
 
-pub other-at : (a s : Stmt) (x y : ℕ) → x ≡ wordOf (a .at) → y ≡ wordOf (s .at) → (x ≡ y → ⊥) → alike a s ≡ false
-other-at a s x y e f d = fails (says-alike a s) (λ al. d (e ∙ ap wordOf (sym (al .at)) ∙ sym f))
+pub other-at : (a s : Stmt) (x y : ℕ) → x ≡ keyOf (a .at) → y ≡ keyOf (s .at) → (x ≡ y → ⊥) → alike a s ≡ false
+other-at a s x y e f d = fails (says-alike a s) (λ al. d (e ∙ ap keyOf (sym (al .at)) ∙ sym f))
 
 pub other-tag : (a s : Stmt) (x y : ℕ) → x ≡ a .kind → y ≡ s .kind → (x ≡ y → ⊥) → alike a s ≡ false
 other-tag a s x y e f d = fails (says-alike a s) (λ al. d (e ∙ sym (al .kind) ∙ sym f))
 
 pub other-names : (a s : Stmt) (b : Bool) → b ≡ sameNames a s → b ≡ false → alike a s ≡ false
-other-names a s b e f = fails (says-alike a s) (λ al. away (sym e ∙ f) (says-names a s .complete (λ k. sym (al .views (sym (al .kind) ∙ k)))))
-  where
-    away : {c : Bool} → c ≡ false → T c → ⊥
-    away z t = rw z at t
+other-names a s b e f = fails (says-alike a s) (λ al. no-T (sym e ∙ f) (says-names a s .complete (λ k. sym (al .views (sym (al .kind) ∙ k)))))
 
 -- the three words x of a and y of s
 pub record Words (a s : Stmt) (x y x′ y′ x″ y″ : ℕ) : Type 0 where
-  pub at : x ≡ wordOf (a .at)
-  pub at-other : y ≡ wordOf (s .at)
+  pub at : x ≡ keyOf (a .at)
+  pub at-other : y ≡ keyOf (s .at)
   pub what : x′ ≡ whatOf a
   pub what-other : y′ ≡ whatOf s
   pub tag : x″ ≡ a .kind
   pub tag-other : y″ ≡ s .kind
 
 pub other-slot : (a s : Stmt) {x y x′ y′ x″ y″ : ℕ} → Words a s x y x′ y′ x″ y″ → (slotBy x x′ x″ ≡ slotBy y y′ y″ → ⊥) → alike a s ≡ false
-other-slot a s w d = fails (says-alike a s) (λ al. d (slots (w .at ∙ ap wordOf (sym (al .at)) ∙ sym (w .at-other)) (w .what ∙ what-same a s al (al .vote) ∙ sym (w .what-other)) (w .tag ∙ sym (al .kind) ∙ sym (w .tag-other))))
+other-slot a s w d = fails (says-alike a s) (λ al. d (slots (w .at ∙ ap keyOf (sym (al .at)) ∙ sym (w .at-other)) (w .what ∙ what-same a s al (al .vote) ∙ sym (w .what-other)) (w .tag ∙ sym (al .kind) ∙ sym (w .tag-other))))
   where
     slots : {x y x′ y′ x″ y″ : ℕ} → x ≡ y → x′ ≡ y′ → x″ ≡ y″ → slotBy x x′ x″ ≡ slotBy y y′ y″
     slots p q r = cc
@@ -214,12 +216,12 @@ pub mix-zero : (f : ℕ → View) (h : ℕ) → h ≡ 0 → h ≡ mixFrom 0 0 (t
 unfolding mixFrom table
 mix-zero f h e = e
 
-mix-snoc : (p h : ℕ) (l : List View) (v : View) → mixFrom p h (l ++ (v ∷ [])) ≡ mixFrom p h l + wordOf v * weightOf (p + length l)
+mix-snoc : (p h : ℕ) (l : List View) (v : View) → mixFrom p h (l ++ (v ∷ [])) ≡ mixFrom p h l + keyOf v * weightOf (p + length l)
 unfolding mixFrom
-mix-snoc p h [] v = let e : p ≡ p + 0 = omega arith in ap (λ q. h + wordOf v * weightOf q) e
+mix-snoc p h [] v = let e : p ≡ p + 0 = omega arith in ap (λ q. h + keyOf v * weightOf q) e
 mix-snoc p h (u ∷ l) v =
     let e : (p + 1) + length l ≡ p + suc (length l) = omega arith in
-    mix-snoc (p + 1) (h + wordOf u * weightOf p) l v ∙ ap (λ q. mixFrom (p + 1) (h + wordOf u * weightOf p) l + wordOf v * weightOf q) e
+    mix-snoc (p + 1) (h + keyOf u * weightOf p) l v ∙ ap (λ q. mixFrom (p + 1) (h + keyOf u * weightOf p) l + keyOf v * weightOf q) e
 
 place-of : (f : ℕ → View) (p : ℕ) → p ≡ 0 + length (table p f)
 place-of f p = omega (arith, table-length p f)
@@ -230,7 +232,7 @@ mix-more f p h w m e l g q = rw add-one (ap₂ _+_ e (ap₂ _*_ (word-of w (f p)
 
 -- what one view adds: sixteen times as much fits in a word
 pub mix-part : (w : ℕ) {v : View} (m : ℕ) → IsWord w → viewOf w ≡ v → Fits 16 v → m < 4096 → w * m < 1152921504606846976
-unfolding wordOf
+unfolding keyOf
 mix-part w m l e f h =
     let s : w ≤ 281474976710656 = omega (arith, word-of w _ l e, f .joined, f .left) in
     omega (arith, mul-le-mul-right m s)

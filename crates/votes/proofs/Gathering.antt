@@ -12,23 +12,19 @@ use lib.ListN.{length, getD, set, length-set}
 use lib.Seq.{getD-set-same, getD-set-other}
 use Rattle.protocol.specs.Statement.{Stmt}
 use Rattle.protocol.specs.Evidence.{signs}
-use Rattle.views.specs.Sets.{IsSet, Noted}
+use Rattle.views.specs.Steps.{Noted}
+use Rattle.views.specs.Sets.{IsSet}
 use Rattle.views.proofs.Sets.{note-none}
 use Rattle.views.proofs.Views.{passes, fails}
-use Rattle.pool.specs.Pool.{stmtAt, recordOf}
+use Rattle.pool.specs.Pool.{stmtAt, recordUpTo}
 use Rattle.pool.proofs.Records.{whole, set-first, set-next}
-use Rattle.tables.specs.Index.{keyAt, Empty, Linked, Keyed}
+use Rattle.tables.specs.Index.{keyAt, Empty, RowLinked, RowKeyed}
 use Rattle.tables.proofs.Chains.{chained-first, chained-same, chained-new, empty-kept}
+use Rattle.protocol.proofs.Says.{from-true}
 use Rattle.votes.specs.declared.keys.Vote.{Vote}
 use Rattle.votes.specs.Votes.{isVote, alike, entry, placeOf, tagOf, signersOf, voteAt, Groups}
-use Rattle.votes.specs.Keys.{wordOf, whatOf, slotBy, slotAt, Key, Place, Sofar}
-use Rattle.votes.proofs.Alike.{Alike, says-vote, says-alike, alike-vote, alike-self, alike-both, alike-turned}
-
-pub yes-T : {b : Bool} → b ≡ true → T b
-yes-T e = rw e tt
-
-pub no-T : {b : Bool} → b ≡ false → T b → ⊥
-no-T e t = rw e at t
+use Rattle.votes.specs.Keys.{keyOf, whatOf, slotBy, groupSlot, Key, Place, Sofar}
+use Rattle.votes.proofs.Alike.{Alike, says-vote, says-alike, alike-vote, alike-self, alike-both, alike-turned, no-T}
 
 -- the word y of a group is like x, with the signers r
 pub record Resigned (x r y : ℕ) : Type 0 where
@@ -45,10 +41,10 @@ pub record Begun (i k r y : ℕ) : Type 0 where
 module _ (W ids : List ℕ) where
   -- ---- who signed, where an entry does not have p
 
-  pub set-keeps : (p : Stmt → Bool) (i seen : ℕ) → i < 512 → p (entry W ids i) ≡ false → IsSet seen (signs p (recordOf W ids i)) → IsSet seen (signs p (recordOf W ids (i + 1)))
+  pub set-keeps : (p : Stmt → Bool) (i seen : ℕ) → i < 512 → p (entry W ids i) ≡ false → IsSet seen (signs p (recordUpTo W ids i)) → IsSet seen (signs p (recordUpTo W ids (i + 1)))
   set-keeps p i seen l e s = set-next W ids p i seen (entry W ids i .origin) seen false l s (note-none seen (entry W ids i .origin) false refl) (sym e) refl
 
-  set-none : (p : Stmt → Bool) (i : ℕ) → i ≤ 512 → ((j : ℕ) → j < i → p (entry W ids j) ≡ false) → IsSet 0 (signs p (recordOf W ids i))
+  set-none : (p : Stmt → Bool) (i : ℕ) → i ≤ 512 → ((j : ℕ) → j < i → p (entry W ids j) ≡ false) → IsSet 0 (signs p (recordUpTo W ids i))
   set-none p zero l f = set-first W ids p
   set-none p (suc i) l f = rw add-one at (set-keeps p i 0 (omega arith) (f i (omega arith)) (set-none p i (omega arith) (λ j m. f j (omega arith))))
 
@@ -104,7 +100,7 @@ module _ (W ids : List ℕ) where
 
       -- a vote of group g
       pub sofar-old : (x k : ℕ) → g < n → k ≡ signersOf (getD G g 0) → Noted k true o r → Resigned (getD G g 0) r x → Sofar W ids (i + 1) K R (set G g x) n
-      unfolding slotAt
+      unfolding groupSlot
       sofar-old x k l was w y = record {
         fewer = omega (arith, so .fewer);
         room = length-set G g x ∙ so .room;
@@ -129,7 +125,7 @@ module _ (W ids : List ℕ) where
       }
         where
           here : T (alike (group G g) (entry W ids i))
-          here = yes-T (at .here l)
+          here = from-true (at .here l)
 
           word : getD (set G g x) g 0 ≡ x
           word = getD-set-same G g x 0 (omega (arith, so .room, so .fewer))
@@ -146,7 +142,7 @@ module _ (W ids : List ℕ) where
           tagged : (h : ℕ) → tagOf (getD (set G g x) h 0) ≡ tagOf (getD G h 0)
           tagged = part tagOf (y .tag)
 
-          signed : (h : ℕ) → h < n → Dec (h ≡ g) → IsSet (signersOf (getD (set G g x) h 0)) (signs (alike (group G h)) (recordOf W ids (i + 1)))
+          signed : (h : ℕ) → h < n → Dec (h ≡ g) → IsSet (signersOf (getD (set G g x) h 0)) (signs (alike (group G h)) (recordUpTo W ids (i + 1)))
           signed h m (yes q) = rw (q, word, y .signers)
               (set-next W ids (alike (group G g)) i (signersOf (getD G g 0)) o r true small (so .groups .signers g l) (subst (λ z. Noted z true o r) was w) (sym (at .here l)) by)
           signed h m (no d) = rw (getD-set-other G g h x 0 d)
@@ -159,9 +155,9 @@ module _ (W ids : List ℕ) where
           covered j v (no m) k = let q : i ≡ j = omega arith in (g, l, rw (placed g) (subst (λ z. T (alike (group G g) (entry W ids z))) q here))
 
       -- a vote of a new group
-      pub sofar-new : {K′ K″ R′ : List ℕ} (x z : ℕ) (b : Bool) → (g < n → ⊥) → b ≡ isVote (entry W ids i) → b ≡ true → Key W v → Keyed K 0 n (v .at) K′ → Keyed K′ 1 n (v .what) K″ → Noted 0 true o r
-          → Begun i (v .tag) r x → z ≡ slotBy (v .at) (v .what) (v .tag) → z < 256 → Linked R 0 z n R′ → Sofar W ids (i + 1) K″ R′ (set G n x) (n + 1)
-      unfolding slotAt
+      pub sofar-new : {K′ K″ R′ : List ℕ} (x z : ℕ) (b : Bool) → (g < n → ⊥) → b ≡ isVote (entry W ids i) → b ≡ true → Key W v → RowKeyed K 0 n (v .at) K′ → RowKeyed K′ 1 n (v .what) K″ → Noted 0 true o r
+          → Begun i (v .tag) r x → z ≡ slotBy (v .at) (v .what) (v .tag) → z < 256 → RowLinked R 0 z n R′ → Sofar W ids (i + 1) K″ R′ (set G n x) (n + 1)
+      unfolding groupSlot
       sofar-new {K′} {K″} {R′} x z b d e f key put put′ w y q c link = record {
         fewer = omega (arith, so .fewer);
         room = length-set G n x ∙ so .room;
@@ -187,7 +183,7 @@ module _ (W ids : List ℕ) where
       }
         where
           vote : T (isVote (entry W ids i))
-          vote = yes-T (sym e ∙ f)
+          vote = from-true (sym e ∙ f)
 
           self : T (alike (entry W ids i) (entry W ids i))
           self = says-alike (entry W ids i) (entry W ids i) .complete (alike-self (entry W ids i) (says-vote (entry W ids i) .sound vote))
@@ -231,8 +227,8 @@ module _ (W ids : List ℕ) where
           tagged h m (yes u) = rw (u, newG, y .place) (y .tag ∙ key .tag ∙ ap (λ s. stmtAt W s .kind) is)
           tagged h m (no u) = rw (oldG h u) (so .worded .tag h (omega arith))
 
-          signed-at : (h : ℕ) → h < n + 1 → Dec (h ≡ n) → keyAt K″ 0 h ≡ wordOf (group (set G n x) h .at)
-          signed-at h m (yes u) = rw (u, newG, y .place) (newKey ∙ key .at ∙ ap (λ s. wordOf (stmtAt W s .at)) is)
+          signed-at : (h : ℕ) → h < n + 1 → Dec (h ≡ n) → keyAt K″ 0 h ≡ keyOf (group (set G n x) h .at)
+          signed-at h m (yes u) = rw (u, newG, y .place) (newKey ∙ key .at ∙ ap (λ s. keyOf (stmtAt W s .at)) is)
           signed-at h m (no u) = rw (oldG h u) (oldKey h (omega arith) ∙ so .worded .at h (omega arith))
 
           meant : (h : ℕ) → h < n + 1 → Dec (h ≡ n) → keyAt K″ 1 h ≡ whatOf (group (set G n x) h)
@@ -245,7 +241,7 @@ module _ (W ids : List ℕ) where
               clash : Alike (entry W ids i) (entry W ids j) → (h : ℕ) × (h < n) × T (alike (group G h) (entry W ids j)) → ⊥
               clash al (h, l, t) = strange h l (alike-both (alike-turned (same t)) (alike-turned al))
 
-          signed : (h : ℕ) → h < n + 1 → Dec (h ≡ n) → IsSet (signersOf (getD (set G n x) h 0)) (signs (alike (group (set G n x) h)) (recordOf W ids (i + 1)))
+          signed : (h : ℕ) → h < n + 1 → Dec (h ≡ n) → IsSet (signersOf (getD (set G n x) h 0)) (signs (alike (group (set G n x) h)) (recordUpTo W ids (i + 1)))
           signed h m (yes u) = rw (u, newG, y .place, y .signers)
               (set-next W ids (alike (entry W ids i)) i 0 o r true small (set-none (alike (entry W ids i)) i (omega arith) unlike) w (sym (passes (says-alike (entry W ids i) (entry W ids i)) (same self))) by)
           signed h m (no u) = rw (oldG h u)

@@ -16,15 +16,16 @@ use Rattle.protocol.specs.History.{top, isHistory}
 use Rattle.protocol.specs.Statement.{Stmt, isKind, agreesView, agreesHistory}
 use Rattle.protocol.specs.Evidence.{signs, wished, signedByQuorum}
 use Rattle.views.specs.Sets.{IsSet}
-use Rattle.views.specs.View.{viewOf, quorumHas, ring}
+use Rattle.views.specs.View.{viewOf, quorumHas, ringOfWord}
 use Rattle.views.proofs.Views.{signed-by-set, same-yes, same-no, view-inj}
 use Rattle.pool.specs.Pool.{recordIn}
-use Rattle.tables.specs.Index.{keyAt, numberAt, SameRows, SameKeys, Empty, Added}
+use Rattle.tables.specs.Index.{keyAt, numberAt, SameRows, SameKeys, Empty, RowAdded}
 use Rattle.tables.proofs.Chains.{indexed-first, indexed-kept}
+use Rattle.protocol.proofs.Says.{from-true}
 use Rattle.votes.specs.Votes.{alike, entry, placeOf, tagOf, signersOf, voteAt, GroupsIn}
 use Rattle.votes.specs.Tables.{IsWord}
-use Rattle.votes.specs.Chosen.{choiceBy, agreementBy, isChoice, isAgreement, Picked, ChoiceRow, AgreementRow, Choices, Agreements}
-use Rattle.votes.proofs.Gathering.{yes-T, no-T}
+use Rattle.votes.specs.Chosen.{choiceBy, agreementBy, isChoice, isAgreement, Picked, GroupRow, GroupRows}
+use Rattle.votes.proofs.Alike.{no-T}
 
 -- ---- five tests in a row
 
@@ -53,9 +54,6 @@ unfolding isKind
 kind-not s k n e d = ne-eqb (s .kind) n (λ q. d (e ∙ q))
 
 -- a test of views in words
-
-pub test-of : (p : View → Bool) {u x : View} (b r : Bool) → b ≡ p u → b ≡ r → u ≡ x → p x ≡ r
-test-of p b r e f g = sym (ap p g) ∙ sym e ∙ f
 
 pub top-is : (r t : ℕ) (u v : View) → viewOf t ≡ u → viewOf r ≡ v → r ≡ t → not (sameView u v) ≡ false
 top-is r t u v e f g = ap not (same-yes u v (sym e ∙ ap viewOf (sym g) ∙ f))
@@ -86,21 +84,21 @@ signed-as X a t seen p s e = signed-by-set X t (alike a) seen _ s refl ∙ ap (s
 -- ---- the test of a group
 
 module _ (init : ℕ) (X : List Stmt) (s : Stmt) (seen : ℕ) (by : IsSet seen (signs (alike s) X)) where
-  pub choice-is : (wish : ℕ) (r : Bool) → viewOf wish ≡ wished (ring init) X → r ≡ choiceBy (viewOf wish) seen s → r ≡ isChoice (ring init) X s
+  pub choice-is : (wish : ℕ) (r : Bool) → viewOf wish ≡ wished (ringOfWord init) X → r ≡ choiceBy (viewOf wish) seen s → r ≡ isChoice (ringOfWord init) X s
   unfolding choiceBy isChoice
   choice-is wish r e f = f ∙ go (ℕ-discrete (s .kind) 3)
     where
-      go : Dec (s .kind ≡ 3) → choiceBy (viewOf wish) seen s ≡ isChoice (ring init) X s
+      go : Dec (s .kind ≡ 3) → choiceBy (viewOf wish) seen s ≡ isChoice (ringOfWord init) X s
       go (yes k) = ap₂ (λ w b. isKind 3 s && below 16 (s .at) (s .view) && hasMembers 16 (s .view) && within 16 (s .view) w && b) e
           (signed-as X s (s .at) seen (agreesView (s .at) (s .view)) by (λ x. alike-view s x k))
       go (no k) = rw (kind-not s (s .kind) 3 refl k)
 
-  pub agreement-is : (r : Bool) → r ≡ agreementBy (ring init) seen s → r ≡ isAgreement (ring init) X s
+  pub agreement-is : (r : Bool) → r ≡ agreementBy (ringOfWord init) seen s → r ≡ isAgreement (ringOfWord init) X s
   unfolding agreementBy isAgreement
   agreement-is r f = f ∙ go (ℕ-discrete (s .kind) 4)
     where
-      go : Dec (s .kind ≡ 4) → agreementBy (ring init) seen s ≡ isAgreement (ring init) X s
-      go (yes k) = ap (λ b. isKind 4 s && b && any (sameView (s .at)) (s .views) && not (sameView (s .at) (top (ring init) (s .views))) && isHistory (ring init) (s .views))
+      go : Dec (s .kind ≡ 4) → agreementBy (ringOfWord init) seen s ≡ isAgreement (ringOfWord init) X s
+      go (yes k) = ap (λ b. isKind 4 s && b && any (sameView (s .at)) (s .views) && not (sameView (s .at) (top (ringOfWord init) (s .views))) && isHistory (ringOfWord init) (s .views))
           (signed-as X s (s .at) seen (agreesHistory (s .at) (s .views)) by (λ x. alike-history s x k))
       go (no k) = rw (kind-not s (s .kind) 4 refl k)
 
@@ -110,14 +108,14 @@ module _ (W ids : List ℕ) (init : ℕ) (G : List ℕ) {n : ℕ} (groups : Grou
   pub tag-is : tagOf (getD G g 0) ≡ entry W ids f .kind
   tag-is = groups .tag g l ∙ ap (λ z. entry W ids z .kind) (sym at)
 
-  pub choice-of : (wish : ℕ) (r : Bool) → viewOf wish ≡ wished (ring init) (recordIn W ids) → r ≡ choiceBy (viewOf wish) (signersOf (getD G g 0)) (entry W ids f)
-      → r ≡ isChoice (ring init) (recordIn W ids) (voteAt W ids G g)
+  pub choice-of : (wish : ℕ) (r : Bool) → viewOf wish ≡ wished (ringOfWord init) (recordIn W ids) → r ≡ choiceBy (viewOf wish) (signersOf (getD G g 0)) (entry W ids f)
+      → r ≡ isChoice (ringOfWord init) (recordIn W ids) (voteAt W ids G g)
   choice-of wish r e q =
       choice-is init (recordIn W ids) (voteAt W ids G g) (signersOf (getD G g 0)) (groups .signers g l) wish r e (q ∙ ap (λ z. choiceBy (viewOf wish) (signersOf (getD G g 0)) (entry W ids z)) at)
 
-  pub agreement-of : (r : Bool) → r ≡ agreementBy (ring init) (signersOf (getD G g 0)) (entry W ids f) → r ≡ isAgreement (ring init) (recordIn W ids) (voteAt W ids G g)
+  pub agreement-of : (r : Bool) → r ≡ agreementBy (ringOfWord init) (signersOf (getD G g 0)) (entry W ids f) → r ≡ isAgreement (ringOfWord init) (recordIn W ids) (voteAt W ids G g)
   agreement-of r q =
-      agreement-is init (recordIn W ids) (voteAt W ids G g) (signersOf (getD G g 0)) (groups .signers g l) r (q ∙ ap (λ z. agreementBy (ring init) (signersOf (getD G g 0)) (entry W ids z)) at)
+      agreement-is init (recordIn W ids) (voteAt W ids G g) (signersOf (getD G g 0)) (groups .signers g l) r (q ∙ ap (λ z. agreementBy (ringOfWord init) (signersOf (getD G g 0)) (entry W ids z)) at)
 
 -- ---- one group more
 
@@ -145,7 +143,7 @@ module _ (P : ℕ → Bool) where
     where
       from : (c : ℕ) → Dec (c < m) → c ≤ m → (g : ℕ) × (g < n + 1) × T (P g) × Row′ c g
       from c (yes k) l = let (g, h, t, w) = p .sound c k in (g, omega arith, t, old c g k w)
-      from c (no k) l = let q : c ≡ m = omega arith in (n, omega arith, yes-T (sym e ∙ f), rw q new)
+      from c (no k) l = let q : c ≡ m = omega arith in (n, omega arith, from-true (sym e ∙ f), rw q new)
 
       at : (g : ℕ) → T (P g) → Dec (g < n) → g ≤ n → (c : ℕ) × (c < m + 1) × Row′ c g
       at g t (yes k) l = let (c, h, w) = p .complete g k t in (c, omega arith, old c g h w)
@@ -154,39 +152,36 @@ module _ (P : ℕ → Bool) where
 -- ---- the rows
 
 -- row m of table t was added, and row c is not it
-other-key : {K R K′ R′ : List ℕ} {t m w x c : ℕ} → Added K R t m w x K′ R′ → m < 512 → c < m → keyAt K′ t c ≡ keyAt K t c
+other-key : {K R K′ R′ : List ℕ} {t m w x c : ℕ} → RowAdded K R t m w x K′ R′ → m < 512 → c < m → keyAt K′ t c ≡ keyAt K t c
 other-key put l h = put .keys _ (omega arith) (λ d. omega arith)
 
-other-number : {K R K′ R′ : List ℕ} {t m w x c : ℕ} → Added K R t m w x K′ R′ → m < 512 → c < m → numberAt R′ t c ≡ numberAt R t c
+other-number : {K R K′ R′ : List ℕ} {t m w x c : ℕ} → RowAdded K R t m w x K′ R′ → m < 512 → c < m → numberAt R′ t c ≡ numberAt R t c
 other-number put l h = put .numbers _ (omega arith) (λ d. omega arith)
 
-module _ (W ids : List ℕ) (init : ℕ) (G : List ℕ) where
-  -- ---- choices
+row-keeps : {W ids G : List ℕ} {t : ℕ} {of : Stmt → View} {K R K′ R′ : List ℕ} {m w x : ℕ} → RowAdded K R t m w x K′ R′ → m < 512 → (c g : ℕ) → c < m → GroupRow W ids G t of K R c g → GroupRow W ids G t of K′ R′ c g
+row-keeps put l c g h r =
+    let e = other-key put l h in
+    record { view = rw e (r .view); word = rw e (r .word); statement = other-number put l h ∙ r .statement }
 
-  choice-keeps : {K R K′ R′ : List ℕ} {m w x : ℕ} → Added K R 0 m w x K′ R′ → m < 512 → (c g : ℕ) → c < m → ChoiceRow W ids init G K R c g → ChoiceRow W ids init G K′ R′ c g
-  choice-keeps put l c g h r =
-      let e = other-key put l h in
-      record { view = rw e (r .view); word = rw e (r .word); statement = other-number put l h ∙ r .statement }
+-- the first vote of group g stands at place p
+row-new : {W ids G : List ℕ} {t : ℕ} {of : Stmt → View} {K R K′ R′ : List ℕ} {m w x g p : ℕ} → RowAdded K R t m w x K′ R′ → p ≡ placeOf (getD G g 0) → viewOf w ≡ of (entry W ids p) → IsWord w → x ≡ getD ids p 0
+    → GroupRow W ids G t of K′ R′ m g
+row-new {W} {ids} {of = of} put at e h q = record { view = ap viewOf (put .key) ∙ e ∙ ap (λ z. of (entry W ids z)) at; word = rw (put .key) h; statement = put .number ∙ q ∙ ap (λ z. getD ids z 0) at }
 
-  choice-new : {K R K′ R′ : List ℕ} {m w x g : ℕ} → Added K R 0 m w x K′ R′ → viewOf w ≡ voteAt W ids G g .view → IsWord w → x ≡ getD ids (placeOf (getD G g 0)) 0 → ChoiceRow W ids init G K′ R′ m g
-  choice-new put e h q = record { view = ap viewOf (put .key) ∙ e; word = rw (put .key) h; statement = put .number ∙ q }
+module _ {W ids G : List ℕ} {t : ℕ} {of : Stmt → View} {test : Stmt → Bool} where
+  pub rows-first : {K R : List ℕ} → Empty R t → GroupRows W ids G t of test 0 K R 0
+  rows-first e = record { index = indexed-first e; picked = picked-first _ _ }
 
-  pub choices-first : {K R : List ℕ} → Empty R 0 → Choices W ids init G 0 K R 0
-  choices-first e = record { index = indexed-first e; picked = picked-first _ _ }
+  module _ {K R : List ℕ} {g m : ℕ} (r : Bool) (is : r ≡ test (voteAt W ids G g)) where
+    pub rows-skip : r ≡ false → GroupRows W ids G t of test g K R m → GroupRows W ids G t of test (g + 1) K R m
+    rows-skip f w = record { index = w .index; picked = picked-skip _ r is f (w .picked) }
 
-  module _ {K R : List ℕ} {g c : ℕ} (r : Bool) (is : r ≡ isChoice (ring init) (recordIn W ids) (voteAt W ids G g)) where
-    pub choices-skip : r ≡ false → Choices W ids init G g K R c → Choices W ids init G (g + 1) K R c
-    choices-skip f w = record { index = w .index; picked = picked-skip _ r is f (w .picked) }
+    pub rows-take : {K′ R′ : List ℕ} {p w x : ℕ} → r ≡ true → m < 512 → RowAdded K R t m w x K′ R′ → p ≡ placeOf (getD G g 0) → viewOf w ≡ of (entry W ids p) → IsWord w → x ≡ getD ids p 0
+        → GroupRows W ids G t of test g K R m → GroupRows W ids G t of test (g + 1) K′ R′ (m + 1)
+    rows-take f l put at e h q w = record { index = put .indexed (w .index); picked = picked-take _ r is f (row-keeps put l) (row-new put at e h q) (w .picked) }
 
-    pub choices-take : {K′ R′ : List ℕ} {p w x : ℕ} → r ≡ true → c < 512 → Added K R 0 c w x K′ R′ → p ≡ placeOf (getD G g 0) → viewOf w ≡ entry W ids p .view → IsWord w → x ≡ getD ids p 0
-        → Choices W ids init G g K R c → Choices W ids init G (g + 1) K′ R′ (c + 1)
-    choices-take f l put at e h q w = record {
-      index = put .indexed (w .index);
-      picked = picked-take _ r is f (choice-keeps put l) (choice-new put (e ∙ ap (λ z. entry W ids z .view) at) h (q ∙ ap (λ z. getD ids z 0) at)) (w .picked);
-    }
-
-  pub choices-kept : {K R K′ R′ : List ℕ} {n c : ℕ} → SameKeys K K′ 0 → SameRows R R′ 0 → Choices W ids init G n K R c → Choices W ids init G n K′ R′ c
-  choices-kept {K} {R} {K′} {R′} {n} {c} keys rows w = record {
+  pub rows-kept : {K R K′ R′ : List ℕ} {n m : ℕ} → SameKeys K K′ t → SameRows R R′ t → GroupRows W ids G t of test n K R m → GroupRows W ids G t of test n K′ R′ m
+  rows-kept {K} {R} {K′} {R′} {n} {m} keys rows w = record {
     index = indexed-kept keys rows (w .index);
     picked = record {
       fewer = w .picked .fewer;
@@ -195,40 +190,12 @@ module _ (W ids : List ℕ) (init : ℕ) (G : List ℕ) where
     };
   }
     where
-      row : (i : ℕ) → i < c → (g : ℕ) → ChoiceRow W ids init G K R i g → ChoiceRow W ids init G K′ R′ i g
+      row : (i : ℕ) → i < m → (g : ℕ) → GroupRow W ids G t of K R i g → GroupRow W ids G t of K′ R′ i g
       row i l g r =
           let h : i < 512 = omega (arith, w .index .few) in
           let e = keys .key i h in
           record { view = rw e (r .view); word = rw e (r .word); statement = rows .number i h ∙ r .statement }
 
-  -- ---- agreements
-
-  agreement-keeps : {K R K′ R′ : List ℕ} {m w x : ℕ} → Added K R 1 m w x K′ R′ → m < 512 → (a g : ℕ) → a < m → AgreementRow W ids init G K R a g → AgreementRow W ids init G K′ R′ a g
-  agreement-keeps put l a g h r =
-      let e = other-key put l h in
-      record { top = rw e (r .top); word = rw e (r .word); statement = other-number put l h ∙ r .statement }
-
-  agreement-new : {K R K′ R′ : List ℕ} {m w x g : ℕ} → Added K R 1 m w x K′ R′ → viewOf w ≡ top (ring init) (voteAt W ids G g .views) → IsWord w → x ≡ getD ids (placeOf (getD G g 0)) 0 → AgreementRow W ids init G K′ R′ m g
-  agreement-new put e h q = record { top = ap viewOf (put .key) ∙ e; word = rw (put .key) h; statement = put .number ∙ q }
-
-  pub agreements-first : {K R : List ℕ} → Empty R 1 → Agreements W ids init G 0 K R 0
-  agreements-first e = record { index = indexed-first e; picked = picked-first _ _ }
-
-  module _ {K R : List ℕ} {g a : ℕ} (r : Bool) (is : r ≡ isAgreement (ring init) (recordIn W ids) (voteAt W ids G g)) where
-    pub agreements-skip : r ≡ false → Agreements W ids init G g K R a → Agreements W ids init G (g + 1) K R a
-    agreements-skip f w = record { index = w .index; picked = picked-skip _ r is f (w .picked) }
-
-    pub agreements-take : {K′ R′ : List ℕ} {p w x : ℕ} → r ≡ true → a < 512 → Added K R 1 a w x K′ R′ → p ≡ placeOf (getD G g 0) → viewOf w ≡ top (ring init) (entry W ids p .views) → IsWord w → x ≡ getD ids p 0
-        → Agreements W ids init G g K R a → Agreements W ids init G (g + 1) K′ R′ (a + 1)
-    agreements-take f l put at e h q w = record {
-      index = put .indexed (w .index);
-      picked = picked-take _ r is f (agreement-keeps put l) (agreement-new put (e ∙ ap (λ z. top (ring init) (entry W ids z .views)) at) h (q ∙ ap (λ z. getD ids z 0) at)) (w .picked);
-    }
-
   -- all groups
-
-  pub choices-all : {K R : List ℕ} {g n c : ℕ} → g ≡ n → Choices W ids init G g K R c → Choices W ids init G n K R c
-  choices-all {K} {R} {g} {n} {c} e w = subst (λ m. Choices W ids init G m K R c) e w
-
-  pub agreements-all : {K R : List ℕ} {g n a : ℕ} → g ≡ n → Agreements W ids init G g K R a → Agreements W ids init G n K R a
-  agreements-all {K} {R} {g} {n} {a} e w = subst (λ m. Agreements W ids init G m K R a) e w
+  pub rows-all : {K R : List ℕ} {g n m : ℕ} → g ≡ n → GroupRows W ids G t of test g K R m → GroupRows W ids G t of test n K R m
+  rows-all {K} {R} {m = m} e w = subst (λ k. GroupRows W ids G t of test k K R m) e w

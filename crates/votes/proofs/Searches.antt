@@ -1,26 +1,26 @@
 -- Laws of the search for the group of a vote.
 -- Assumes nothing.
-use mathlib.Core.Path.{_≡_, refl, sym, ap, _∙_}
-use mathlib.Core.Bool.{Bool, true, false, _&&_, false≢true}
+use mathlib.Core.Path.{_≡_, sym, ap, subst, _∙_}
+use mathlib.Core.Bool.{Bool, true, false}
 use mathlib.Core.List.{List}
 use Prim.Native.Nat.{ℕ, _-_, _≤_, _<_}
 use native.Mathlib.Decide.{ℕ-discrete, decLt}
 use native.Mathlib.Omega.{arith}
-use lib.Dec.{eqb}
+use lib.Dec.{T, eqb, eqb→eq}
 use lib.ListN.{getD}
-use borrow.Author.Tests.{eqb-true, eq-eqb, ne-eqb}
+use borrow.Author.Tests.{eq-eqb, ne-eqb}
+use Rattle.protocol.proofs.Rules.{and-first, and-second}
 use Rattle.pool.specs.Pool.{stmtAt}
-use Rattle.tables.specs.Index.{newestAt, olderAt, keyAt, Newest, Chained}
-use Rattle.tables.proofs.Searches.{Walked}
+use Rattle.tables.specs.Index.{newestAt, olderAt, keyAt, Newest, Chained, LatestOf}
 use Rattle.votes.specs.declared.keys.Vote.{Vote}
 use Rattle.votes.specs.Votes.{alike, entry, placeOf, tagOf, voteAt}
-use Rattle.votes.specs.Keys.{sameNames, slotBy, slotAt, Key, Worded, hasWords, Leads, LatestWith, Place}
+use Rattle.votes.specs.Keys.{sameNames, slotBy, groupSlot, Key, Worded, hasWords, Leads, Matches, Place}
 use Rattle.votes.proofs.Alike.{narrow, Words, other-what, other-at, other-tag, other-names, other-slot, same-words}
 
 -- the groups from x on are not like the vote v, and x is of its slot
 pub record Searched (W ids K G : List ℕ) (n : ℕ) (v : Vote) (x : ℕ) : Type 0 where
   pub most : x ≤ n
-  pub here : 0 < x → slotAt K G (x - 1) ≡ slotBy (v .at) (v .what) (v .tag)
+  pub here : 0 < x → groupSlot K G (x - 1) ≡ slotBy (v .at) (v .what) (v .tag)
   pub none : (h : ℕ) → x ≤ h → h < n → alike (voteAt W ids G h) (stmtAt W (v .number)) ≡ false
 
 -- ---- the words of a group and of a vote
@@ -34,17 +34,14 @@ words-has : (K G : List ℕ) (v : Vote) (g : ℕ) → keyAt K 1 g ≡ v .what �
 unfolding hasWords
 words-has K G v g a b c = rw (eq-eqb _ _ a, eq-eqb _ _ b, eq-eqb _ _ c)
 
-all-three : (a b c : Bool) → (a && b && c) ≡ true → (a ≡ true) × (b ≡ true) × (c ≡ true)
-all-three true true true e = (refl, refl, refl)
-all-three true true false e = absurd (false≢true e)
-all-three true false c e = absurd (false≢true e)
-all-three false b c e = absurd (false≢true e)
-
 words-are : (K G : List ℕ) (v : Vote) (g : ℕ) → hasWords K G v g ≡ true → SameWords K G v g
 unfolding hasWords
 words-are K G v g h =
-    let w = all-three (eqb (keyAt K 1 g) (v .what)) (eqb (keyAt K 0 g) (v .at)) (eqb (tagOf (getD G g 0)) (v .tag)) h in
-    record { what = eqb-true _ _ (w .0); at = eqb-true _ _ (w .1); tag = eqb-true _ _ (w .2) }
+    let t : T (hasWords K G v g) = subst T (sym h) tt in
+    let what : T (eqb (keyAt K 1 g) (v .what)) = search (and-first, and-second) in
+    let at : T (eqb (keyAt K 0 g) (v .at)) = search (and-first, and-second) in
+    let tag : T (eqb (tagOf (getD G g 0)) (v .tag)) = search (and-first, and-second) in
+    record { what = eqb→eq _ _ what; at = eqb→eq _ _ at; tag = eqb→eq _ _ tag }
 
 -- what `has_words` answers
 module _ (K G : List ℕ) (v : Vote) (g : ℕ) where
@@ -61,20 +58,9 @@ module _ (K G : List ℕ) (v : Vote) (g : ℕ) where
   tag-is {x} {y} e a f b h = rw (sym e, sym f, sym h, eq-eqb x (v .what) a, eq-eqb y (v .at) b)
 
 -- groups with the words of v are of its slot
-abbrev pub With : List ℕ → List ℕ → Vote → ℕ → Type 0
-With K G v g = hasWords K G v g ≡ true
-
-pub with-slot : (K G : List ℕ) (v : Vote) (g : ℕ) → With K G v g → slotAt K G g ≡ slotBy (v .at) (v .what) (v .tag)
-unfolding slotAt
+pub with-slot : (K G : List ℕ) (v : Vote) (g : ℕ) → Matches K G v g → groupSlot K G g ≡ slotBy (v .at) (v .what) (v .tag)
+unfolding groupSlot
 with-slot K G v g h = let s = words-are K G v g h in rw (s .at, s .what, s .tag)
-
--- the walk's end
-
-pub with-found : {K G : List ℕ} {v : Vote} {s from x : ℕ} → Walked (slotAt K G) s (With K G v) from x → hasWords K G v (x - 1) ≡ true → LatestWith K G v from x
-with-found f e = record { most = f .most; here = λ p. e; none = f .none }
-
-pub with-none : {K G : List ℕ} {v : Vote} {s from x : ℕ} → Walked (slotAt K G) s (With K G v) from x → x ≤ 0 → LatestWith K G v from 0
-with-none f l = record { most = omega arith; here = λ p. absurd (omega arith); none = λ i a b. f .none i (omega arith) b }
 
 module _ {W ids K G : List ℕ} {n : ℕ} {v : Vote} (worded : Worded W ids K G n) (key : Key W v) where
   words : (g : ℕ) → g < n → Words (voteAt W ids G g) (stmtAt W (v .number)) (keyAt K 0 g) (v .at) (keyAt K 1 g) (v .what) (tagOf (getD G g 0)) (v .tag)
@@ -106,12 +92,12 @@ module _ {W ids K G : List ℕ} {n : ℕ} {v : Vote} (worded : Worded W ids K G 
       s : SameWords K G v g
       s = words-are K G v g h
 
-  apart : (g : ℕ) → g < n → (slotAt K G g ≡ slotBy (v .at) (v .what) (v .tag) → ⊥) → alike (voteAt W ids G g) (stmtAt W (v .number)) ≡ false
-  unfolding slotAt
+  apart : (g : ℕ) → g < n → (groupSlot K G g ≡ slotBy (v .at) (v .what) (v .tag) → ⊥) → alike (voteAt W ids G g) (stmtAt W (v .number)) ≡ false
+  unfolding groupSlot
   apart g l d = other-slot (voteAt W ids G g) (stmtAt W (v .number)) (words g l) d
 
   -- no group that a walk passed is like v
-  pub searched-walk : {from r : ℕ} → Searched W ids K G n v from → LatestWith K G v from r → Searched W ids K G n v r
+  pub searched-walk : {from r : ℕ} → Searched W ids K G n v from → LatestOf (Matches K G v) from r → Searched W ids K G n v r
   searched-walk {from} {r} f w = record {
     most = omega (arith, f .most, w .most);
     here = λ p. with-slot K G v (r - 1) (w .here p);
@@ -122,15 +108,15 @@ module _ {W ids K G : List ℕ} {n : ℕ} {v : Vote} (worded : Worded W ids K G 
       go h a b (yes m) = other-words h b (w .none h a m)
       go h a b (no m) = f .none h (omega arith) b
 
-  module _ {R : List ℕ} (ch : Chained (slotAt K G) R 0 n) where
+  module _ {R : List ℕ} (ch : Chained (groupSlot K G) R 0 n) where
     pub searched-first : {z x : ℕ} → z ≡ slotBy (v .at) (v .what) (v .tag) → z < 256 → x ≡ newestAt R 0 z → Searched W ids K G n v x
     searched-first {z} {x} e l q = record {
       most = omega (arith, w .most);
-      here = λ p. ap (λ y. slotAt K G (y - 1)) q ∙ w .here (omega arith) ∙ e;
+      here = λ p. ap (λ y. groupSlot K G (y - 1)) q ∙ w .here (omega arith) ∙ e;
       none = λ h p r. apart h r (λ f. omega (arith, w .all h r (f ∙ sym e)));
     }
       where
-        w : Newest (slotAt K G) n z (newestAt R 0 z)
+        w : Newest (groupSlot K G) n z (newestAt R 0 z)
         w = ch .slots z l
 
     pub leads : {x : ℕ} → n ≤ 512 → Searched W ids K G n v x → Leads K R G v x
@@ -142,11 +128,11 @@ module _ {W ids K G : List ℕ} {n : ℕ} {v : Vote} (worded : Worded W ids K G 
     pub searched-next : {x y : ℕ} → Searched W ids K G n v x → 0 < x → y ≡ olderAt R 0 (x - 1) → alike (voteAt W ids G (x - 1)) (stmtAt W (v .number)) ≡ false → Searched W ids K G n v y
     searched-next {x} {y} f p q e = record {
       most = omega (arith, w .most, f .most);
-      here = λ r. ap (λ z. slotAt K G (z - 1)) q ∙ w .here (omega arith) ∙ f .here p;
+      here = λ r. ap (λ z. groupSlot K G (z - 1)) q ∙ w .here (omega arith) ∙ f .here p;
       none = λ h a b. go h a b (ℕ-discrete h (x - 1)) (decLt h (x - 1));
     }
       where
-        w : Newest (slotAt K G) (x - 1) (slotAt K G (x - 1)) (olderAt R 0 (x - 1))
+        w : Newest (groupSlot K G) (x - 1) (groupSlot K G (x - 1)) (olderAt R 0 (x - 1))
         w = ch .links (x - 1) (omega (arith, f .most))
 
         go : (h : ℕ) → y ≤ h → h < n → Dec (h ≡ x - 1) → Dec (h < x - 1) → alike (voteAt W ids G h) (stmtAt W (v .number)) ≡ false

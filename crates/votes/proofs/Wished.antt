@@ -13,8 +13,9 @@ use Rattle.protocol.specs.View.{View}
 use Rattle.protocol.specs.Statement.{Stmt, isKind}
 use Rattle.protocol.specs.Evidence.{signs, joinedBy, leftBy, wished}
 use Rattle.protocol.proofs.Bits.{bit-and, bit-or}
-use Rattle.views.specs.Sets.{IsSet, Noted, Joined}
-use Rattle.views.specs.View.{viewOf, viewIn, ring}
+use Rattle.views.specs.Steps.{Noted, Joined}
+use Rattle.views.specs.Sets.{IsSet}
+use Rattle.views.specs.View.{viewOf, viewIn, ringOfWord}
 use Rattle.views.proofs.Sets.{set-is, note-none, bit-low}
 use Rattle.views.proofs.Views.{pair, view-in}
 
@@ -38,23 +39,23 @@ module _ (init : ℕ) (X : List Stmt) where
     second-bit : (k : ℕ) → k < 16 → bit q k ≡ bit (viewOf init .left) k
     second-bit k h = ap (λ x. bit x k) (w .second .0 ∙ ap (λ u. u .left) (w .view ∙ view-in init)) ∙ bit-low (viewOf init .left) k h
 
-    joined-is : IsSet j (joinedBy (ring init) X)
+    joined-is : IsSet j (joinedBy (ringOfWord init) X)
     unfolding joinedBy
     joined-is = record {
       small = w .joined .small (w .first .1) (w .joins .small);
       bits = λ k h. ap (λ x. bit x k) (w .joined .is) ∙ bit-or k p a ∙ ap₂ _||_ (first-bit k h) (w .joins .bits k h);
     }
 
-    left-is : IsSet l (leftBy (ring init) X)
+    left-is : IsSet l (leftBy (ringOfWord init) X)
     unfolding leftBy
     left-is = record {
       small = w .left .small (w .second .1) (and-lt 16 j b (joined-is .small) (w .leaves .small));
       bits = λ k h. ap (λ x. bit x k) (w .left .is) ∙ bit-or k q (bitAnd j b) ∙ ap₂ _||_ (second-bit k h) (bit-and k j b ∙ ap₂ _&&_ (joined-is .bits k h) (w .leaves .bits k h));
     }
 
-    pub wish-is : (r : ℕ) → viewOf r ≡ pair (j % 65536) (l % 65536) → viewOf r ≡ wished (ring init) X
+    pub wish-is : (r : ℕ) → viewOf r ≡ pair (j % 65536) (l % 65536) → viewOf r ≡ wished (ringOfWord init) X
     unfolding wished
-    wish-is r e = e ∙ (λ i. record { joined = (low j (joined-is .small) ∙ set-is j (joinedBy (ring init) X) joined-is) i; left = (low l (left-is .small) ∙ set-is l (leftBy (ring init) X) left-is) i })
+    wish-is r e = e ∙ (λ i. record { joined = (low j (joined-is .small) ∙ set-is j (joinedBy (ringOfWord init) X) joined-is) i; left = (low l (left-is .small) ∙ set-is l (leftBy (ringOfWord init) X) left-is) i })
       where
         low : (x : ℕ) → x < 65536 → x % 65536 ≡ x
         low x h = omega arith

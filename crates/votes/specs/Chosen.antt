@@ -12,7 +12,7 @@ use Rattle.protocol.specs.View.{View, Ring, sameView, hasMembers, within, below
 use Rattle.protocol.specs.History.{top, isHistory}
 use Rattle.protocol.specs.Statement.{Stmt, isKind, agreesView, agreesHistory}
 use Rattle.protocol.specs.Evidence.{wished, signedByQuorum}
-use Rattle.views.specs.View.{viewOf, quorumHas, ring}
+use Rattle.views.specs.View.{viewOf, quorumHas, ringOfWord}
 use Rattle.pool.specs.Pool.{recordIn}
 use Rattle.tables.specs.Index.{numberAt, keyAt, Indexed}
 use Rattle.votes.specs.Votes.{placeOf, voteAt}
@@ -42,25 +42,22 @@ pub record Picked (P : ℕ → Bool) (Row : ℕ → ℕ → Type 0) (n m : ℕ) 
   pub sound : (c : ℕ) → c < m → (g : ℕ) × (g < n) × T (P g) × Row c g
   pub complete : (g : ℕ) → g < n → T (P g) → (c : ℕ) × (c < m) × Row c g
 
-module _ (W ids : List ℕ) (init : ℕ) (G : List ℕ) where
-  -- Row c is the choice of group g.
-  pub record ChoiceRow (K R : List ℕ) (c g : ℕ) : Type 0 where
-    pub view : viewOf (keyAt K 0 c) ≡ voteAt W ids G g .view
-    pub word : IsWord (keyAt K 0 c)
-    pub statement : numberAt R 0 c ≡ getD ids (placeOf (getD G g 0)) 0
+module _ (W ids G : List ℕ) (t : ℕ) (of : Stmt → View) where
+  -- Row c of table t is that of group g: its key is the word of the view `of` the group's votes.
+  pub record GroupRow (K R : List ℕ) (c g : ℕ) : Type 0 where
+    pub view : viewOf (keyAt K t c) ≡ of (voteAt W ids G g)
+    pub word : IsWord (keyAt K t c)
+    pub statement : numberAt R t c ≡ getD ids (placeOf (getD G g 0)) 0
 
-  -- Row a is the agreement of group g.
-  pub record AgreementRow (K R : List ℕ) (a g : ℕ) : Type 0 where
-    pub top : viewOf (keyAt K 1 a) ≡ top (ring init) (voteAt W ids G g .views)
-    pub word : IsWord (keyAt K 1 a)
-    pub statement : numberAt R 1 a ≡ getD ids (placeOf (getD G g 0)) 0
+  -- Those of the groups below n whose votes have `test` are the m rows of table t.
+  pub record GroupRows (test : Stmt → Bool) (n : ℕ) (K R : List ℕ) (m : ℕ) : Type 0 where
+    pub index : Indexed K R t m
+    pub picked : Picked (λ g. test (voteAt W ids G g)) (GroupRow K R) n m
 
-  -- The choices of the groups below n are the nc rows of the first table; the agreements are the na rows of the second.
+-- The choices are in the first table, by the views that they are for; the agreements in the second, by the tops of their histories.
 
-  pub record Choices (n : ℕ) (K R : List ℕ) (nc : ℕ) : Type 0 where
-    pub index : Indexed K R 0 nc
-    pub picked : Picked (λ g. isChoice (ring init) (recordIn W ids) (voteAt W ids G g)) (ChoiceRow K R) n nc
+abbrev pub Choices : List ℕ → List ℕ → ℕ → List ℕ → ℕ → List ℕ → List ℕ → ℕ → Type 0
+Choices W ids init G n K R choiceCount = GroupRows W ids G 0 (λ s. s .view) (isChoice (ringOfWord init) (recordIn W ids)) n K R choiceCount
 
-  pub record Agreements (n : ℕ) (K R : List ℕ) (na : ℕ) : Type 0 where
-    pub index : Indexed K R 1 na
-    pub picked : Picked (λ g. isAgreement (ring init) (recordIn W ids) (voteAt W ids G g)) (AgreementRow K R) n na
+abbrev pub Agreements : List ℕ → List ℕ → ℕ → List ℕ → ℕ → List ℕ → List ℕ → ℕ → Type 0
+Agreements W ids init G n K R agreementCount = GroupRows W ids G 1 (λ s. top (ringOfWord init) (s .views)) (isAgreement (ringOfWord init) (recordIn W ids)) n K R agreementCount

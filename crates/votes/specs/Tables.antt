@@ -14,7 +14,7 @@ use Rattle.protocol.specs.Statement.{Stmt}
 use Rattle.protocol.specs.Evidence.{isCandidate, isSealed}
 use Rattle.protocol.specs.Grounds.{isTop}
 use Rattle.views.specs.Table.{table}
-use Rattle.views.specs.View.{viewOf, viewIn, ring}
+use Rattle.views.specs.View.{viewOf, viewIn, ringOfWord}
 use Rattle.pool.specs.Pool.{stmtAt}
 use Rattle.tables.specs.Index.{keyAt, numberAt, Indexed}
 
@@ -37,11 +37,11 @@ agreementAt W R a = stmtAt W (numberAt R 1 a)
 module _ (W : List ℕ) (X : List Stmt) (init : ℕ) (K R : List ℕ) where
   -- Choice c makes v a candidate.
   unfoldable pub gives : ℕ → ℕ → Bool
-  gives v c = eqb (keyAt K 0 c) v && isTop (ring init) X (choiceAt W R c .at)
+  gives v c = eqb (keyAt K 0 c) v && isTop (ringOfWord init) X (choiceAt W R c .at)
 
   -- Agreement a seals its history.
   unfoldable pub sealsAt : ℕ → Bool
-  sealsAt a = isTop (ring init) X (agreementAt W R a .at) && all (isCandidate (ring init) X) (agreementAt W R a .views)
+  sealsAt a = isTop (ringOfWord init) X (agreementAt W R a .at) && all (isCandidate (ringOfWord init) X) (agreementAt W R a .views)
 
   -- Agreement a seals a history with the top t; it seals H.
 
@@ -52,18 +52,18 @@ module _ (W : List ℕ) (X : List Stmt) (init : ℕ) (K R : List ℕ) where
   sealsAs H a = sameViews (agreementAt W R a .views) H && sealsAt a
 
   -- The tables are right, and rise.
-  pub record Tables (nc na : ℕ) : Type 0 where
-    pub chosen : Indexed K R 0 nc
-    pub agreed : Indexed K R 1 na
-    pub candidates : (v : ℕ) → IsWord v → isCandidate (ring init) X (viewOf v) ≡ (eqb v init || any (gives v) (upTo nc))
-    pub tops : (t : ℕ) → IsWord t → isTop (ring init) X (viewOf t) ≡ (eqb t init || any (ends t) (upTo na))
-    pub histories : (H : List View) → isSealed (ring init) X H ≡ (sameViews H (viewOf init ∷ []) || any (sealsAs H) (upTo na))
-    pub narrow : (c : ℕ) → c < nc → viewIn (keyAt K 0 c) ≡ viewOf (keyAt K 0 c)
-    pub rises : (c : ℕ) → c < nc → size 16 (choiceAt W R c .at) < size 16 (viewOf (keyAt K 0 c))
-    pub climbs : (a : ℕ) → a < na → size 16 (agreementAt W R a .at) < size 16 (viewOf (keyAt K 1 a))
-    pub within : (a : ℕ) → a < na → (v : View) → v ∈ agreementAt W R a .views → size 16 v ≤ size 16 (viewOf (keyAt K 1 a))
+  pub record Tables (choiceCount agreementCount : ℕ) : Type 0 where
+    pub chosen : Indexed K R 0 choiceCount
+    pub agreed : Indexed K R 1 agreementCount
+    pub candidates : (v : ℕ) → IsWord v → isCandidate (ringOfWord init) X (viewOf v) ≡ (eqb v init || any (gives v) (upTo choiceCount))
+    pub tops : (t : ℕ) → IsWord t → isTop (ringOfWord init) X (viewOf t) ≡ (eqb t init || any (ends t) (upTo agreementCount))
+    pub histories : (H : List View) → isSealed (ringOfWord init) X H ≡ (sameViews H (viewOf init ∷ []) || any (sealsAs H) (upTo agreementCount))
+    pub narrow : (c : ℕ) → c < choiceCount → viewIn (keyAt K 0 c) ≡ viewOf (keyAt K 0 c)
+    pub rises : (c : ℕ) → c < choiceCount → size 16 (choiceAt W R c .at) < size 16 (viewOf (keyAt K 0 c))
+    pub climbs : (a : ℕ) → a < agreementCount → size 16 (agreementAt W R a .at) < size 16 (viewOf (keyAt K 1 a))
+    pub within : (a : ℕ) → a < agreementCount → (v : View) → v ∈ agreementAt W R a .views → size 16 v ≤ size 16 (viewOf (keyAt K 1 a))
 
   -- All verdicts, in one memory: place c has 1 just where the view of choice c is a candidate, place 512 + a just where agreement a seals its history.
-  pub record Verdicts (nc na : ℕ) (M : List ℕ) : Type 0 where
-    pub candidate : (c : ℕ) → c < nc → eqb (getD M c 0) 1 ≡ isCandidate (ring init) X (viewOf (keyAt K 0 c))
-    pub sealed : (a : ℕ) → a < na → eqb (getD M (512 + a) 0) 1 ≡ sealsAt a
+  pub record Verdicts (choiceCount agreementCount : ℕ) (M : List ℕ) : Type 0 where
+    pub candidate : (c : ℕ) → c < choiceCount → eqb (getD M c 0) 1 ≡ isCandidate (ringOfWord init) X (viewOf (keyAt K 0 c))
+    pub sealed : (a : ℕ) → a < agreementCount → eqb (getD M (512 + a) 0) 1 ≡ sealsAt a

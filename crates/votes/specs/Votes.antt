@@ -9,8 +9,8 @@ use lib.ListN.{getD}
 use Rattle.protocol.specs.Statement.{Stmt, isKind, agreesView, agreesHistory, acks, stores}
 use Rattle.protocol.specs.Evidence.{signs, wished}
 use Rattle.views.specs.Sets.{IsSet}
-use Rattle.views.specs.View.{viewOf, ring}
-use Rattle.pool.specs.Pool.{stmtAt, recordOf, recordIn}
+use Rattle.views.specs.View.{viewOf, ringOfWord}
+use Rattle.pool.specs.Pool.{stmtAt, recordUpTo, recordIn}
 use Rattle.tables.specs.Index.{Empty}
 use Rattle.votes.specs.declared.Gathered.{Gathered}
 
@@ -49,7 +49,7 @@ pub record Groups (W ids : List ℕ) (len : ℕ) (G : List ℕ) (n : ℕ) : Type
   pub place : (g : ℕ) → g < n → placeOf (getD G g 0) < min len 512
   pub vote : (g : ℕ) → g < n → T (isVote (voteAt W ids G g))
   pub tag : (g : ℕ) → g < n → tagOf (getD G g 0) ≡ voteAt W ids G g .kind
-  pub signers : (g : ℕ) → g < n → IsSet (signersOf (getD G g 0)) (signs (alike (voteAt W ids G g)) (recordOf W ids len))
+  pub signers : (g : ℕ) → g < n → IsSet (signersOf (getD G g 0)) (signs (alike (voteAt W ids G g)) (recordUpTo W ids len))
   pub covers : (i : ℕ) → i < min len 512 → T (isVote (entry W ids i)) → (g : ℕ) × (g < n) × T (alike (voteAt W ids G g) (entry W ids i))
 
 -- The votes of a record in memory are in the n groups of G.
@@ -57,7 +57,7 @@ abbrev pub GroupsIn : List ℕ → List ℕ → List ℕ → ℕ → Type 0
 GroupsIn W ids G n = Groups W ids (getD ids 512 0) G n
 
 -- What gathering leaves: the groups, the view that the record wishes, and still no row in the second of the tables R.
-pub record Sifted (W ids : List ℕ) (init : ℕ) (G R : List ℕ) (r : Gathered) : Type 0 where
+pub record GatheredOf (W ids : List ℕ) (init : ℕ) (G R : List ℕ) (r : Gathered) : Type 0 where
   pub groups : GroupsIn W ids G (r .groups)
-  pub wished : viewOf (r .wished) ≡ wished (ring init) (recordIn W ids)
+  pub wished : viewOf (r .wished) ≡ wished (ringOfWord init) (recordIn W ids)
   pub empty : Empty R 1

@@ -1,12 +1,15 @@
 // What quorums chose and agreed to.
 ghost use mathlib.Core.Path.{_≡_};
-ghost use Rattle.views.specs.View.{viewOf, ring};
+ghost use Rattle.views.specs.View.{viewOf, ringOfWord};
 ghost use Rattle.pool.specs.Pool.{stmtAt, recordIn};
 ghost use Rattle.tables.specs.Index.{SameRows, SameKeys};
-ghost use Rattle.votes.specs.Votes.{tagOf, signersOf, Sifted};
+ghost use Rattle.votes.specs.Votes.{tagOf, signersOf, GatheredOf};
 ghost use Rattle.votes.specs.Tables.{Tables};
 ghost use Rattle.votes.specs.Chosen.{choiceBy, agreementBy, Choices, Agreements};
+use crate::AGREEMENTS;
+use crate::CHOICES;
 use crate::Counts;
+use crate::GROUPS;
 use crate::Gathered;
 use crate::group;
 use pool::POOL_WORDS;
@@ -39,7 +42,7 @@ fn is_choice(words: &[u64; POOL_WORDS], s: u16, x: u64, wish: u64) -> bool
 // Whether the group x, whose first vote is statement s, is an agreement.
 fn is_agreement(words: &[u64; POOL_WORDS], s: u16, x: u64, init: u64) -> bool
     requires { ⌜ tagOf x ≡ stmtAt (now words) s .kind ⌝ }
-    ensures { λ r. ⌜ r ≡ agreementBy (ring init) (signersOf x) (stmtAt (now (words .entry)) s) ⌝ }
+    ensures { λ r. ⌜ r ≡ agreementBy (ringOfWord init) (signersOf x) (stmtAt (now (words .entry)) s) ⌝ }
 {
     if group::tag_of(x) != 4 {
         return false;
@@ -63,14 +66,14 @@ fn choices(
     ids: &[u16; RECORD],
     init: u64,
     found: Gathered,
-    groups: &[u64; 512],
+    groups: &[u64; GROUPS],
     keys: &mut [u64; KEYS],
     rows: &mut [u16; ROWS],
 ) -> usize
-    requires { ⌜ Sifted (now words) (now ids) init (now groups) (now rows) found ⌝ }
+    requires { ⌜ GatheredOf (now words) (now ids) init (now groups) (now rows) found ⌝ }
     ensures { λ r. ⌜ Choices (now (words .entry)) (now (ids .entry)) init (now (groups .entry)) (found .groups) (now (keys .exit)) (now (rows .exit)) r × SameRows (now (rows .entry)) (now (rows .exit)) 1 ⌝ }
 {
-    tables::clear(rows, 0);
+    tables::clear(rows, CHOICES);
     let n = found.groups;
     let mut c = 0usize;
     let mut g = 0usize;
@@ -82,7 +85,7 @@ fn choices(
             g += 1;
             continue;
         }
-        tables::add(keys, rows, 0, c, pool::view(words, s), s);
+        tables::add(keys, rows, CHOICES, c, pool::view(words, s), s);
         c += 1;
         g += 1;
     }
@@ -95,11 +98,11 @@ fn agreements(
     ids: &[u16; RECORD],
     init: u64,
     found: Gathered,
-    groups: &[u64; 512],
+    groups: &[u64; GROUPS],
     keys: &mut [u64; KEYS],
     rows: &mut [u16; ROWS],
 ) -> usize
-    requires { ⌜ Sifted (now words) (now ids) init (now groups) (now rows) found ⌝ }
+    requires { ⌜ GatheredOf (now words) (now ids) init (now groups) (now rows) found ⌝ }
     ensures { λ r. ⌜ Agreements (now (words .entry)) (now (ids .entry)) init (now (groups .entry)) (found .groups) (now (keys .exit)) (now (rows .exit)) r × SameKeys (now (keys .entry)) (now (keys .exit)) 0 × SameRows (now (rows .entry)) (now (rows .exit)) 0 ⌝ }
 {
     let n = found.groups;
@@ -113,7 +116,7 @@ fn agreements(
             g += 1;
             continue;
         }
-        tables::add(keys, rows, 1, a, pool::top_view(words, s, init), s);
+        tables::add(keys, rows, AGREEMENTS, a, pool::top_view(words, s, init), s);
         a += 1;
         g += 1;
     }
@@ -126,17 +129,17 @@ pub fn tabulate(
     ids: &[u16; RECORD],
     init: u64,
     found: Gathered,
-    groups: &[u64; 512],
+    groups: &[u64; GROUPS],
     keys: &mut [u64; KEYS],
     rows: &mut [u16; ROWS],
 ) -> Counts
-    requires { ⌜ Sifted (now words) (now ids) init (now groups) (now rows) found ⌝ }
+    requires { ⌜ GatheredOf (now words) (now ids) init (now groups) (now rows) found ⌝ }
     ensures { λ r. ⌜ Tables (now (words .entry)) (recordIn (now (words .entry)) (now (ids .entry))) init (now (keys .exit)) (now (rows .exit)) (r .choices) (r .agreements) ⌝ }
 {
-    let nc = choices(words, ids, init, found, groups, keys, rows);
-    let na = agreements(words, ids, init, found, groups, keys, rows);
+    let choice_count = choices(words, ids, init, found, groups, keys, rows);
+    let agreement_count = agreements(words, ids, init, found, groups, keys, rows);
     Counts {
-        choices: nc,
-        agreements: na,
+        choices: choice_count,
+        agreements: agreement_count,
     }
 }

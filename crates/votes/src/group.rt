@@ -3,22 +3,28 @@ ghost use mathlib.Core.Path.{_≡_};
 ghost use Prim.Native.Nat.{_<_};
 ghost use Rattle.votes.specs.Votes.{placeOf, tagOf, signersOf};
 
+// A place and a tag are below this.
+pub const FIELD: u64 = 65536;
+
+// Where the set stands: above a place and a tag.
+const SIGNERS: u64 = FIELD * FIELD;
+
 pub fn place_of(x: u64) -> usize
     ensures { λ r. ⌜ r ≡ placeOf x ⌝ }
 {
-    (x % 65536) as usize
+    (x % FIELD) as usize
 }
 
 pub fn tag_of(x: u64) -> u64
     ensures { λ r. ⌜ r ≡ tagOf x ⌝ }
 {
-    x / 65536 % 65536
+    x / FIELD % FIELD
 }
 
 pub fn signers_of(x: u64) -> u32
     ensures { λ r. ⌜ r ≡ signersOf x ⌝ }
 {
-    (x / 4294967296) as u32
+    (x / SIGNERS) as u32
 }
 
 // A group with these signers.
@@ -26,12 +32,12 @@ pub fn group_of(place: usize, tag: u64, signers: u32) -> u64
     requires { ⌜ (place < 65536) × (tag < 65536) ⌝ }
     ensures { λ r. ⌜ (placeOf r ≡ place) × (tagOf r ≡ tag) × (signersOf r ≡ signers) ⌝ }
 {
-    place as u64 + tag * 65536 + signers as u64 * 4294967296
+    place as u64 + tag * FIELD + signers as u64 * SIGNERS
 }
 
 // The group x with other signers.
 pub fn signed_by(x: u64, signers: u32) -> u64
     ensures { λ r. ⌜ (placeOf r ≡ placeOf x) × (tagOf r ≡ tagOf x) × (signersOf r ≡ signers) ⌝ }
 {
-    x % 4294967296 + signers as u64 * 4294967296
+    x % SIGNERS + signers as u64 * SIGNERS
 }

@@ -4,9 +4,10 @@ ghost use Prim.Native.Nat.{_+_, _<_, _≤_};
 ghost use lib.ListN.{length};
 ghost use Rattle.protocol.specs.Lists.{any};
 ghost use Rattle.pool.specs.Pool.{recordIn};
-ghost use Rattle.tables.specs.Index.{Empty, Chained};
-ghost use Rattle.votes.specs.Votes.{isVote, Sifted};
-ghost use Rattle.votes.specs.Keys.{Key, Worded, hasWords, slotAt, Leads, LatestWith, Place, Sofar};
+ghost use Rattle.tables.specs.Index.{Empty, Chained, LatestOf};
+ghost use Rattle.votes.specs.Votes.{isVote, GatheredOf};
+ghost use Rattle.votes.specs.Keys.{Key, Worded, hasWords, groupSlot, Leads, Matches, Place, Sofar};
+use crate::GROUPS;
 use crate::Gathered;
 use crate::group;
 use crate::keys;
@@ -18,7 +19,7 @@ use tables::KEYS;
 use tables::ROWS;
 
 // How many groups there is room for. A proof that one was written asks for it.
-fn room(groups: &[u64; 512]) -> usize
+pub fn groups_room(groups: &[u64; GROUPS]) -> usize
     ensures { λ r. ⌜ length (now (groups .entry)) ≡ 512 ⌝ }
 {
     let s = &groups[..];
@@ -26,7 +27,7 @@ fn room(groups: &[u64; 512]) -> usize
 }
 
 // Whether group g has the words of a vote.
-fn has_words(keys: &[u64; KEYS], groups: &[u64; 512], g: usize, v: Vote) -> bool
+fn has_words(keys: &[u64; KEYS], groups: &[u64; GROUPS], g: usize, v: Vote) -> bool
     requires { ⌜ g < 512 ⌝ }
     ensures { λ r. ⌜ r ≡ hasWords (now (keys .entry)) (now (groups .entry)) v g ⌝ }
 {
@@ -41,9 +42,15 @@ fn has_words(keys: &[u64; KEYS], groups: &[u64; 512], g: usize, v: Vote) -> bool
 
 // Of the groups below `from`, whose last is of the slot of a vote, the newest with its words, plus one. It reads no statement: most votes are found
 // by their words alone, and the search is fastest where it has little at hand.
-fn walk(keys: &[u64; KEYS], rows: &[u16; ROWS], groups: &[u64; 512], v: Vote, from: usize) -> usize
+fn walk(
+    keys: &[u64; KEYS],
+    rows: &[u16; ROWS],
+    groups: &[u64; GROUPS],
+    v: Vote,
+    from: usize,
+) -> usize
     requires { ⌜ Leads (now keys) (now rows) (now groups) v from ⌝ }
-    ensures { λ r. ⌜ LatestWith (now (keys .entry)) (now (groups .entry)) v from r ⌝ }
+    ensures { λ r. ⌜ LatestOf (Matches (now (keys .entry)) (now (groups .entry)) v) from r ⌝ }
 {
     let mut x = from;
     while x > 0 {
@@ -62,11 +69,11 @@ fn find(
     ids: &[u16; RECORD],
     keys: &[u64; KEYS],
     rows: &[u16; ROWS],
-    groups: &[u64; 512],
+    groups: &[u64; GROUPS],
     n: usize,
     v: Vote,
 ) -> usize
-    requires { ⌜ (n ≤ 512) × Worded (now words) (now ids) (now keys) (now groups) n × Key (now words) v × Chained (slotAt (now keys) (now groups)) (now rows) 0 n ⌝ }
+    requires { ⌜ (n ≤ 512) × Worded (now words) (now ids) (now keys) (now groups) n × Key (now words) v × Chained (groupSlot (now keys) (now groups)) (now rows) 0 n ⌝ }
     ensures { λ r. ⌜ Place (now (words .entry)) (now (ids .entry)) (now (groups .entry)) n (v .number) r ⌝ }
 {
     let newest = tables::newest(rows, 0, keys::slot_of(v));
@@ -89,7 +96,7 @@ fn add(
     i: usize,
     keys: &mut [u64; KEYS],
     rows: &mut [u16; ROWS],
-    groups: &mut [u64; 512],
+    groups: &mut [u64; GROUPS],
     n: usize,
 ) -> usize
     requires { ⌜ (i < 512) × Sofar (now words) (now ids) i (now keys) (now rows) (now groups) n ⌝ }
@@ -124,12 +131,12 @@ pub fn gather(
     init: u64,
     keys: &mut [u64; KEYS],
     rows: &mut [u16; ROWS],
-    groups: &mut [u64; 512],
+    groups: &mut [u64; GROUPS],
 ) -> Gathered
     requires { ⌜ Empty (now rows) 0 × Empty (now rows) 1 ⌝ }
-    ensures { λ r. ⌜ Sifted (now (words .entry)) (now (ids .entry)) init (now (groups .exit)) (now (rows .exit)) r ⌝ }
+    ensures { λ r. ⌜ GatheredOf (now (words .entry)) (now (ids .entry)) init (now (groups .exit)) (now (rows .exit)) r ⌝ }
 {
-    room(groups);
+    groups_room(groups);
     let end = pool::record_length(ids);
     let mut joins: u32 = 0;
     let mut leaves: u32 = 0;

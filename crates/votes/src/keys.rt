@@ -4,7 +4,23 @@ ghost use Prim.Native.Nat.{_<_};
 ghost use Rattle.pool.specs.Pool.{stmtAt};
 ghost use Rattle.votes.specs.Votes.{isVote};
 ghost use Rattle.votes.specs.Keys.{folded, weightOf, mixFrom, whatOf, sameNames, Key, slotBy};
+use crate::group;
 use pool::POOL_WORDS;
+
+// What the low half of a word is below, and its lowest quarter.
+const HALF: u64 = 4294967296;
+
+const QUARTER: u64 = 65536;
+
+// What the two parts of a slot's mix are multiplied by.
+const AT_FACTOR: u64 = 1640531527;
+
+const WHAT_FACTOR: u64 = 668265263;
+
+// How often the first view of a history counts in its mix, and how much more often each that follows.
+const FIRST_WEIGHT: u64 = 2053;
+
+const NEXT_WEIGHT: u64 = 128;
 
 // A vote by its pool number, with the word of the view at which it was signed, what it is for, and its kind.
 pub struct Vote {
@@ -35,7 +51,7 @@ pub fn is_vote(words: &[u64; POOL_WORDS], n: u16) -> bool
 fn fold(x: u64) -> u64
     ensures { λ r. ⌜ (r ≡ folded x) × (r < 4294967296) ⌝ }
 {
-    (x % 4294967296 + x / 65536) % 4294967296
+    (x % HALF + x / QUARTER) % HALF
 }
 
 // How often the view at place p counts in a mix.
@@ -43,7 +59,7 @@ fn weight(p: usize) -> u64
     requires { ⌜ p < 16 ⌝ }
     ensures { λ r. ⌜ (r ≡ weightOf p) × (r < 4096) ⌝ }
 {
-    2053 + p as u64 * 128
+    FIRST_WEIGHT + p as u64 * NEXT_WEIGHT
 }
 
 // The mix of the views of statement n. It is a sum, whose parts do not wait for each other as those of a product do; sixteen parts fit in a word.
@@ -96,11 +112,11 @@ pub fn same_names(words: &[u64; POOL_WORDS], i: u16, j: u16) -> bool
     pool::same_views(words, i, j)
 }
 
-// The slot of a vote. What multiplication mixes best are the high bits.
+// The slot of a vote.
 pub fn slot_of(v: Vote) -> usize
     ensures { λ r. ⌜ (r ≡ slotBy (v .at) (v .what) (v .tag)) × (r < 256) ⌝ }
 {
-    let x = fold(v.at) + v.tag % 65536;
+    let x = fold(v.at) + v.tag % group::FIELD;
     let y = fold(v.what);
-    ((x * 1640531527 + y * 668265263) / 16777216 % 256) as usize
+    tables::slot_from(x * AT_FACTOR + y * WHAT_FACTOR)
 }

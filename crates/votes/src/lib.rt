@@ -10,8 +10,18 @@ pub use group::place_of;
 pub use group::signers_of;
 pub use group::tag_of;
 pub use groups::gather;
+pub use groups::groups_room;
 pub use groups::has_votes;
+use pool::CAPACITY;
 pub use wish::wished_by;
+
+// The tables of what quorums chose and agreed to.
+pub const CHOICES: usize = 0;
+
+pub const AGREEMENTS: usize = 1;
+
+// The most groups: no two votes of a record need be alike.
+pub const GROUPS: usize = CAPACITY;
 
 // How many groups there are, and the view that the record wishes: both in one pass.
 pub struct Gathered {

@@ -3,8 +3,9 @@ ghost use mathlib.Core.Path.{_≡_};
 ghost use mathlib.Core.List.{List};
 ghost use Rattle.protocol.specs.Statement.{Stmt, isKind};
 ghost use Rattle.protocol.specs.Evidence.{signs, wished};
-ghost use Rattle.views.specs.Sets.{IsSet, Noted};
-ghost use Rattle.views.specs.View.{viewOf, ring};
+ghost use Rattle.views.specs.Steps.{Noted};
+ghost use Rattle.views.specs.Sets.{IsSet};
+ghost use Rattle.views.specs.View.{viewOf, ringOfWord};
 ghost use Rattle.pool.specs.Pool.{stmtAt, recordIn};
 use pool::POOL_WORDS;
 use pool::RECORD;
@@ -22,7 +23,7 @@ pub fn note_kind(words: &[u64; POOL_WORDS], s: u16, kind: u64, seen: u32) -> u32
 
 // The initial view, with every join origin joined and every leave origin that is joined marked left.
 pub fn wished_view(init: u64, joins: u32, leaves: u32) -> u64
-    ensures { λ r. ⌜ ((X : List Stmt) → IsSet joins (signs (isKind 1) X) → IsSet leaves (signs (isKind 2) X) → viewOf r ≡ wished (ring init) X) ⌝ }
+    ensures { λ r. ⌜ ((X : List Stmt) → IsSet joins (signs (isKind 1) X) → IsSet leaves (signs (isKind 2) X) → viewOf r ≡ wished (ringOfWord init) X) ⌝ }
 {
     let first = View::of_word(init);
     let joined = views::union(first.joined_set(), joins);
@@ -36,7 +37,7 @@ pub fn wished_view(init: u64, joins: u32, leaves: u32) -> u64
 
 // The view that a record wishes. `groups::gather` finds it too, where there are votes to gather in the same pass.
 pub fn wished_by(words: &[u64; POOL_WORDS], ids: &[u16; RECORD], init: u64) -> u64
-    ensures { λ r. ⌜ viewOf r ≡ wished (ring init) (recordIn (now (words .entry)) (now (ids .entry))) ⌝ }
+    ensures { λ r. ⌜ viewOf r ≡ wished (ringOfWord init) (recordIn (now (words .entry)) (now (ids .entry))) ⌝ }
 {
     let end = pool::record_length(ids);
     let mut joins: u32 = 0;

@@ -2,12 +2,12 @@
 
 use std::hint::black_box;
 
-use compare::evidence::{lend, word, Lent};
+use compare::evidence::{lend, Lent};
 use compare::records::{breadth, depth, mixed, pool_of, Case};
-use pekdrav::{tell, TOLD};
+use pekdrav::EvidenceWords;
 use reference::Evidence;
 
-use crate::measure::{head, measure, row};
+use crate::measure::{self, head, measure, row};
 
 /// Records of the first `count` statements of honest runs that fill the pool.
 fn honest(count: usize) -> Vec<Case> {
@@ -16,9 +16,9 @@ fn honest(count: usize) -> Vec<Case> {
 }
 
 fn mine(cases: &[(Case, Lent)]) {
-    let mut out = [0; TOLD];
-    for (case, lent) in cases {
-        tell(&lent.words, black_box(&lent.ids), word(case.initial), case.sender, &mut out);
+    let mut out = EvidenceWords::default();
+    for (_, lent) in cases {
+        black_box(&lent.record).evidence_into(&lent.pool, lent.ring, &mut out);
         black_box(&out);
     }
 }
@@ -40,7 +40,7 @@ fn compared(name: &str, cases: Vec<Case>) {
     }
 }
 
-/// Does the work of one side on a record, as `honest, 64`, again and again, for a tool that counts its instructions.
+/// Does the work of one side on a record, as `honest, 64`.
 pub fn repeat(record: &str, side: &str, rounds: usize) {
     let (kind, count) = record.split_once(", ").unwrap_or((record, "0"));
     let count = count.parse().unwrap_or(0);
@@ -52,9 +52,7 @@ pub fn repeat(record: &str, side: &str, rounds: usize) {
     };
     // One record, so that a round is a record.
     let lent = lent(cases.into_iter().take(1).collect());
-    for _ in 0..rounds {
-        if side == "mine" { mine(&lent) } else { theirs(&lent) }
-    }
+    measure::repeat(rounds, side, &lent, mine, theirs);
 }
 
 pub fn print() {

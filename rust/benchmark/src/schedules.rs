@@ -3,7 +3,7 @@
 use std::hint::black_box;
 
 use compare::records::{breadth, depth, mixed, Case};
-use pekdrav::{run_into, ROWS_MAX};
+use pekdrav::schedule::{rows_into, ROWS_MAX};
 use reference::bench::SCHEDULE_LIMIT;
 
 use crate::measure::{head, measure_in, row};
@@ -23,7 +23,7 @@ fn compared(name: &str, schedules: &[Vec<u8>]) {
     let mut rows = vec![0; ROWS_MAX];
     let mine = |schedules: &[Vec<u8>]| {
         for schedule in schedules {
-            black_box(run_into(black_box(schedule), &mut rows));
+            black_box(rows_into(black_box(schedule), &mut rows));
         }
     };
     let theirs = |schedules: &[Vec<u8>]| {

@@ -4,9 +4,10 @@ use std::hint::black_box;
 
 use compare::lines::{line, Damage, DAMAGES};
 use generate::Rng;
+use pekdrav::statement::{rewrite, TEXT_MAX};
 use reference::Statement;
 
-use crate::measure::{head, measure, row};
+use crate::measure::{self, head, measure, row};
 
 const LINES: usize = 8_192;
 
@@ -27,16 +28,16 @@ fn lines(damages: &[Damage], keep: impl Fn(Option<Statement>) -> bool) -> Vec<Ve
 }
 
 fn mine(lines: &[Vec<u8>]) {
-    let mut out = [0u8; 256];
+    let mut out = [0u8; TEXT_MAX];
     for line in lines {
-        black_box(pekdrav::statement(black_box(line), &mut out));
+        black_box(rewrite(black_box(line), &mut out));
         black_box(&out);
     }
 }
 
 /// The text goes into memory that is kept, as the proved code's does.
 fn theirs(lines: &[Vec<u8>]) {
-    let mut out = Vec::with_capacity(256);
+    let mut out = Vec::with_capacity(TEXT_MAX);
     for line in lines {
         out.clear();
         if let Some(statement) = Statement::read(black_box(line)) {
@@ -62,12 +63,10 @@ fn lines_of(kind: &str) -> Vec<Vec<u8>> {
     }
 }
 
-/// Does the work of one side on the lines of a kind again and again, for a tool that counts its instructions.
+/// Does the work of one side on the lines of a kind.
 pub fn repeat(kind: &str, side: &str, rounds: usize) {
     let lines = lines_of(kind);
-    for _ in 0..rounds {
-        if side == "mine" { mine(&lines) } else { theirs(&lines) }
-    }
+    measure::repeat(rounds, side, &lines, mine, theirs);
 }
 
 pub fn print() {

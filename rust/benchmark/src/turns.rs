@@ -106,7 +106,11 @@ impl Ring {
         for event in 0..size / 2 + size - 1 {
             let (k, joins) = if event < size / 2 { (size / 2 + event, true) } else { (event - size / 2 + 1, false) };
             let Seat { mine, theirs, .. } = &mut self.seats[k];
-            if joins { (mine.join(), theirs.join()).1 } else { (mine.leave(), theirs.leave()).1 };
+            if joins {
+                (mine.join(), theirs.join()).1
+            } else {
+                (mine.leave(), theirs.leave()).1
+            };
             self.settle();
             for place in 0..noise {
                 self.sign(Statement::new(OUTSIDER, Body::Prepare { payload: noise * event as u64 + place }));

@@ -66,9 +66,7 @@ impl<'a> Definition<'a> {
             _ => None,
         });
         distinct(places).into_iter().any(|top| {
-            top.strictly_within(view)
-                && self.quorum_signed(top, |body| *body == Body::AgreeView { at: top, view })
-                && self.is_top(top)
+            top.strictly_within(view) && self.quorum_signed(top, |body| *body == Body::AgreeView { at: top, view }) && self.is_top(top)
         })
     }
 

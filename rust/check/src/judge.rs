@@ -77,12 +77,7 @@ pub fn judge(run: &Run) -> Verdict {
     breaches.extend(not_prepared(run, ring));
     breaches.extend(incomparable(run, ring));
     breaches.extend(not_kept(run, ring, &shown));
-    Verdict {
-        within_premises: tops.iter().all(bears),
-        breaches,
-        contradiction: contradiction(&shown),
-        depth: depth(run, ring, tops.len()),
-    }
+    Verdict { within_premises: tops.iter().all(bears), breaches, contradiction: contradiction(&shown), depth: depth(run, ring, tops.len()) }
 }
 
 fn contradiction(shown: &Definition) -> bool {

@@ -1,59 +1,73 @@
 //! What a record shows, compared.
 
-use pekdrav::{append, shown, tell, told, view_sets, view_word, Evidence, Shown, ViewWord, POOL_WORDS, RECORD, TOLD};
-use reference::{Record, View};
+use pekdrav::{Certificate, Evidence, EvidenceWords, Pool, Record, Ring, Shown, View, STATEMENTS, VIEWS};
 
 use crate::records::Case;
 
-/// A view as a word of the pool.
-pub fn word(view: View) -> ViewWord {
-    view_word(view.joined(), view.left())
+/// A view of the reference as the proved code has it.
+pub fn as_mine(view: reference::View) -> View {
+    View::new(view.joined(), view.left())
 }
 
-/// A record in memory to lend.
+/// A record in memory to lend, and the ring in which it is looked at.
 pub struct Lent {
-    pub words: Box<[u64; POOL_WORDS]>,
-    pub ids: Box<[u16; RECORD]>,
+    pub pool: Pool,
+    pub record: Record,
+    pub ring: Ring,
 }
 
 /// Puts the statements into a pool by their lines; each gets the number of its place.
 pub fn lend(case: &Case) -> Result<Lent, String> {
-    let mut lent = Lent { words: Box::new([0; POOL_WORDS]), ids: Box::new([0; RECORD]) };
-    for (place, statement) in case.statements.iter().enumerate() {
-        let number = append(&mut lent.words, &statement.write());
-        if number != Ok(place as u16) {
+    let mut pool = Pool::new();
+    let mut numbers = Vec::new();
+    for (place, statement) in (0..).zip(&case.statements) {
+        let number = pool.append(&statement.write());
+        if number != Ok(place) {
             return Err(format!("{statement:?} at {place} went to {number:?}"));
         }
-        lent.ids[place] = place as u16;
-        lent.ids[RECORD - 1] = place as u16 + 1;
+        numbers.push(place);
     }
-    Ok(lent)
+    let record = Record::of(&numbers).ok_or("a record has at most 512 statements")?;
+    Ok(Lent { pool, record, ring: Ring { initial: as_mine(case.initial), sender: case.sender } })
 }
 
+/// What memory holds before it is told.
+const OTHER: EvidenceWords = EvidenceWords {
+    conflict: u64::MAX,
+    many: u64::MAX,
+    wished: u64::MAX,
+    candidate_count: u64::MAX,
+    greatest_count: u64::MAX,
+    certified: u64::MAX,
+    payload: u64::MAX,
+    stored: u64::MAX,
+    candidates: [u64::MAX; VIEWS],
+    greatest: [u64::MAX; VIEWS],
+};
+
 /// The words that the proved code tells, over memory that held other words.
-pub fn mine(case: &Case, lent: &Lent) -> [u64; TOLD] {
-    let mut out = [u64::MAX; TOLD];
-    tell(&lent.words, &lent.ids, word(case.initial), case.sender, &mut out);
+pub fn mine(lent: &Lent) -> EvidenceWords {
+    let mut out = OTHER;
+    lent.record.evidence_into(&lent.pool, lent.ring, &mut out);
     out
 }
 
 /// The words that this evidence is told in. What is not told is 0.
-pub fn words(evidence: &Evidence) -> [u64; TOLD] {
-    let mut out = [0; TOLD];
-    out[2] = evidence.wished.into();
+pub fn words(evidence: &Evidence) -> EvidenceWords {
+    let mut out = EvidenceWords { wished: evidence.wished.word(), ..EvidenceWords::default() };
     let Some(shown) = &evidence.shown else {
-        out[0] = 1;
+        out.conflict = 1;
         return out;
     };
-    let mut list = |count: usize, from: usize, views: &[ViewWord]| {
-        out[count] = views.len() as u64;
-        out[from..].iter_mut().zip(views).for_each(|(word, &view)| *word = view.into());
+    let list = |count: &mut u64, out: &mut [u64; VIEWS], views: &[View]| {
+        *count = views.len() as u64;
+        out.iter_mut().zip(views).for_each(|(word, view)| *word = view.word());
     };
-    list(3, 8, shown.candidates.as_deref().unwrap_or(&[]));
-    list(4, 24, &shown.greatest);
-    out[1] = shown.candidates.is_none().into();
-    if let Some((payload, stored)) = shown.certificate {
-        out[5..8].copy_from_slice(&[1, payload, stored.into()]);
+    list(&mut out.candidate_count, &mut out.candidates, shown.candidates.as_deref().unwrap_or(&[]));
+    list(&mut out.greatest_count, &mut out.greatest, &shown.greatest);
+    out.many = shown.candidates.is_none().into();
+    if let Some(Certificate { payload, stored }) = shown.certificate {
+        (out.certified, out.payload, out.stored) = (1, payload, stored.into());
     }
     out
 }
@@ -61,40 +75,44 @@ pub fn words(evidence: &Evidence) -> [u64; TOLD] {
 /// The reference's evidence.
 pub fn theirs(case: &Case) -> Evidence {
     let evidence = reference::Evidence::of(case.initial, case.sender, &case.statements);
-    let listed = |views: &[View]| views.iter().map(|&view| word(view)).collect::<Vec<ViewWord>>();
+    let listed = |views: &[reference::View]| views.iter().map(|&view| as_mine(view)).collect::<Vec<View>>();
+    let certificate = |payload| Certificate { payload, stored: evidence.stored.contains(&payload) };
     let shown = || Shown {
-        candidates: (evidence.candidates.len() <= 16).then(|| listed(&evidence.candidates)),
+        candidates: (evidence.candidates.len() <= VIEWS).then(|| listed(&evidence.candidates)),
         greatest: evidence.greatest().map_or(Vec::new(), |history| listed(history.views())),
-        certificate: evidence.certificate().map(|payload| (payload, evidence.stored.contains(&payload))),
+        certificate: evidence.certificate().map(certificate),
     };
-    Evidence { wished: word(evidence.wished), shown: (!evidence.conflict()).then(shown) }
+    Evidence { wished: as_mine(evidence.wished), shown: (!evidence.conflict()).then(shown) }
 }
 
 /// The text of a service screen, from the evidence.
 fn text(evidence: &Evidence) -> String {
-    let view = |word: ViewWord| {
-        let (joined, left) = view_sets(word);
-        format!("{joined:04x}{left:04x}")
-    };
-    let list = |words: &[ViewWord]| std::iter::once(words.len().to_string()).chain(words.iter().map(|&word| view(word))).collect::<Vec<_>>().join(",");
+    let view = |view: View| format!("{:04x}{:04x}", view.joined(), view.left());
+    let list =
+        |views: &[View]| std::iter::once(views.len().to_string()).chain(views.iter().map(|&one| view(one))).collect::<Vec<_>>().join(",");
     let wished = format!("wished,{}\n", view(evidence.wished));
     let Some(shown) = &evidence.shown else { return wished + "conflict\n" };
     let candidates = shown.candidates.as_ref().map_or("many".to_string(), |views| list(views));
     let certificate = match shown.certificate {
         None => "none".to_string(),
-        Some((payload, true)) => format!("{payload},stored"),
-        Some((payload, false)) => format!("{payload},kept"),
+        Some(Certificate { payload, stored: true }) => format!("{payload},stored"),
+        Some(Certificate { payload, stored: false }) => format!("{payload},kept"),
     };
     format!("{wished}candidates,{candidates}\ngreatest,{}\ncertificate,{certificate}\n", list(&shown.greatest))
 }
 
 /// Compares the text of a service screen with one made from the reference's evidence.
 fn compare_text(case: &Case, lent: &Lent, theirs: &Evidence) -> Result<(), String> {
-    let (mine, theirs) = (shown(&lent.words, &lent.ids, word(case.initial), case.sender), text(theirs));
+    let (mine, theirs) = (lent.record.screen(&lent.pool, lent.ring), text(theirs));
     if mine == theirs {
         return Ok(());
     }
-    Err(format!("initial {} sender {}, a record of {}\nproved:\n{mine}reference:\n{theirs}", case.initial, case.sender, case.statements.len()))
+    Err(format!(
+        "initial {} sender {}, a record of {}\nproved:\n{mine}reference:\n{theirs}",
+        case.initial,
+        case.sender,
+        case.statements.len()
+    ))
 }
 
 /// What the compared records showed.
@@ -124,7 +142,7 @@ impl Tally {
         self.many += u64::from(shown.candidates.is_none());
         self.sealed += u64::from(shown.greatest.len() > 1);
         self.certified += u64::from(shown.certificate.is_some());
-        self.stored += u64::from(shown.certificate.is_some_and(|(_, stored)| stored));
+        self.stored += u64::from(shown.certificate.is_some_and(|certificate| certificate.stored));
     }
 }
 
@@ -140,7 +158,7 @@ impl std::fmt::Display for Tally {
 
 /// The fewest statements found in which they still differ.
 fn shrink(case: &Case) -> Case {
-    let differs = |case: &Case| lend(case).is_ok_and(|lent| mine(case, &lent) != words(&theirs(case)));
+    let differs = |case: &Case| lend(case).is_ok_and(|lent| mine(&lent) != words(&theirs(case)));
     let mut least = case.clone();
     let mut place = least.statements.len();
     while place > 0 {
@@ -155,15 +173,20 @@ fn shrink(case: &Case) -> Case {
 }
 
 pub fn compare(case: &Case, tally: &mut Tally) -> Result<(), String> {
-    assert!(case.statements.len() <= Record::LIMIT, "a record has at most 512 statements");
+    assert!(case.statements.len() <= STATEMENTS, "a record has at most 512 statements");
     let lent = lend(case)?;
-    let (mine_now, theirs_now) = (mine(case, &lent), theirs(case));
+    let (mine_now, theirs_now) = (mine(&lent), theirs(case));
     // Both ways: every word, and what the words are read as.
-    if mine_now != words(&theirs_now) || told(&mine_now) != theirs_now {
+    if mine_now != words(&theirs_now) || Evidence::from(&mine_now) != theirs_now {
         let least = shrink(case);
         let lines: Vec<String> = least.statements.iter().map(|s| String::from_utf8_lossy(&s.write()).into_owned()).collect();
-        let (one, other) = (mine(&least, &lend(&least)?), words(&theirs(&least)));
-        return Err(format!("initial {} sender {}\n{}\nproved: {one:x?}\nreference: {other:x?}", least.initial, least.sender, lines.join("\n")));
+        let (one, other) = (mine(&lend(&least)?), words(&theirs(&least)));
+        return Err(format!(
+            "initial {} sender {}\n{}\nproved: {one:x?}\nreference: {other:x?}",
+            least.initial,
+            least.sender,
+            lines.join("\n")
+        ));
     }
     compare_text(case, &lent, &theirs_now)?;
     tally.add(case, &theirs_now);

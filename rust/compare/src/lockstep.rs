@@ -5,9 +5,9 @@ use std::collections::BTreeMap;
 
 use pekdrav::{Controller, Pool};
 use reference::bench::Line;
-use reference::{Answer, Refusal, Statement, View};
+use reference::{Answer, Refusal, Statement};
 
-use crate::evidence::word;
+use crate::evidence::as_mine;
 
 /// What the compared calls answered; a refusal with its number.
 pub type Tally = BTreeMap<String, u64>;
@@ -66,25 +66,22 @@ impl Seat {
 
     /// What the two answers, the same call's, differ in.
     fn differs(&self, mine: pekdrav::Answer, theirs: Answer) -> Option<String> {
-        let as_mine = match theirs {
-            Answer::Taken => pekdrav::Answer::Taken,
-            Answer::Signed(statement) => match mine {
-                pekdrav::Answer::Signed(number) if self.pool.text(number) == Some(statement.write()) => mine,
-                _ => return Some(format!("proved: {mine:?}, reference: {theirs:?}")),
-            },
-            Answer::Entered(view) => pekdrav::Answer::Entered(word(view)),
-            Answer::Delivered(payload) => pekdrav::Answer::Delivered(payload),
-            Answer::Left => pekdrav::Answer::Left,
-            Answer::Quiet => pekdrav::Answer::Quiet,
-            Answer::Refused(refusal) => pekdrav::Answer::Refused(refusal as u8),
+        use pekdrav::Answer as Mine;
+        let same = match (mine, theirs) {
+            (Mine::Taken, Answer::Taken) | (Mine::Left, Answer::Left) | (Mine::Quiet, Answer::Quiet) => true,
+            (Mine::Signed(number), Answer::Signed(statement)) => self.pool.text(number) == Some(statement.write()),
+            (Mine::Entered(mine), Answer::Entered(theirs)) => mine == as_mine(theirs),
+            (Mine::Delivered(mine), Answer::Delivered(theirs)) => mine == theirs,
+            (Mine::Refused(mine), Answer::Refused(theirs)) => mine.number() == theirs as u8,
+            _ => false,
         };
-        (mine != as_mine).then(|| format!("proved: {mine:?}, reference: {theirs:?}"))
+        (!same).then(|| format!("proved: {mine:?}, reference: {theirs:?}"))
     }
 
     /// Whether the two controllers are the same in every field; of the record the length.
     fn is_same(&self) -> bool {
         let Seat { mine, theirs, .. } = self;
-        let words = |views: &[View]| views.iter().map(|&view| word(view)).collect::<Vec<_>>();
+        let entered: Vec<_> = theirs.entered().iter().map(|&view| as_mine(view)).collect();
         let binding = match theirs.binding() {
             reference::Binding::Unbound => pekdrav::Binding::Unbound,
             reference::Binding::Bound(payload) => pekdrav::Binding::Bound(payload),
@@ -92,11 +89,11 @@ impl Seat {
         };
         let requests = theirs.requests();
         let set_up = |ring: reference::controller::Ring| {
-            mine.number() == theirs.number() && mine.initial() == word(ring.initial) && mine.sender() == ring.sender
+            mine.number() == theirs.number() && mine.initial() == as_mine(ring.initial) && mine.sender() == ring.sender
         };
         mine.is_set_up() == theirs.ring().is_some()
             && theirs.ring().is_none_or(set_up)
-            && mine.entered() == words(theirs.entered())
+            && mine.entered() == entered
             && mine.binding() == binding
             && mine.delivered() == theirs.delivered()
             && (mine.join_requested(), mine.leave_requested()) == (requests.join, requests.leave)
@@ -106,7 +103,7 @@ impl Seat {
 
     /// Whether the two records are the same, statement by statement.
     fn has_same_record(&self) -> bool {
-        let numbers = self.mine.record().iter();
+        let numbers = self.mine.record().numbers().iter();
         let mut both = numbers.zip(self.theirs.record().statements());
         both.all(|(&number, statement)| self.pool.text(number) == Some(statement.write()))
     }
@@ -136,7 +133,7 @@ impl Ring {
             return Err(format!("controller {k}, {call:?}: the controllers differ after {mine:?}"));
         }
         let word = match mine {
-            pekdrav::Answer::Refused(number) if seat.mine == before => format!("refused {number}"),
+            pekdrav::Answer::Refused(refusal) if seat.mine == before => format!("refused {}", refusal.number()),
             pekdrav::Answer::Refused(_) => return Err(format!("controller {k}, {call:?}: a refusal changed the controller")),
             answer => format!("{answer:?}").split('(').next().unwrap_or_default().to_lowercase(),
         };

@@ -6,7 +6,7 @@ use std::collections::BTreeMap;
 pub type Run = fn(&[u8]) -> Vec<u8>;
 
 /// The bench that is compared with the reference.
-pub const PROVED: Run = pekdrav::run;
+pub const PROVED: Run = pekdrav::schedule::rows;
 
 /// What the rows of the compared schedules answered.
 #[derive(Default)]

@@ -24,9 +24,8 @@ pub fn random(seed: u64, lines: usize) -> impl Iterator<Item = Vec<u8>> {
     RANDOM.iter().map(move |style| made(style, seed, lines))
 }
 
-const NUMBERS: [&str; 14] = [
-    "0", "1", "7", "15", "16", "255", "256", "511", "512", "01", "", "18446744073709551615", "18446744073709551616", "0x1",
-];
+const NUMBERS: [&str; 14] =
+    ["0", "1", "7", "15", "16", "255", "256", "511", "512", "01", "", "18446744073709551615", "18446744073709551616", "0x1"];
 
 /// Puts another number in place of one field of a line.
 fn renumber(rng: &mut Rng, line: &[u8]) -> Vec<u8> {

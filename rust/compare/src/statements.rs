@@ -8,8 +8,8 @@ use crate::lines::{line, Damage, DAMAGES};
 /// What the memory holds before it is written.
 const BLANK: u8 = 0xa5;
 
-/// Longer than any statement's text.
-const ROOM: usize = 256;
+/// No statement's text is longer.
+const ROOM: usize = pekdrav::statement::TEXT_MAX;
 
 /// How many lines were accepted and refused.
 #[derive(Default)]
@@ -53,7 +53,7 @@ fn compare_line(rng: &mut Rng, damage: usize, line: &[u8], tally: &mut Tally) ->
         _ => ROOM,
     };
     let mut memory = [BLANK; ROOM];
-    let count = pekdrav::statement(line, &mut memory[..length]);
+    let count = pekdrav::statement::rewrite(line, &mut memory[..length]).unwrap_or(0);
     let mut wanted = [BLANK; ROOM];
     let text = theirs.map(|statement| statement.write()).unwrap_or_default();
     if text.len() <= length {

@@ -4,7 +4,7 @@ use compare::evidence::{compare, lend, mine, theirs, words, Tally};
 use compare::records::{breadth, changed, deepest, depth, mixed, pool_of, quorums, Case};
 use compare::schedules;
 use generate::Rng;
-use pekdrav::{append, Unplaced, POOL_WORDS};
+use pekdrav::{AppendError, Pool, POOL_WORDS};
 
 fn agree(name: &str, cases: impl Iterator<Item = Case>) -> Tally {
     let mut tally = Tally::default();
@@ -52,24 +52,24 @@ fn the_deepest_record_on_a_small_stack() {
     assert_eq!(case.statements.len(), 30 + 2 * 45);
     let lent = lend(&case).unwrap_or_else(|difference| panic!("{difference}"));
     let small = std::thread::Builder::new().stack_size(128 * 1024);
-    let told = small.spawn(move || mine(&case, &lent)).expect("a thread").join().expect("the stack suffices");
+    let told = small.spawn(move || mine(&lent)).expect("a thread").join().expect("the stack suffices");
     assert_eq!(told, expected);
 }
 
 #[test]
 fn a_pool_takes_512_statements_and_no_line_that_is_none() {
-    let mut words = Box::new([0; POOL_WORDS]);
+    let mut pool = Pool::new();
     for number in 0..512u16 {
         let line = format!("6,3,00000000,00000000,0,{number},0,0,0");
-        assert_eq!(append(&mut words, line.as_bytes()), Ok(number));
-        assert_eq!(append(&mut words, line.as_bytes()), Ok(number), "a number is reused");
+        assert_eq!(pool.append(line.as_bytes()), Ok(number));
+        assert_eq!(pool.append(line.as_bytes()), Ok(number), "a number is reused");
     }
-    let full = words.clone();
-    assert_eq!(append(&mut words, b"6,3,00000000,00000000,0,512,0,0,0"), Err(Unplaced::Full));
-    assert_eq!(append(&mut words, b"6,16,00000000,00000000,0,512,0,0,0"), Err(Unplaced::NoStatement));
-    assert_eq!(append(&mut words, b""), Err(Unplaced::NoStatement));
-    assert_eq!(append(&mut words, b"6,3,00000000,00000000,0,0,0,0,0"), Ok(0));
-    assert!(words == full, "the pool is as it was");
+    let full = pool.clone();
+    assert_eq!(pool.append(b"6,3,00000000,00000000,0,512,0,0,0"), Err(AppendError::Full));
+    assert_eq!(pool.append(b"6,16,00000000,00000000,0,512,0,0,0"), Err(AppendError::NoStatement));
+    assert_eq!(pool.append(b""), Err(AppendError::NoStatement));
+    assert_eq!(pool.append(b"6,3,00000000,00000000,0,0,0,0,0"), Ok(0));
+    assert!(pool == full, "the pool is as it was");
 }
 
 /// Only the words of a new statement and the number of statements are written, whatever the others hold.
@@ -77,8 +77,9 @@ fn a_pool_takes_512_statements_and_no_line_that_is_none() {
 fn an_addition_writes_no_other_word() {
     let mut words = Box::new([u64::MAX; POOL_WORDS]);
     words[POOL_WORDS - 1] = 3;
-    assert_eq!(append(&mut words, b"4,2,00070000,00000000,0,0,0,0,2,00070000,000f0000"), Ok(3));
-    let written: Vec<(usize, u64)> = words.iter().copied().enumerate().filter(|&(_, word)| word != u64::MAX).collect();
+    let mut pool = Pool::from(words);
+    assert_eq!(pool.append(b"4,2,00070000,00000000,0,0,0,0,2,00070000,000f0000"), Ok(3));
+    let written: Vec<(usize, u64)> = pool.words().iter().copied().enumerate().filter(|&(_, word)| word != u64::MAX).collect();
     let head: u64 = 4 | 2 << 8 | 2 << 24;
     assert_eq!(written, [(3, head), (515, 7), (1027, 0), (1539, 0), (2051, 0), (2608, 7), (2609, 15), (10752, 4)]);
 }

@@ -2,7 +2,7 @@
 
 use compare::lockstep::{compare_all, Tally};
 use compare::schedules;
-use pekdrav::{Answer, Controller, Pool};
+use pekdrav::{Answer, Certificate, Controller, Kind, Pool, Refusal, View};
 
 fn agree(name: &str, schedules: impl Iterator<Item = Vec<u8>>) -> Tally {
     let tally = compare_all(schedules).unwrap_or_else(|difference| panic!("{name}: they differ, {difference}"));
@@ -38,11 +38,11 @@ fn mutated_runs() {
 #[test]
 fn one_of_everything() {
     let (mut controller, mut pool) = (Controller::new(), Pool::new());
-    assert_eq!(controller.turn(&mut pool), Answer::Refused(8));
-    assert_eq!(controller.add(&mut pool, b"1,0,00000000,00000000,0,0,0,0,0"), Answer::Refused(8));
-    assert_eq!(controller.setup(16, 1, 0), Answer::Refused(1));
+    assert_eq!(controller.turn(&mut pool), Answer::Refused(Refusal::OutOfPlace));
+    assert_eq!(controller.add(&mut pool, b"1,0,00000000,00000000,0,0,0,0,0"), Answer::Refused(Refusal::OutOfPlace));
+    assert_eq!(controller.setup(16, 1, 0), Answer::Refused(Refusal::BadSetup));
     assert_eq!(controller.setup(0, 1, 0), Answer::Taken);
-    assert_eq!(controller.add(&mut pool, b"1,0,00000000,00000000,0,0,0,0"), Answer::Refused(2));
+    assert_eq!(controller.add(&mut pool, b"1,0,00000000,00000000,0,0,0,0"), Answer::Refused(Refusal::BadStatement));
     assert_eq!(controller.send(7), Answer::Taken);
     assert_eq!(controller.turn(&mut pool), Answer::Signed(0));
     assert_eq!(pool.text(0), Some(b"6,0,00000000,00000000,0,7,0,0,0".to_vec()));
@@ -51,5 +51,12 @@ fn one_of_everything() {
     assert_eq!(controller.turn(&mut pool), Answer::Signed(2));
     assert_eq!(controller.turn(&mut pool), Answer::Delivered(7));
     assert_eq!(controller.turn(&mut pool), Answer::Quiet);
-    assert_eq!(controller.record(), [0, 1, 2]);
+    assert_eq!(controller.record().numbers(), [0, 1, 2]);
+    let shown = controller.evidence(&pool).shown.expect("no conflict");
+    assert_eq!(shown.greatest, [View::new(1, 0)]);
+    assert_eq!(shown.certificate, Some(Certificate { payload: 7, stored: true }));
+    assert_eq!(controller.signers(&pool, Kind::Ack, View::new(1, 0)), 1);
+    assert_eq!(controller.signers(&pool, Kind::Report, View::new(1, 0)), 0);
+    let screen = "wished,00010000\ncandidates,1,00010000\ngreatest,1,00010000\ncertificate,7,stored\n";
+    assert_eq!(controller.screen(&pool), screen);
 }

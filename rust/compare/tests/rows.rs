@@ -2,7 +2,7 @@
 
 use compare::rows::{compare_all, Tally, PROVED};
 use compare::schedules;
-use pekdrav::{run_into, ROWS_MAX};
+use pekdrav::schedule::{rows_into, ROWS_MAX};
 use reference::bench::run;
 
 fn agree(name: &str, schedules: impl Iterator<Item = Vec<u8>>) -> Tally {
@@ -48,7 +48,7 @@ fn in_memory_of_any_length(schedule: &[u8]) {
     let rows = run(schedule);
     for length in [0, 1, 21, 22, rows.len() - 1, rows.len(), rows.len() + 1, rows.len() + 39, rows.len() + 41] {
         let mut memory = vec![0xa5; length];
-        let written = run_into(schedule, &mut memory);
+        let written = rows_into(schedule, &mut memory);
         if length < rows.len() {
             assert_eq!(written, None);
             assert!(memory.iter().all(|&byte| byte == 0xa5), "a byte was written though the rows have no room");

@@ -40,8 +40,7 @@ pub fn attack<R: Rules>(seed: u64, lines: usize) -> Vec<u8> {
     let leak = [0, 1, 3, 10][rng.below(4)];
     maker.setup(members, sender, faulty);
     let payloads = [payload, payload ^ 1];
-    let mut attack =
-        Attack { maker: &mut maker, members, faulty, sender, first_group, payloads, active: members, leaving: 0, leak };
+    let mut attack = Attack { maker: &mut maker, members, faulty, sender, first_group, payloads, active: members, leaving: 0, leak };
     attack.open();
     while !attack.maker.is_done() {
         attack.step();

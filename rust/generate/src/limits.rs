@@ -8,9 +8,9 @@ use crate::maker::Maker;
 
 /// The names of the limits.
 pub const LIMITS: &[&str] = &[
-    "pool-512", "pool-513", "record-512", "record-513", "ring-512", "candidates-15", "candidates-16", "candidates-17",
-    "candidates-20", "incomparable", "two-sealed", "two-certificates", "seven-before-six", "bytes-65536",
-    "bytes-65537", "empty-lines", "no-newline", "everyone-leaves",
+    "pool-512", "pool-513", "record-512", "record-513", "ring-512", "candidates-15", "candidates-16", "candidates-17", "candidates-20",
+    "incomparable", "two-sealed", "two-certificates", "seven-before-six", "bytes-65536", "bytes-65537", "empty-lines", "no-newline",
+    "everyone-leaves",
 ];
 
 /// More lines than any schedule has.

@@ -128,8 +128,7 @@ pub fn damaged<R: Rules>(seed: u64, lines: usize) -> Vec<u8> {
     schedule
 }
 
-const NUMBERS: [&str; 12] =
-    ["16", "255", "256", "00", "-1", "+1", "512", "18446744073709551615", "18446744073709551616", "", "1e3", "0x1"];
+const NUMBERS: [&str; 12] = ["16", "255", "256", "00", "-1", "+1", "512", "18446744073709551615", "18446744073709551616", "", "1e3", "0x1"];
 
 fn damage(rng: &mut Rng, schedule: &mut Vec<u8>, place: usize) {
     let place = place.min(schedule.len());

@@ -1,203 +1,192 @@
 //! One controller, over a pool of its own or one that it shares.
 
-use crate::{Unplaced, ViewWord, POOL_WORDS, RECORD};
-
-mod exported {
-    // A slice is a pointer and then a length, an array a pointer. Nothing checks these lines against the Rattle source.
-    extern "C" {
-        pub fn pekdrav_new(fields: *mut u64, ids: *mut u16);
-        pub fn pekdrav_setup(fields: *mut u64, ids: *mut u16, number: u8, members: u16, sender: u8, value: *mut u64) -> u8;
-        pub fn pekdrav_join(fields: *mut u64, value: *mut u64) -> u8;
-        pub fn pekdrav_leave(fields: *mut u64, value: *mut u64) -> u8;
-        pub fn pekdrav_send(fields: *mut u64, payload: u64, value: *mut u64) -> u8;
-        pub fn pekdrav_add(fields: *mut u64, ids: *mut u16, words: *mut u64, line: *const u8, line_len: usize, value: *mut u64) -> u8;
-        pub fn pekdrav_turn(fields: *mut u64, ids: *mut u16, words: *mut u64, value: *mut u64) -> u8;
-        pub fn pekdrav_clear(words: *mut u64);
-        pub fn pekdrav_text(words: *const u64, number: u16, out: *mut u8, out_len: usize) -> usize;
-    }
-}
-
-/// The longest text of a statement: nine fields and sixteen views.
-const TEXT: usize = 256;
-
-/// Statements that controllers signed or were given, each under its number.
-#[derive(Clone)]
-pub struct Pool {
-    words: Box<[u64; POOL_WORDS]>,
-}
-
-impl Default for Pool {
-    fn default() -> Pool {
-        let mut words = Box::new([0; POOL_WORDS]);
-        // SAFETY: the pointer is that of an array of the size that the function writes.
-        unsafe { exported::pekdrav_clear(words.as_mut_ptr()) }
-        Pool { words }
-    }
-}
-
-impl Pool {
-    /// An empty pool.
-    pub fn new() -> Pool {
-        Pool::default()
-    }
-
-    /// The number of the statement that `line` is, which goes to the end if it is not in the pool.
-    pub fn append(&mut self, line: &[u8]) -> Result<u16, Unplaced> {
-        crate::append(&mut self.words, line)
-    }
-
-    /// The text of a statement, if the pool has that number.
-    pub fn text(&self, number: u16) -> Option<Vec<u8>> {
-        let mut out = [0; TEXT];
-        // SAFETY: the pointers are those of arrays of the sizes that are read, or named.
-        let length = unsafe { exported::pekdrav_text(self.words.as_ptr(), number, out.as_mut_ptr(), out.len()) };
-        (length > 0).then(|| out[..length].to_vec())
-    }
-}
-
-/// What a call answers.
-#[derive(Clone, Copy, PartialEq, Eq, Debug)]
-pub enum Answer {
-    Taken,
-    /// The statement's number in the pool; the host sends its text to the others.
-    Signed(u16),
-    Entered(ViewWord),
-    Delivered(u64),
-    Left,
-    Quiet,
-    /// By the number in the table of refusals.
-    Refused(u8),
-}
+use crate::answer::Answer;
+use crate::evidence::Evidence;
+use crate::ffi;
+use crate::pool::Pool;
+use crate::record::Record;
+use crate::statement::Kind;
+use crate::view::{Ring, View, VIEWS};
 
 /// What a controller is bound to.
-#[derive(Clone, Copy, PartialEq, Eq, Debug)]
+#[derive(Clone, Copy, PartialEq, Eq, Hash, Debug)]
 pub enum Binding {
+    /// To nothing yet.
     Unbound,
+    /// To one payload: it acknowledges no other.
     Bound(u64),
+    /// It has seen two payloads, and acknowledges nothing any more.
     Barred,
 }
 
+/// What a controller has beside its record, in the order of `struct pekdrav_fields`.
+#[derive(Clone, PartialEq, Eq, Debug, Default)]
+#[repr(C)]
+pub(crate) struct Fields {
+    ready: u64,
+    number: u64,
+    initial: u64,
+    sender: u64,
+    binding: u64,
+    bound: u64,
+    delivered: u64,
+    join_requested: u64,
+    leave_requested: u64,
+    send_requested: u64,
+    send_payload: u64,
+    reserved_1: u64,
+    entered_count: u64,
+    reserved_2: [u64; 3],
+    entered: [u64; VIEWS],
+}
+
 /// A controller in the memory that the proved calls are lent.
-#[derive(Clone, PartialEq, Eq)]
+///
+/// A refused call leaves it as it was. `==` compares the memory, also words that stand for nothing.
+#[derive(Clone, PartialEq, Eq, Debug)]
 pub struct Controller {
-    fields: [u64; 32],
-    ids: [u16; RECORD],
+    fields: Fields,
+    record: Record,
 }
 
 impl Default for Controller {
     fn default() -> Controller {
-        let mut controller = Controller { fields: [0; 32], ids: [0; RECORD] };
-        // SAFETY: the pointers are those of arrays of the sizes that the function writes.
-        unsafe { exported::pekdrav_new(controller.fields.as_mut_ptr(), controller.ids.as_mut_ptr()) }
+        let mut controller = Controller { fields: Fields::default(), record: Record::default() };
+        ffi::pekdrav_raw_controller_init(&mut controller.fields, &mut controller.record);
         controller
     }
 }
 
+/// Makes a call, which is lent the place of its value.
+fn answered(call: impl FnOnce(&mut u64) -> u8) -> Answer {
+    let mut value = 0;
+    let number = call(&mut value);
+    Answer::told(number, value)
+}
+
+/// The calls.
 impl Controller {
     /// A controller that waits for its setup.
     pub fn new() -> Controller {
         Controller::default()
     }
 
-    /// Makes a call, which writes the value of its answer.
-    fn call(&mut self, make: impl FnOnce(*mut u64, *mut u16, *mut u64) -> u8) -> Answer {
-        let mut value = [0; 1];
-        let answer = make(self.fields.as_mut_ptr(), self.ids.as_mut_ptr(), value.as_mut_ptr());
-        match answer {
-            0 => Answer::Taken,
-            1 => Answer::Signed(value[0] as u16),
-            2 => Answer::Entered(value[0] as ViewWord),
-            3 => Answer::Delivered(value[0]),
-            4 => Answer::Left,
-            5 => Answer::Quiet,
-            _ => Answer::Refused(value[0] as u8),
-        }
-    }
-
     /// Starts controller `number` in the ring of these initial members, bit k for controller k.
     pub fn setup(&mut self, number: u8, members: u16, sender: u8) -> Answer {
-        // SAFETY: the pointers are those of arrays of the sizes that the function uses; so in each call below.
-        self.call(|fields, ids, value| unsafe { exported::pekdrav_setup(fields, ids, number, members, sender, value) })
+        let Controller { fields, record } = self;
+        answered(|value| ffi::pekdrav_raw_controller_setup(fields, record, number, members, sender, value))
     }
 
+    /// Notes that it is to join; a later turn signs that.
     pub fn join(&mut self) -> Answer {
-        // SAFETY: as in `setup`.
-        self.call(|fields, _, value| unsafe { exported::pekdrav_join(fields, value) })
+        answered(|value| ffi::pekdrav_raw_controller_join(&mut self.fields, value))
     }
 
+    /// Notes that it is to leave; a later turn signs that.
     pub fn leave(&mut self) -> Answer {
-        // SAFETY: as in `setup`.
-        self.call(|fields, _, value| unsafe { exported::pekdrav_leave(fields, value) })
+        answered(|value| ffi::pekdrav_raw_controller_leave(&mut self.fields, value))
     }
 
+    /// Notes what the sender is to send; a later turn signs its prepare.
     pub fn send(&mut self, payload: u64) -> Answer {
-        // SAFETY: as in `setup`.
-        self.call(|fields, _, value| unsafe { exported::pekdrav_send(fields, payload, value) })
+        answered(|value| ffi::pekdrav_raw_controller_send(&mut self.fields, payload, value))
     }
 
     /// Adds the statement that `line` is, once the host has checked its signature.
     pub fn add(&mut self, pool: &mut Pool, line: &[u8]) -> Answer {
-        let words = pool.words.as_mut_ptr();
-        // SAFETY: as in `setup`; the line is a slice with its length, the words a pool.
-        self.call(|fields, ids, value| unsafe { exported::pekdrav_add(fields, ids, words, line.as_ptr(), line.len(), value) })
+        let Controller { fields, record } = self;
+        answered(|value| ffi::raw_controller_add(fields, record, pool.words_mut(), line, value))
     }
 
     /// Does the first step that the rules allow.
     pub fn turn(&mut self, pool: &mut Pool) -> Answer {
-        let words = pool.words.as_mut_ptr();
-        // SAFETY: as in `setup`; the words are a pool.
-        self.call(|fields, ids, value| unsafe { exported::pekdrav_turn(fields, ids, words, value) })
+        let Controller { fields, record } = self;
+        answered(|value| ffi::pekdrav_raw_controller_turn(fields, record, pool.words_mut(), value))
+    }
+}
+
+/// What its record shows in its ring, as the functions of [`Record`] tell it.
+impl Controller {
+    /// Who signed a statement of this kind at this view, bit k for controller k.
+    pub fn signers(&self, pool: &Pool, kind: Kind, at: View) -> u32 {
+        self.record.signers(pool, kind, at)
     }
 
+    /// What the record shows.
+    pub fn evidence(&self, pool: &Pool) -> Evidence {
+        self.record.evidence(pool, self.ring())
+    }
+
+    /// What the record shows, in lines, for a service screen.
+    pub fn screen(&self, pool: &Pool) -> String {
+        self.record.screen(pool, self.ring())
+    }
+}
+
+/// What it is now.
+impl Controller {
+    /// Whether a setup was taken.
     pub fn is_set_up(&self) -> bool {
-        self.fields[0] != 0
+        self.fields.ready != 0
     }
 
+    /// Its number in the ring.
     pub fn number(&self) -> u8 {
-        self.fields[1] as u8
+        self.fields.number as u8
     }
 
-    /// The initial view's word.
-    pub fn initial(&self) -> ViewWord {
-        self.fields[2] as ViewWord
+    /// The initial view.
+    pub fn initial(&self) -> View {
+        View::from_word(self.fields.initial)
     }
 
+    /// The sender's number.
     pub fn sender(&self) -> u8 {
-        self.fields[3] as u8
+        self.fields.sender as u8
     }
 
+    /// The initial view and the sender.
+    pub fn ring(&self) -> Ring {
+        Ring { initial: self.initial(), sender: self.sender() }
+    }
+
+    /// What it is bound to.
     pub fn binding(&self) -> Binding {
-        match self.fields[4] {
+        match self.fields.binding {
             0 => Binding::Unbound,
-            1 => Binding::Bound(self.fields[5]),
+            1 => Binding::Bound(self.fields.bound),
             _ => Binding::Barred,
         }
     }
 
+    /// Whether it delivered.
     pub fn delivered(&self) -> bool {
-        self.fields[6] != 0
+        self.fields.delivered != 0
     }
 
+    /// Whether a join was requested.
     pub fn join_requested(&self) -> bool {
-        self.fields[7] != 0
+        self.fields.join_requested != 0
     }
 
+    /// Whether a leave was requested.
     pub fn leave_requested(&self) -> bool {
-        self.fields[8] != 0
+        self.fields.leave_requested != 0
     }
 
     /// The payload that is to be sent.
     pub fn send_requested(&self) -> Option<u64> {
-        (self.fields[9] != 0).then_some(self.fields[10])
+        (self.fields.send_requested != 0).then_some(self.fields.send_payload)
     }
 
-    /// The numbers of its statements in the pool, in order of arrival.
-    pub fn record(&self) -> &[u16] {
-        &self.ids[..usize::from(self.ids[RECORD - 1]).min(RECORD - 1)]
+    /// Its record.
+    pub fn record(&self) -> &Record {
+        &self.record
     }
 
-    /// The words of the views that it entered.
-    pub fn entered(&self) -> Vec<ViewWord> {
-        self.fields[16..].iter().take(self.fields[12] as usize).map(|&word| word as ViewWord).collect()
+    /// The views that it entered.
+    pub fn entered(&self) -> Vec<View> {
+        let entered = self.fields.entered.iter().take(self.fields.entered_count as usize);
+        entered.map(|&word| View::from_word(word)).collect()
     }
 }

@@ -18,7 +18,11 @@ const HEADER: &[u8] = b"line,who,answer,value\n";
 /// A schedule line that reads.
 #[derive(Clone, Copy, PartialEq, Eq, Debug)]
 pub enum Line {
-    Setup { members: Set, sender: u8, faulty: Set },
+    Setup {
+        members: Set,
+        sender: u8,
+        faulty: Set,
+    },
     Join(u8),
     Leave(u8),
     Send(u8, u64),
@@ -188,8 +192,7 @@ impl<R: Rules> Bench<R> {
 
     fn setup(&mut self, members: Set, sender: u8, faulty: Set) -> Outcome {
         // All sixteen judge a setup alike, so the first answer stands for all.
-        let answers: Vec<Answer> =
-            self.seats.iter_mut().map(|seat| seat.controller.setup(members, sender)).collect();
+        let answers: Vec<Answer> = self.seats.iter_mut().map(|seat| seat.controller.setup(members, sender)).collect();
         if answers[0] == Answer::Taken {
             self.faulty = faulty;
             self.ready = true;
@@ -270,11 +273,7 @@ pub fn run(schedule: &[u8]) -> Vec<u8> {
 }
 
 /// The rows of a schedule that `bench` runs; `watch` sees each line that ended, and its row, after it ran.
-pub fn run_watched<R: Rules>(
-    bench: &mut Bench<R>,
-    schedule: &[u8],
-    mut watch: impl FnMut(&Bench<R>, &[u8], &Row),
-) -> Vec<u8> {
+pub fn run_watched<R: Rules>(bench: &mut Bench<R>, schedule: &[u8], mut watch: impl FnMut(&Bench<R>, &[u8], &Row)) -> Vec<u8> {
     let mut out = HEADER.to_vec();
     if schedule.is_empty() || schedule.len() > SCHEDULE_LIMIT {
         Row::UNREADABLE.write_into(&mut out, 0);

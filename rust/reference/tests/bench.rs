@@ -53,7 +53,8 @@ fn last_of(lines: &[String]) -> String {
 #[test]
 fn the_example_of_the_scope_document() {
     let schedule = b"setup,0001,0,0000\nsend,0,7\nturn,0\nturn,0\nturn,0\nturn,0\nturn,0\n";
-    let expected = "line,who,answer,value\n1,0,taken,0\n2,0,taken,0\n3,0,signed,0\n4,0,signed,1\n5,0,signed,2\n6,0,delivered,7\n7,0,quiet,0\n";
+    let expected =
+        "line,who,answer,value\n1,0,taken,0\n2,0,taken,0\n3,0,signed,0\n4,0,signed,1\n5,0,signed,2\n6,0,delivered,7\n7,0,quiet,0\n";
     assert_eq!(text(schedule), expected);
 }
 
@@ -68,7 +69,10 @@ fn refusal_1_setup() {
     // A refused setup leaves the ring without setup, so a later one may be taken.
     assert_eq!(rows(&["setup,0000,0,0000", "turn,0", "setup,0001,0,0000", "turn,0"])[1..], ["0,refused,8", "0,taken,0", "0,quiet,0"]);
     // A second setup neither restarts nor changes who may lie.
-    assert_eq!(rows(&["setup,0001,0,0000", "send,0,1", "turn,0", "setup,0002,1,ffff", "turn,0", JOIN_1])[3..], ["1,refused,1", "0,signed,1", "1,refused,8"]);
+    assert_eq!(
+        rows(&["setup,0001,0,0000", "send,0,1", "turn,0", "setup,0002,1,ffff", "turn,0", JOIN_1])[3..],
+        ["1,refused,1", "0,signed,1", "1,refused,8"]
+    );
 }
 
 #[test]
@@ -248,11 +252,42 @@ fn seven_comes_before_six_and_both_before_four() {
 #[test]
 fn refusal_8_unreadable_lines() {
     let strays = [
-        "", " ", "turn", "turn,", "turn,16", "turn,00", "turn,1,", "turn,1,2", "turn,-1", "turn,1\r", "Turn,1", " turn,1",
-        "join,16", "leave,x", "all,", "all,99999999999999999999", "give,0", "give,0,", "give,0,01",
-        "give,0,18446744073709551616", "give,16,0", "send,0", "send,0,18446744073709551616", "send,0,00", "send,0,1,1",
-        "setup", "setup,0001,0", "setup,001,0,0000", "setup,0001,256,0000", "setup,0001,00,0000", "setup,000A,0,0000",
-        "setup,0001,0,0000,", "setup,00001,0,0000", "lie", "give,0,\0", "turn;0",
+        "",
+        " ",
+        "turn",
+        "turn,",
+        "turn,16",
+        "turn,00",
+        "turn,1,",
+        "turn,1,2",
+        "turn,-1",
+        "turn,1\r",
+        "Turn,1",
+        " turn,1",
+        "join,16",
+        "leave,x",
+        "all,",
+        "all,99999999999999999999",
+        "give,0",
+        "give,0,",
+        "give,0,01",
+        "give,0,18446744073709551616",
+        "give,16,0",
+        "send,0",
+        "send,0,18446744073709551616",
+        "send,0,00",
+        "send,0,1,1",
+        "setup",
+        "setup,0001,0",
+        "setup,001,0,0000",
+        "setup,0001,256,0000",
+        "setup,0001,00,0000",
+        "setup,000A,0,0000",
+        "setup,0001,0,0000,",
+        "setup,00001,0,0000",
+        "lie",
+        "give,0,\0",
+        "turn;0",
     ];
     for stray in strays {
         assert_eq!(last(&[stray]), "16,refused,8", "{stray:?} before setup");
@@ -309,8 +344,8 @@ fn a_last_line_without_newline_is_unreadable() {
 #[test]
 fn a_joined_controller_enters_and_the_row_shows_the_view() {
     let lines = [
-        "setup,0001,0,0000", "send,0,5", "join,1", "turn,1", "all,0", "turn,0", "turn,0", "turn,0", "all,1", "turn,1",
-        "turn,0", "turn,0", "turn,0", "all,1", "turn,1", "turn,0", "all,1", "turn,1",
+        "setup,0001,0,0000", "send,0,5", "join,1", "turn,1", "all,0", "turn,0", "turn,0", "turn,0", "all,1", "turn,1", "turn,0", "turn,0",
+        "turn,0", "all,1", "turn,1", "turn,0", "all,1", "turn,1",
     ];
     let rows = rows(&lines);
     assert_eq!(rows[3], "1,signed,0");
@@ -327,7 +362,10 @@ fn a_joined_controller_enters_and_the_row_shows_the_view() {
 
 #[test]
 fn who_has_left_answers_left() {
-    let lines = ["setup,0003,0,0000", "leave,1", "turn,1", "all,0", "turn,1", "turn,0", "all,0", "all,1", "turn,0", "turn,1", "all,0", "all,1", "turn,0", "turn,1", "turn,1"];
+    let lines = [
+        "setup,0003,0,0000", "leave,1", "turn,1", "all,0", "turn,1", "turn,0", "all,0", "all,1", "turn,0", "turn,1", "all,0", "all,1",
+        "turn,0", "turn,1", "turn,1",
+    ];
     let rows = rows(&lines);
     assert_eq!(rows[2], "1,signed,0");
     assert_eq!(rows[13], "1,signed,6", "{rows:?}");
@@ -342,8 +380,20 @@ fn any_bytes_give_rows() {
         (state >> 33) as usize
     };
     let words: [&[u8]; 14] = [
-        b"setup,000f,0,0008\n", b"turn,0\n", b"all,1\n", b"give,2,", b"lie,", b"join,", b"\n", b"3,3,000f0000,001f0000,0,0,0,0,0\n",
-        b"send,0,9\n", b"leave,2\n", b"\r\n", b"\0", b",", b"4",
+        b"setup,000f,0,0008\n",
+        b"turn,0\n",
+        b"all,1\n",
+        b"give,2,",
+        b"lie,",
+        b"join,",
+        b"\n",
+        b"3,3,000f0000,001f0000,0,0,0,0,0\n",
+        b"send,0,9\n",
+        b"leave,2\n",
+        b"\r\n",
+        b"\0",
+        b",",
+        b"4",
     ];
     for _ in 0..2_000 {
         let mut schedule = Vec::new();

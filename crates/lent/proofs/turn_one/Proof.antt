@@ -42,7 +42,6 @@ use denote.Signature.{Slot, plain}
 use Rattle.pool.specs.Pool.{poolWords}
 use Rattle.engine.specs.declared.Controller.{Controller}
 use Rattle.engine.specs.declared.Outcome.{Outcome}
-use Rattle.engine.specs.declared.Answer.{Answer}
 use Rattle.engine.proofs.Controller.Laws as CT′
 use Rattle.engine.proofs.Outcome as OT
 use Rattle.engine.proofs.Outcome.Laws as OT′

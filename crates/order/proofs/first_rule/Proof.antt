@@ -1,4 +1,3 @@
-use native.Mathlib.Omega.{arith}
 use mathlib.Core.Path.{sym, _∙_}
 use Rattle.evidence.proofs.Reporting.{count-most, length-most}
 use Rattle.order.proofs.Counts.{some-candidate}

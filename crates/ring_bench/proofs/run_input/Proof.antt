@@ -1,7 +1,6 @@
 -- `ring_bench::run_input` lends its two arrays: each count is the length of what is lent.
 -- Assumes nothing.
 use borrow.Author.Needs.{needs}
-use native.Mathlib.Omega.{arith}
 use mathlib.Core.Path.{sym}
 use lib.Seq.{length-take-le}
 use Rattle.ring_bench.proofs.Inputs.{bytes-within, filled-length}

@@ -1,6 +1,6 @@
 use borrow.Author.Needs.{needs}
 use native.Mathlib.Omega.{arith}
-use Rattle.screen.specs.Screen.{conflictLine, greatestWord, line}
+use Rattle.screen.specs.Screen.{conflictLine, greatestWord, lineText}
 use Rattle.statements.specs.Text.{parted}
 use Rattle.screen.proofs.ScreenLaws.{wished-size, candidates-most, views-most, conflict-wrote, lines-wrote}
 use Rattle.views.specs.View.{viewOf}
@@ -8,15 +8,14 @@ use Rattle.screen.proofs.put_evidence.Statement.{statement}
 use Rattle.screen.proofs.put_evidence.Tie as tie
 
 returns : tie.Need-returns
-unfolding conflictLine line parted
-returns c = conflict-wrote (c .before .before .before .before .before .before .before .before .before .before .before .args .e) (c .before .before .before .before .before .before .before .before .before .before .before .args .candidates .now) (c .before .before .before .before .before .before .before .before .before .before .before .args .greatest .now) (c .before .before .before .before .before .before .before .before .put-wished .ensures) (c .before .before .before .before .before .if1 .taken) (c .before .before .put-text .ensures)
+unfolding conflictLine lineText parted
+returns c = conflict-wrote (c .before .before .before .before .before .before .before .before .before .before .before .args .e) (c .before .before .before .before .before .before .before .before .before .before .before .args .candidates .now) (c .before .before .before .before .before .before .before .before .before .before .before .args .greatest .now) (c .before .before .before .before .before .before .before .before .put-wished .ensures) (c .before .before .before .before .before .if1 .taken) (c .before .before .write-text .ensures)
 
 pub put-evidence-spec : {M : Type 1} → statement M
 put-evidence-spec =
     tie.close
     (tie.spec
-    (λ c κs. search needs)
-    (λ c. search needs)
+    (λ c κs. search needs) (λ c. search needs)
     (λ c κs. omega (arith, c .before .before .before .before .before .before .before .before .pre .0, c .before .before .before .before .before .put-wished .ensures .next, c .before .before .before .before .before .put-wished .kept .0, wished-size (viewOf (c .before .before .before .before .before .before .before .before .args .e .wished))))
     (λ c. search needs)
     returns

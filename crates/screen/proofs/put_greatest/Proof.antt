@@ -9,8 +9,7 @@ pub put-greatest-spec : {M : Type 1} → statement M
 put-greatest-spec =
     tie.close
     (tie.spec
+    (λ c. search needs) (λ c κs. search needs)
+    (λ c κs. (c .before .before .before .before .before .before .before .pre .0, omega (arith, c .before .before .before .before .before .before .before .pre .1, c .before .before .before .write-text .ensures .next, c .before .before .before .write-text .kept .0)))
     (λ c. search needs)
-    (λ c κs. search needs)
-    (λ c κs. (c .before .before .before .before .before .before .before .pre .0, omega (arith, c .before .before .before .before .before .before .before .pre .1, c .before .before .before .put-text .ensures .next, c .before .before .before .put-text .kept .0)))
-    (λ c. search needs)
-    (λ c. views-wrote greatestWord _ _ (c .before .before .before .before .before .before .put-text .ensures) (c .before .before .put-views .ensures)))
+    (λ c. views-wrote greatestWord _ _ (c .before .before .before .before .before .before .write-text .ensures) (c .before .before .put-views .ensures)))

@@ -1,7 +1,7 @@
 use borrow.Author.Needs.{needs}
 use native.Mathlib.Omega.{arith}
-use mathlib.Core.Path.{_∙_}
-use Rattle.screen.proofs.ScreenLaws.{words-long, count-most, both, number-wrote}
+use Rattle.text.proofs.Stores.{both}
+use Rattle.screen.proofs.ScreenLaws.{words-long, count-most}
 use Rattle.screen.proofs.put_views.Statement.{statement}
 use Rattle.screen.proofs.put_views.Tie as tie
 
@@ -10,8 +10,8 @@ put-views-spec =
     tie.close
     (tie.spec
     (λ c κs. omega (arith, c .before .before .pre .0, c .before .before .pre .1, count-most (c .before .before .args .n) (c .before .before .pre .0)))
-    (λ c κs. (c .before .before .before .before .before .before .pre .0, omega (arith, c .before .before .before .before .before .before .pre .0, c .before .before .before .before .before .before .pre .1, count-most (c .before .before .before .before .before .before .args .n) (c .before .before .before .before .before .before .pre .0), c .before .before .before .put-number .ensures .0, c .before .before .before .put-number .kept .0)))
+    (λ c κs. (c .before .before .before .before .before .before .pre .0, omega (arith, c .before .before .before .before .before .before .pre .0, c .before .before .before .before .before .before .pre .1, count-most (c .before .before .before .before .before .before .args .n) (c .before .before .before .before .before .before .pre .0), c .before .before .before .put-number .ensures .next, c .before .before .before .put-number .kept .0)))
     (λ c. search needs)
-    (λ c κs. omega (arith, c .before .before .before .before .before .before .before .before .before .before .before .pre .0, c .before .before .before .before .before .before .before .before .before .before .before .pre .1, count-most (c .before .before .before .before .before .before .before .before .before .before .before .args .n) (c .before .before .before .before .before .before .before .before .before .before .before .pre .0), c .before .before .before .before .before .before .before .before .put-number .ensures .0, c .before .before .before .before .before .before .before .before .put-number .kept .0, c .before .before .before .before .put-list .ensures .next, c .before .before .before .before .put-list .kept .0, words-long (c .before .before .before .before .before .before .before .before .before .before .before .args .list .now) (c .before .before .before .before .before .before .before .before .before .before .before .args .n)))
+    (λ c κs. omega (arith, c .before .before .before .before .before .before .before .before .before .before .before .pre .0, c .before .before .before .before .before .before .before .before .before .before .before .pre .1, count-most (c .before .before .before .before .before .before .before .before .before .before .before .args .n) (c .before .before .before .before .before .before .before .before .before .before .before .pre .0), c .before .before .before .before .before .before .before .before .put-number .ensures .next, c .before .before .before .before .before .before .before .before .put-number .kept .0, c .before .before .before .before .put-list .ensures .next, c .before .before .before .before .put-list .kept .0, words-long (c .before .before .before .before .before .before .before .before .before .before .before .args .list .now) (c .before .before .before .before .before .before .before .before .before .before .before .args .n)))
     (λ c. search needs)
-    (λ c. both (number-wrote _ _ _ _ _ (c .before .before .before .before .before .before .before .before .before .before .before .put-number .ensures)) (both (c .before .before .before .before .before .before .before .put-list .ensures) (c .before .before .put-text .ensures))))
+    (λ c. both (c .before .before .before .before .before .before .before .before .before .before .before .put-number .ensures) (both (c .before .before .before .before .before .before .before .put-list .ensures) (c .before .before .write-text .ensures))))

@@ -1,31 +1,15 @@
 use native.Mathlib.Omega.{arith}
-use Rattle.statements.proofs.Whole.{Chain, read-of}
+use Rattle.statements.proofs.Statements.{read-of}
 use borrow.Author.Needs.{needs}
 use Rattle.statements.proofs.read.Statement.{statement}
 use Rattle.statements.proofs.read.Tie as tie
-use Rattle.statements.proofs.read.Reads as reads
-use Rattle.statements.proofs.read.Lts as lts
-use Rattle.statements.proofs.binding_of.Reads as binding-of-reads
-use Rattle.statements.proofs.bounded.Reads as bounded-reads
-use Rattle.statements.proofs.number_at.Reads as number-at-reads
-use Rattle.statements.proofs.view_at.Reads as view-at-reads
-use Rattle.statements.proofs.views_at.Reads as views-at-reads
-use Rattle.text.proofs.read_dec.Reads as read-dec-reads
 
 pub read-spec : {M : Type 1} → statement M
 read-spec =
     tie.close
     (tie.spec
-    (λ c κs. search needs)
-    (λ c κs. search needs)
-    (λ c κs. search needs)
-    (λ c κs. search needs)
-    (λ c κs. search needs)
-    (λ c κs. search needs)
-    (λ c κs. search needs)
-    (λ c κs. search needs)
-    (λ c κs. search needs)
-    (λ c κs. search needs)
+    (λ c κs. search needs) (λ c κs. search needs) (λ c κs. search needs) (λ c κs. search needs) (λ c κs. search needs) (λ c κs. search needs) (λ c κs. search needs)
+    (λ c κs. search needs) (λ c κs. search needs) (λ c κs. search needs)
     (λ c κs. (c .number-at6 .ensures .low, c .number-at6 .ensures .stop))
     (λ c. omega (arith, c .before .before .before .before .before .before .before .before .before .before .before .before .before .bounded .ensures .low))
     (λ c. omega (arith, c .before .before .before .before .before .before .before .before .before .before .before .before .before .number-at .ensures .low))

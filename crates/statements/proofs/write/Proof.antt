@@ -1,94 +1,46 @@
 use native.Mathlib.Omega.{arith}
-use Prim.Native.Nat.{ℕ, _+_, _*_, _≤_}
-use mathlib.Core.Path.{_≡_, refl, sym, ap, _∙_}
-use mathlib.Core.List.{_∷_}
+use Prim.Native.Nat.{ℕ}
+use mathlib.Core.Path.{refl, ap}
 use lib.ListN.{length}
 use Rattle.text.specs.Text.{decText}
-use Rattle.statements.specs.Text.{text}
-use Rattle.statements.specs.Meaning.{stmtOf}
+use Rattle.text.proofs.Stores.{both}
 use Rattle.statements.proofs.Written.{too-many, too-short, wrote, text-size, sizes, all-runs, bool-byte}
 use borrow.Author.Needs.{needs}
 use Rattle.statements.proofs.write.Statement.{statement}
 use Rattle.statements.proofs.write.Tie as tie
-use Rattle.statements.proofs.write.Reads as reads
-use Rattle.statements.proofs.write.Lts as lts
-use Rattle.statements.proofs.number_of.Reads as number-of-reads
-use Rattle.statements.proofs.told_payload.Reads as told-payload-reads
-use Rattle.statements.proofs.put_first.Reads as put-first-reads
-use Rattle.statements.proofs.put_number.Reads as put-number-reads
-use Rattle.statements.proofs.put_second.Reads as put-second-reads
-use Rattle.statements.proofs.put_views.Reads as put-views-reads
-use Rattle.statements.proofs.text_len.Reads as text-len-reads
-
-returns : tie.Need-returns
-returns c = too-many _ _ (c .if1 .taken)
-
-told-payload-requires : tie.Need-told-payload-requires
-told-payload-requires c κs = search needs
-
-cast-text-len : tie.Need-cast-text-len
-cast-text-len c = search needs
-
-cast-text-len-2 : tie.Need-cast-text-len-2
-cast-text-len-2 c = search needs
-
-text-len-requires : tie.Need-text-len-requires
-text-len-requires c κs = search needs
 
 returns-2 : tie.Need-returns-2
-returns-2 c = too-short _ _ (c .before .before .before .before .before .if1 .left) (omega (arith, text-size (c .before .before .before .before .before .before .before .before .args .st), c .before .text-len .ensures, c .if2 .taken, ap (λ (k : ℕ). length (decText k)) (c .before .before .before .before .told-payload .ensures)))
-
-cast-put-first : tie.Need-cast-put-first
-cast-put-first c = search needs
-
-cast-put-first-2 : tie.Need-cast-put-first-2
-cast-put-first-2 c = search needs
+returns-2 c = too-short _ _ (c .before .before .before .before .before .if1 .left) (omega (arith, text-size (c .before .before .before .before .before .before .before .before .args .st), c .before .text-len .ensures, c .if2 .taken, ap (λ (k : ℕ). length (decText k)) (c .before .before .before .before .payload-with .ensures)))
 
 put-first-requires : tie.Need-put-first-requires
-put-first-requires c κs = omega (arith, text-size (c .before .before .before .before .before .before .before .before .before .before .before .before .before .args .st), c .before .before .before .before .before .before .text-len .ensures, c .before .before .before .before .before .if2 .left, ap (λ (k : ℕ). length (decText k)) (c .before .before .before .before .before .before .before .before .before .told-payload .ensures), sizes (c .before .before .before .before .before .before .before .before .before .before .before .before .before .args .st) (c .before .before .before .before .before .before .before .before .before .before .before .before .before .args .out .now) _ _ _ refl refl refl)
-
-number-of-requires : tie.Need-number-of-requires
-number-of-requires c κs = search needs
-
-cast-put-second : tie.Need-cast-put-second
-cast-put-second c = search needs
+put-first-requires c κs = omega (arith, text-size (c .before .before .before .before .before .before .before .before .before .before .before .before .before .args .st), c .before .before .before .before .before .before .text-len .ensures, c .before .before .before .before .before .if2 .left, ap (λ (k : ℕ). length (decText k)) (c .before .before .before .before .before .before .before .before .before .payload-with .ensures), sizes (c .before .before .before .before .before .before .before .before .before .before .before .before .before .args .st) (c .before .before .before .before .before .before .before .before .before .before .before .before .before .args .out .now) _ _ _ refl refl refl)
 
 put-second-requires : tie.Need-put-second-requires
-put-second-requires c κs = omega (arith, text-size (c .before .before .before .before .before .before .before .before .before .before .before .before .before .before .before .before .before .before .before .args .st), c .before .before .before .before .before .before .before .before .before .before .before .before .text-len .ensures, c .before .before .before .before .before .before .before .before .before .before .before .if2 .left, ap (λ (k : ℕ). length (decText k)) (c .before .before .before .before .before .before .before .before .before .before .before .before .before .before .before .told-payload .ensures), sizes (c .before .before .before .before .before .before .before .before .before .before .before .before .before .before .before .before .before .before .before .args .st) (c .before .before .before .before .before .before .before .before .before .before .before .before .before .before .before .before .before .before .before .args .out .now) _ _ _ (c .before .number-of .ensures) (c .before .before .before .before .before .before .before .before .before .before .before .before .before .before .before .told-payload .ensures) (bool-byte (c .before .before .before .before .before .before .before .before .before .before .before .before .before .before .before .before .before .before .before .args .st .stored)), c .before .before .before .before .before .put-first .ensures .0, c .before .before .before .before .before .put-first .kept)
+put-second-requires c κs = omega (arith, text-size (c .before .before .before .before .before .before .before .before .before .before .before .before .before .before .before .before .before .before .before .args .st), c .before .before .before .before .before .before .before .before .before .before .before .before .text-len .ensures, c .before .before .before .before .before .before .before .before .before .before .before .if2 .left, ap (λ (k : ℕ). length (decText k)) (c .before .before .before .before .before .before .before .before .before .before .before .before .before .before .before .payload-with .ensures), sizes (c .before .before .before .before .before .before .before .before .before .before .before .before .before .before .before .before .before .before .before .args .st) (c .before .before .before .before .before .before .before .before .before .before .before .before .before .before .before .before .before .before .before .args .out .now) _ _ _ (c .before .number-of .ensures .0) (c .before .before .before .before .before .before .before .before .before .before .before .before .before .before .before .payload-with .ensures) (bool-byte (c .before .before .before .before .before .before .before .before .before .before .before .before .before .before .before .before .before .before .before .args .st .stored)), c .before .before .before .before .before .put-first .ensures .next, c .before .before .before .before .before .put-first .kept)
 
 put-number-requires : tie.Need-put-number-requires
-put-number-requires c κs = omega (arith, text-size (c .before .before .before .before .before .before .before .before .before .before .before .before .before .before .before .before .before .before .before .before .before .before .before .args .st), c .before .before .before .before .before .before .before .before .before .before .before .before .before .before .before .before .text-len .ensures, c .before .before .before .before .before .before .before .before .before .before .before .before .before .before .before .if2 .left, ap (λ (k : ℕ). length (decText k)) (c .before .before .before .before .before .before .before .before .before .before .before .before .before .before .before .before .before .before .before .told-payload .ensures), sizes (c .before .before .before .before .before .before .before .before .before .before .before .before .before .before .before .before .before .before .before .before .before .before .before .args .st) (c .before .before .before .before .before .before .before .before .before .before .before .before .before .before .before .before .before .before .before .before .before .before .before .args .out .now) _ _ _ (c .before .before .before .before .before .number-of .ensures) (c .before .before .before .before .before .before .before .before .before .before .before .before .before .before .before .before .before .before .before .told-payload .ensures) (bool-byte (c .before .before .before .before .before .before .before .before .before .before .before .before .before .before .before .before .before .before .before .before .before .before .before .args .st .stored)), c .before .before .before .before .before .before .before .before .before .put-first .ensures .0, c .before .before .before .before .before .before .before .before .before .put-first .kept, c .before .before .before .put-second .ensures .0, c .before .before .before .put-second .kept)
+put-number-requires c κs = omega (arith, text-size (c .before .before .before .before .before .before .before .before .before .before .before .before .before .before .before .before .before .before .before .before .before .before .before .args .st), c .before .before .before .before .before .before .before .before .before .before .before .before .before .before .before .before .text-len .ensures, c .before .before .before .before .before .before .before .before .before .before .before .before .before .before .before .if2 .left, ap (λ (k : ℕ). length (decText k)) (c .before .before .before .before .before .before .before .before .before .before .before .before .before .before .before .before .before .before .before .payload-with .ensures), sizes (c .before .before .before .before .before .before .before .before .before .before .before .before .before .before .before .before .before .before .before .before .before .before .before .args .st) (c .before .before .before .before .before .before .before .before .before .before .before .before .before .before .before .before .before .before .before .before .before .before .before .args .out .now) _ _ _ (c .before .before .before .before .before .number-of .ensures .0) (c .before .before .before .before .before .before .before .before .before .before .before .before .before .before .before .before .before .before .before .payload-with .ensures) (bool-byte (c .before .before .before .before .before .before .before .before .before .before .before .before .before .before .before .before .before .before .before .before .before .before .before .args .st .stored)), c .before .before .before .before .before .before .before .before .before .put-first .ensures .next, c .before .before .before .before .before .before .before .before .before .put-first .kept, c .before .before .before .put-second .ensures .next, c .before .before .before .put-second .kept)
 
 put-views-requires : tie.Need-put-views-requires
-put-views-requires c κs = (c .before .before .before .before .before .before .before .before .before .before .before .before .before .before .before .before .before .before .before .before .before .before .before .before .if1 .left, omega (arith, text-size (c .before .before .before .before .before .before .before .before .before .before .before .before .before .before .before .before .before .before .before .before .before .before .before .before .before .before .before .args .st), c .before .before .before .before .before .before .before .before .before .before .before .before .before .before .before .before .before .before .before .before .text-len .ensures, c .before .before .before .before .before .before .before .before .before .before .before .before .before .before .before .before .before .before .before .if2 .left, ap (λ (k : ℕ). length (decText k)) (c .before .before .before .before .before .before .before .before .before .before .before .before .before .before .before .before .before .before .before .before .before .before .before .told-payload .ensures), sizes (c .before .before .before .before .before .before .before .before .before .before .before .before .before .before .before .before .before .before .before .before .before .before .before .before .before .before .before .args .st) (c .before .before .before .before .before .before .before .before .before .before .before .before .before .before .before .before .before .before .before .before .before .before .before .before .before .before .before .args .out .now) _ _ _ (c .before .before .before .before .before .before .before .before .before .number-of .ensures) (c .before .before .before .before .before .before .before .before .before .before .before .before .before .before .before .before .before .before .before .before .before .before .before .told-payload .ensures) (bool-byte (c .before .before .before .before .before .before .before .before .before .before .before .before .before .before .before .before .before .before .before .before .before .before .before .before .before .before .before .args .st .stored)), c .before .before .before .before .before .before .before .before .before .before .before .before .before .put-first .ensures .0, c .before .before .before .before .before .before .before .before .before .before .before .before .before .put-first .kept, c .before .before .before .before .before .before .before .put-second .ensures .0, c .before .before .before .before .before .before .before .put-second .kept, c .before .before .before .put-number .ensures .0, c .before .before .before .put-number .kept))
-
-same-length : tie.Need-same-length
-same-length c = search needs
+put-views-requires c κs = (c .before .before .before .before .before .before .before .before .before .before .before .before .before .before .before .before .before .before .before .before .before .before .before .before .if1 .left, omega (arith, text-size (c .before .before .before .before .before .before .before .before .before .before .before .before .before .before .before .before .before .before .before .before .before .before .before .before .before .before .before .args .st), c .before .before .before .before .before .before .before .before .before .before .before .before .before .before .before .before .before .before .before .before .text-len .ensures, c .before .before .before .before .before .before .before .before .before .before .before .before .before .before .before .before .before .before .before .if2 .left, ap (λ (k : ℕ). length (decText k)) (c .before .before .before .before .before .before .before .before .before .before .before .before .before .before .before .before .before .before .before .before .before .before .before .payload-with .ensures), sizes (c .before .before .before .before .before .before .before .before .before .before .before .before .before .before .before .before .before .before .before .before .before .before .before .before .before .before .before .args .st) (c .before .before .before .before .before .before .before .before .before .before .before .before .before .before .before .before .before .before .before .before .before .before .before .before .before .before .before .args .out .now) _ _ _ (c .before .before .before .before .before .before .before .before .before .number-of .ensures .0) (c .before .before .before .before .before .before .before .before .before .before .before .before .before .before .before .before .before .before .before .before .before .before .before .payload-with .ensures) (bool-byte (c .before .before .before .before .before .before .before .before .before .before .before .before .before .before .before .before .before .before .before .before .before .before .before .before .before .before .before .args .st .stored)), c .before .before .before .before .before .before .before .before .before .before .before .before .before .put-first .ensures .next, c .before .before .before .before .before .before .before .before .before .before .before .before .before .put-first .kept, c .before .before .before .before .before .before .before .put-second .ensures .next, c .before .before .before .before .before .before .before .put-second .kept, c .before .before .before .put-number .ensures .next, c .before .before .before .put-number .kept))
 
 returns-3 : tie.Need-returns-3
 returns-3 c = wrote _ _ _ _ (c .before .before .before .before .before .before .before .before .before .before .before .before .before .before .before .before .before .before .before .before .before .before .before .before .before .before .before .if1 .left)
-    (omega (arith, text-size (c .before .before .before .before .before .before .before .before .before .before .before .before .before .before .before .before .before .before .before .before .before .before .before .before .before .before .before .before .before .before .args .st), c .before .before .before .before .before .before .before .before .before .before .before .before .before .before .before .before .before .before .before .before .before .before .before .text-len .ensures, c .before .before .before .before .before .before .before .before .before .before .before .before .before .before .before .before .before .before .before .before .before .before .if2 .left, ap (λ (k : ℕ). length (decText k)) (c .before .before .before .before .before .before .before .before .before .before .before .before .before .before .before .before .before .before .before .before .before .before .before .before .before .before .told-payload .ensures)))
-    (omega (arith, sizes (c .before .before .before .before .before .before .before .before .before .before .before .before .before .before .before .before .before .before .before .before .before .before .before .before .before .before .before .before .before .before .args .st) (c .before .before .before .before .before .before .before .before .before .before .before .before .before .before .before .before .before .before .before .before .before .before .before .before .before .before .before .before .before .before .args .out .now) _ _ _ (c .before .before .before .before .before .before .before .before .before .before .before .before .number-of .ensures) (c .before .before .before .before .before .before .before .before .before .before .before .before .before .before .before .before .before .before .before .before .before .before .before .before .before .before .told-payload .ensures) (bool-byte (c .before .before .before .before .before .before .before .before .before .before .before .before .before .before .before .before .before .before .before .before .before .before .before .before .before .before .before .before .before .before .args .st .stored)), c .before .before .before .before .before .before .before .before .before .before .before .before .before .before .before .before .put-first .ensures .0, c .before .before .before .before .before .before .before .before .before .before .put-second .ensures .0, c .before .before .before .before .before .before .put-number .ensures .0, c .before .before .put-views .ensures .0))
-    (c .before .before .put-views .ensures .1 ∙ rw (c .before .before .before .before .before .before .put-number .ensures .1) (rw (c .before .before .before .before .before .before .before .before .before .before .put-second .ensures .1) (rw (c .before .before .before .before .before .before .before .before .before .before .before .before .before .before .before .before .put-first .ensures .1)
-    (all-runs (c .before .before .before .before .before .before .before .before .before .before .before .before .before .before .before .before .before .before .before .before .before .before .before .before .before .before .before .before .before .before .args .st) (c .before .before .before .before .before .before .before .before .before .before .before .before .before .before .before .before .before .before .before .before .before .before .before .before .before .before .before .before .before .before .args .out .now) _ _ _ (c .before .before .before .before .before .before .before .before .before .before .before .before .number-of .ensures) (c .before .before .before .before .before .before .before .before .before .before .before .before .before .before .before .before .before .before .before .before .before .before .before .before .before .before .told-payload .ensures) (bool-byte (c .before .before .before .before .before .before .before .before .before .before .before .before .before .before .before .before .before .before .before .before .before .before .before .before .before .before .before .before .before .before .args .st .stored)) _ _ _ (c .before .before .before .before .before .before .before .before .before .before .before .before .before .before .before .before .put-first .ensures .0) (c .before .before .before .before .before .before .before .before .before .before .put-second .ensures .0) (c .before .before .before .before .before .before .put-number .ensures .0)))))
+    (omega (arith, text-size (c .before .before .before .before .before .before .before .before .before .before .before .before .before .before .before .before .before .before .before .before .before .before .before .before .before .before .before .before .before .before .args .st), c .before .before .before .before .before .before .before .before .before .before .before .before .before .before .before .before .before .before .before .before .before .before .before .text-len .ensures, c .before .before .before .before .before .before .before .before .before .before .before .before .before .before .before .before .before .before .before .before .before .before .if2 .left, ap (λ (k : ℕ). length (decText k)) (c .before .before .before .before .before .before .before .before .before .before .before .before .before .before .before .before .before .before .before .before .before .before .before .before .before .before .payload-with .ensures)))
+    (all-runs (c .before .before .before .before .before .before .before .before .before .before .before .before .before .before .before .before .before .before .before .before .before .before .before .before .before .before .before .before .before .before .args .st) (c .before .before .before .before .before .before .before .before .before .before .before .before .before .before .before .before .before .before .before .before .before .before .before .before .before .before .before .before .before .before .args .out .now) _ _ _ (c .before .before .before .before .before .before .before .before .before .before .before .before .number-of .ensures .0) (c .before .before .before .before .before .before .before .before .before .before .before .before .before .before .before .before .before .before .before .before .before .before .before .before .before .before .payload-with .ensures) (bool-byte (c .before .before .before .before .before .before .before .before .before .before .before .before .before .before .before .before .before .before .before .before .before .before .before .before .before .before .before .before .before .before .args .st .stored)) _ _ (both (c .before .before .before .before .before .before .before .before .before .before .before .before .before .before .before .before .put-first .ensures) (both (c .before .before .before .before .before .before .before .before .before .before .put-second .ensures) (both (c .before .before .before .before .before .before .put-number .ensures) (c .before .before .put-views .ensures .1)))))
 
 pub write-spec : {M : Type 1} → statement M
 write-spec =
     tie.close
     (tie.spec
-    returns
-    told-payload-requires
-    cast-text-len
-    cast-text-len-2
-    text-len-requires
+    (λ c. too-many _ _ (c .if1 .taken))
+    (λ c κs. search needs) (λ c. search needs) (λ c. search needs) (λ c κs. search needs)
     returns-2
-    cast-put-first
-    cast-put-first-2
+    (λ c. search needs) (λ c. search needs)
     put-first-requires
-    number-of-requires
-    cast-put-second
+    (λ c κs. search needs) (λ c. search needs)
     put-second-requires
     put-number-requires
     put-views-requires
-    same-length
+    (λ c. search needs)
     returns-3)

@@ -4,14 +4,5 @@ use borrow.Author.Needs.{needs}
 use Rattle.text.proofs.comma_at.Statement.{statement}
 use Rattle.text.proofs.comma_at.Tie as tie
 
-shared-slice-read-result : tie.Need-shared-slice-read-result
-shared-slice-read-result c = search needs
-
-returns : tie.Need-returns
-returns c = search needs
-
-returns-2 : tie.Need-returns-2
-returns-2 c = simp (List·getD-eq-default (c .before .args .s .now) 0 (c .if1 .left))
-
 pub comma-at-spec : {M : Type 1} → statement M
-comma-at-spec = tie.close (tie.spec shared-slice-read-result returns returns-2)
+comma-at-spec = tie.close (tie.spec (λ c. search needs) (λ c. search needs) (λ c. simp (List·getD-eq-default (c .before .args .s .now) 0 (c .if1 .left))))

@@ -15,48 +15,13 @@ Inv-loop s at digits end i₀ acc₀ i acc = (at ≤ i) × (i ≤ end) × (acc <
 abbrev μ-loop : tie.MeasureT-loop
 μ-loop s at digits end i₀ acc₀ i acc = end - i
 
-room-requires : tie.Need-room-requires Inv-loop μ-loop
-room-requires c κs = search needs
-
 returns : tie.Need-returns Inv-loop μ-loop
 unfolding hexAt
 returns c = sym (hex-room (c .before .before .before .args .digits) (c .before .before .before .args .s .now) (c .before .before .before .args .at) 0 (omega (arith, c .if1 .taken, c .before .room .ensures)))
 
-add-end : tie.Need-add-end Inv-loop μ-loop
-add-end c = omega (arith, c .if1 .left, c .before .room .ensures)
-
-loop-holds : tie.Need-loop-holds Inv-loop μ-loop
-loop-holds c = (omega arith, omega arith, let e : c .before .before .before .args .at - c .before .before .before .args .at ≡ 0 = omega arith in rw e (omega arith), let e : c .before .before .before .args .at + c .before .before .before .args .digits - c .before .before .before .args .at ≡ c .before .before .before .args .digits = omega arith in rw e)
-
-shared-slice-read-hex-value : tie.Need-shared-slice-read-hex-value Inv-loop μ-loop
-shared-slice-read-hex-value c = omega (arith, c .before .loop-test .taken, c .before .before .before .if1 .left, c .before .before .before .before .room .ensures)
-
-hex-value-requires : tie.Need-hex-value-requires Inv-loop μ-loop
-hex-value-requires c κs = search needs
-
 returns-2 : tie.Need-returns-2 Inv-loop μ-loop
 unfolding hexAt
 returns-2 c = sym (c .before .before .before .before .loop .inv .3 ∙ hex-stop (c .before .before .before .before .before .before .before .before .args .s .now) (c .before .before .before .before .loop .i) (c .before .before .before .before .loop .acc) (omega (arith, c .before .before .before .loop-test .taken, c .before .before .before .before .before .if1 .left, c .before .before .before .before .before .before .room .ensures)) _ (omega (arith, c .before .before .before .loop-test .taken)) (omega (arith, c .before .hex-value .ensures, c .if2 .taken)))
-
-mul-acc : tie.Need-mul-acc Inv-loop μ-loop
-mul-acc c = omega (arith, hex-small (c .before .before .before .before .loop .acc) (c .before .before .before .before .loop .i - c .before .before .before .before .before .before .before .before .args .at) (c .before .before .before .before .loop .inv .2) (omega (arith, c .before .before .before .loop-test .taken, c .before .before .before .before .before .before .before .before .pre, c .before .before .before .before .loop .inv .0)))
-
-add-acc : tie.Need-add-acc Inv-loop μ-loop
-add-acc c = omega (arith, c .if2 .left, hex-small (c .before .before .before .before .loop .acc) (c .before .before .before .before .loop .i - c .before .before .before .before .before .before .before .before .args .at) (c .before .before .before .before .loop .inv .2) (omega (arith, c .before .before .before .loop-test .taken, c .before .before .before .before .before .before .before .before .pre, c .before .before .before .before .loop .inv .0)))
-
-add-i : tie.Need-add-i Inv-loop μ-loop
-add-i c = search needs
-
-loop-less : tie.Need-loop-less Inv-loop μ-loop
-loop-less c = search needs
-
-loop-again : tie.Need-loop-again Inv-loop μ-loop
-loop-again c = (
-  omega (arith, c .before .before .before .before .loop .inv .0),
-  omega (arith, c .before .before .before .loop-test .taken),
-  hex-more (c .before .before .before .before .before .before .before .before .args .at) (c .before .before .before .before .loop .i) (c .before .before .before .before .loop .acc) (c .before .hex-value .result) (c .before .before .before .before .loop .inv .2) (omega (arith, c .if2 .left)) (c .before .before .before .before .loop .inv .0),
-  c .before .before .before .before .loop .inv .3 ∙ hex-go (c .before .before .before .before .before .before .before .before .args .s .now) (c .before .before .before .before .loop .i) (c .before .before .before .before .loop .acc) (omega (arith, c .before .before .before .loop-test .taken, c .before .before .before .before .before .if1 .left, c .before .before .before .before .before .before .room .ensures)) _ (omega (arith, c .before .before .before .loop-test .taken)) (omega (arith, c .before .hex-value .ensures, c .if2 .left)) ∙ (let e : c .before .before .before .before .before .before .before .before .args .at + c .before .before .before .before .before .before .before .before .args .digits - c .before .before .before .before .loop .i - 1 ≡ c .before .before .before .before .before .before .before .before .args .at + c .before .before .before .before .before .before .before .before .args .digits - (c .before .before .before .before .loop .i + 1) = omega arith in rw (e, c .before .hex-value .ensures)),
-)
 
 returns-3 : tie.Need-returns-3 Inv-loop μ-loop
 unfolding hexAt
@@ -68,16 +33,20 @@ read-hex-spec =
     (tie.spec
     Inv-loop
     μ-loop
-    room-requires
+    (λ c κs. search needs)
     returns
-    add-end
-    loop-holds
-    shared-slice-read-hex-value
-    hex-value-requires
+    (λ c. omega (arith, c .if1 .left, c .before .room .ensures))
+    (λ c. (omega arith, omega arith, let e : c .before .before .before .args .at - c .before .before .before .args .at ≡ 0 = omega arith in rw e (omega arith), let e : c .before .before .before .args .at + c .before .before .before .args .digits - c .before .before .before .args .at ≡ c .before .before .before .args .digits = omega arith in rw e))
+    (λ c. omega (arith, c .before .loop-test .taken, c .before .before .before .if1 .left, c .before .before .before .before .room .ensures))
+    (λ c κs. search needs)
     returns-2
-    mul-acc
-    add-acc
-    add-i
-    loop-less
-    loop-again
+    (λ c. omega (arith, hex-small (c .before .before .before .before .loop .acc) (c .before .before .before .before .loop .i - c .before .before .before .before .before .before .before .before .args .at) (c .before .before .before .before .loop .inv .2) (omega (arith, c .before .before .before .loop-test .taken, c .before .before .before .before .before .before .before .before .pre, c .before .before .before .before .loop .inv .0))))
+    (λ c. omega (arith, c .if2 .left, hex-small (c .before .before .before .before .loop .acc) (c .before .before .before .before .loop .i - c .before .before .before .before .before .before .before .before .args .at) (c .before .before .before .before .loop .inv .2) (omega (arith, c .before .before .before .loop-test .taken, c .before .before .before .before .before .before .before .before .pre, c .before .before .before .before .loop .inv .0))))
+    (λ c. search needs) (λ c. search needs)
+    (λ c. (
+      omega (arith, c .before .before .before .before .loop .inv .0),
+      omega (arith, c .before .before .before .loop-test .taken),
+      hex-more (c .before .before .before .before .before .before .before .before .args .at) (c .before .before .before .before .loop .i) (c .before .before .before .before .loop .acc) (c .before .hex-value .result) (c .before .before .before .before .loop .inv .2) (omega (arith, c .if2 .left)) (c .before .before .before .before .loop .inv .0),
+      c .before .before .before .before .loop .inv .3 ∙ hex-go (c .before .before .before .before .before .before .before .before .args .s .now) (c .before .before .before .before .loop .i) (c .before .before .before .before .loop .acc) (omega (arith, c .before .before .before .loop-test .taken, c .before .before .before .before .before .if1 .left, c .before .before .before .before .before .before .room .ensures)) _ (omega (arith, c .before .before .before .loop-test .taken)) (omega (arith, c .before .hex-value .ensures, c .if2 .left)) ∙ (let e : c .before .before .before .before .before .before .before .before .args .at + c .before .before .before .before .before .before .before .before .args .digits - c .before .before .before .before .loop .i - 1 ≡ c .before .before .before .before .before .before .before .before .args .at + c .before .before .before .before .before .before .before .before .args .digits - (c .before .before .before .before .loop .i + 1) = omega arith in rw (e, c .before .hex-value .ensures)),
+    ))
     returns-3)

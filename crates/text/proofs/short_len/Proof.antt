@@ -5,17 +5,5 @@ use Rattle.text.proofs.Steps.{two-long, three-long, four-long}
 use Rattle.text.proofs.short_len.Statement.{statement}
 use Rattle.text.proofs.short_len.Tie as tie
 
-returns : tie.Need-returns
-returns c = sym (one-long _ (c .if1 .taken))
-
-returns-2 : tie.Need-returns-2
-returns-2 c = sym (two-long _ (c .before .if1 .left) (c .if2 .taken))
-
-returns-3 : tie.Need-returns-3
-returns-3 c = sym (three-long _ (c .before .if2 .left) (c .if3 .taken))
-
-returns-4 : tie.Need-returns-4
-returns-4 c = sym (four-long _ (c .if3 .left) (c .before .before .before .pre))
-
 pub short-len-spec : {M : Type 1} → statement M
-short-len-spec = tie.close (tie.spec returns returns-2 returns-3 returns-4)
+short-len-spec = tie.close (tie.spec (λ c. sym (one-long _ (c .if1 .taken))) (λ c. sym (two-long _ (c .before .if1 .left) (c .if2 .taken))) (λ c. sym (three-long _ (c .before .if2 .left) (c .if3 .taken))) (λ c. sym (four-long _ (c .if3 .left) (c .before .before .before .pre))))

@@ -2,7 +2,8 @@
 use borrow.Author.Needs.{needs}
 use native.Mathlib.Omega.{arith}
 use Prim.Native.Nat.{_+_, _-_, _≤_}
-use mathlib.Core.Path.{refl}
+use mathlib.Core.Path.{refl, sym, ap}
+use Rattle.text.proofs.Hex.{hex-length}
 use Rattle.text.proofs.Stores.{HexLeft, hex-first, hex-step-back, hex-length-kept, hex-done}
 use Rattle.text.proofs.write_hex.Statement.{statement}
 use Rattle.text.proofs.write_hex.Tie as tie
@@ -13,45 +14,17 @@ Inv-loop out₀ at v digits end i₀ x₀ out i x = (at ≤ i) × (i ≤ at + di
 abbrev μ-loop : tie.MeasureT-loop
 μ-loop out₀ at v digits end i₀ x₀ out i x = i - at
 
-add-end : tie.Need-add-end Inv-loop μ-loop
-add-end c = search needs
-
-loop-holds : tie.Need-loop-holds Inv-loop μ-loop
-loop-holds c = (omega arith, omega arith, hex-first _ _ _ _ _ refl)
-
-sub-i : tie.Need-sub-i Inv-loop μ-loop
-sub-i c = search needs
-
-glyph-of-requires : tie.Need-glyph-of-requires Inv-loop μ-loop
-glyph-of-requires c κs = search needs
-
-slice-write-out : tie.Need-slice-write-out Inv-loop μ-loop
-slice-write-out c = omega (arith, c .before .before .before .before .pre, c .before .before .loop .inv .1, hex-length-kept _ _ _ _ _ _ _ (c .before .before .loop .inv .2))
-
-loop-less : tie.Need-loop-less Inv-loop μ-loop
-loop-less c = search needs
-
-loop-again : tie.Need-loop-again Inv-loop μ-loop
-loop-again c = (omega arith, omega arith, rw (c .glyph-of .ensures) (hex-step-back _ _ _ _ _ _ _ (c .before .before .loop .inv .2) (c .before .loop-test .taken)))
-
-same-length : tie.Need-same-length Inv-loop μ-loop
-same-length c = hex-length-kept _ _ _ _ _ _ _ (c .before .loop .inv .2)
-
-returns : tie.Need-returns Inv-loop μ-loop
-returns c = (refl, hex-done _ _ _ _ _ _ _ (c .before .loop .inv .2) (omega (arith, c .before .loop .inv .0, c .loop-test .left)))
-
 pub write-hex-spec : {M : Type 1} → statement M
 write-hex-spec =
     tie.close
     (tie.spec
     Inv-loop
     μ-loop
-    add-end
-    loop-holds
-    sub-i
-    glyph-of-requires
-    slice-write-out
-    loop-less
-    loop-again
-    same-length
-    returns)
+    (λ c. search needs)
+    (λ c. (omega arith, omega arith, hex-first _ _ _ _ _ refl))
+    (λ c. search needs) (λ c κs. search needs)
+    (λ c. omega (arith, c .before .before .before .before .pre, c .before .before .loop .inv .1, hex-length-kept _ _ _ _ _ _ _ (c .before .before .loop .inv .2)))
+    (λ c. search needs)
+    (λ c. (omega arith, omega arith, rw (c .glyph-of .ensures) (hex-step-back _ _ _ _ _ _ _ (c .before .before .loop .inv .2) (c .before .loop-test .taken))))
+    (λ c. hex-length-kept _ _ _ _ _ _ _ (c .before .loop .inv .2))
+    (λ c. record { next = ap (λ k. c .before .before .before .args .at + k) (sym (hex-length (c .before .before .before .args .digits) (c .before .before .before .args .v))); is = hex-done _ _ _ _ _ _ _ (c .before .loop .inv .2) (omega (arith, c .before .loop .inv .0, c .loop-test .left)) }))

@@ -3,47 +3,20 @@ use mathlib.Core.Path.{refl, sym, _∙_}
 use mathlib.Core.Logic.{⊎-elim, inl, inr}
 use Prim.Native.Nat.{_-_}
 use lib.ListN.{length}
-use Rattle.bench.specs.Running.{benchIs, Kept, Fulls, Going}
+use Rattle.bench.specs.Running.{benchIs, BenchKept, Fulls, RunSoFar}
 use Rattle.bench.proofs.Runs.{kept-first, going-first, fulls-none, next-within, next-moves, less, room, room-body, line-fits, line-seat, call-on, idle-on, run-less, run-on, run-allowed, run-fresh, unread-on, going-long, going-end}
 use borrow.Author.Needs.{needs}
 use Rattle.bench.proofs.lines.run_lines.Statement.{statement}
 use Rattle.bench.proofs.lines.run_lines.Tie as tie
 
 abbrev Inv-loop : tie.InvT-loop
-Inv-loop schedule rows₀ seats₀ records₀ full₀ words₀ place₀ rows seats records full words place = Kept words seats records × Going schedule place (benchIs (place .setting) words seats records) rows₀ rows × Fulls records full
+Inv-loop schedule rows₀ seats₀ records₀ full₀ words₀ place₀ rows seats records full words place = BenchKept words seats records × RunSoFar schedule place (benchIs (place .setting) words seats records) rows₀ rows × Fulls records full
 
 abbrev μ-loop : tie.MeasureT-loop
 μ-loop schedule rows₀ seats₀ records₀ full₀ words₀ place₀ rows seats records full words place = length schedule - place .at
 
-new-requires : tie.Need-new-requires Inv-loop μ-loop
-new-requires c κs = search needs
-
-clear-requires : tie.Need-clear-requires Inv-loop μ-loop
-clear-requires c κs = search needs
-
-first-requires : tie.Need-first-requires Inv-loop μ-loop
-first-requires c κs = search needs
-
 loop-holds : tie.Need-loop-holds Inv-loop μ-loop
 loop-holds c = (kept-first _ (c .before .before .before .new .ensures) 16 513 refl _ (c .before .clear .ensures .len), going-first _ (c .before .before .before .new .ensures) 16 513 refl _ (c .before .clear .ensures .len) _ _ _ (c .first .ensures), fulls-none _ 16 refl)
-
-sub-read-line : tie.Need-sub-read-line Inv-loop μ-loop
-sub-read-line c = omega (arith, c .before .before .loop .inv .1 .within)
-
-part-read-line-start : tie.Need-part-read-line-start Inv-loop μ-loop
-part-read-line-start c = omega (arith, c .before .before .loop .inv .1 .within)
-
-part-read-line-end : tie.Need-part-read-line-end Inv-loop μ-loop
-part-read-line-end c = omega (arith, c .before .before .loop .inv .1 .within)
-
-read-line-requires : tie.Need-read-line-requires Inv-loop μ-loop
-read-line-requires c κs = search needs
-
-enum-known-parsed : tie.Need-enum-known-parsed Inv-loop μ-loop
-enum-known-parsed c = search needs
-
-enum-told : tie.Need-enum-told Inv-loop μ-loop
-enum-told c = search needs
 
 put-line-requires : tie.Need-put-line-requires Inv-loop μ-loop
 put-line-requires c κs = (room (c .before .before .before .before .before .before .before .before .before .before .before .before .before .before .args .schedule .now) (c .before .before .before .before .before .before .before .loop .place) _ (c .before .before .before .read-line .ensures) (c .before .before .before .before .before .before .before .loop .inv .1) (c .before .before .before .before .before .before .before .before .before .before .before .before .before .before .pre) (c .before .before .before .before .before .if1 .taken), omega arith)
@@ -53,12 +26,6 @@ loop-less c = less (c .before .before .before .before .before .before .before .b
 
 loop-again : tie.Need-loop-again Inv-loop μ-loop
 loop-again c = (c .before .before .before .before .before .before .before .before .before .before .loop .inv .0, unread-on (c .before .before .before .before .before .before .before .before .before .before .before .before .before .before .before .before .before .args .schedule .now) (c .before .before .before .before .before .before .before .before .before .before .loop .place) _ (c .before .before .before .before .before .before .read-line .ensures) (c .before .before .before .before .enum-told .given .1) (c .before .before .before .before .before .before .before .before .before .before .loop .inv .0) (c .before .before .before .before .before .before .before .before .before .before .loop .inv .1) (c .before .before .before .before .before .before .before .before .if1 .taken) (c .before .before .put-line .ensures), c .before .before .before .before .before .before .before .before .before .before .loop .inv .2)
-
-seat-of-requires : tie.Need-seat-of-requires Inv-loop μ-loop
-seat-of-requires c κs = search needs
-
-is-call-requires : tie.Need-is-call-requires Inv-loop μ-loop
-is-call-requires c κs = search needs
 
 mul-named : tie.Need-mul-named Inv-loop μ-loop
 mul-named c = omega (arith, line-seat (c .before .before .before .before .before .before .before .before .before .before .before .before .before .before .before .before .before .args .schedule .now) (c .before .before .before .before .before .before .before .before .before .before .loop .place) _ (c .before .before .before .before .before .before .read-line .ensures) _ (c .before .before .before .before .parsed .given .1) (c .before .before .seat-of .ensures))
@@ -75,17 +42,11 @@ index-1-call c = line-seat (c .before .before .before .before .before .before .b
 call-requires : tie.Need-call-requires Inv-loop μ-loop
 call-requires c κs = (record { distinct = c .before .before .before .before .before .before .before .before .before .before .before .before .before .loop .inv .0 .distinct; whole = c .before .before .before .before .before .before .before .before .before .before .before .before .before .loop .inv .0 .whole _ (line-seat (c .before .before .before .before .before .before .before .before .before .before .before .before .before .before .before .before .before .before .before .before .args .schedule .now) (c .before .before .before .before .before .before .before .before .before .before .before .before .before .loop .place) _ (c .before .before .before .before .before .before .before .before .before .read-line .ensures) _ (c .before .before .before .before .before .before .before .parsed .given .1) (c .before .before .before .before .before .seat-of .ensures)) }, sym (c .before .before .before .before .is-call .ensures) ∙ c .before .before .before .if2 .taken)
 
-changes-requires : tie.Need-changes-requires Inv-loop μ-loop
-changes-requires c κs = search needs
-
 mul-seats : tie.Need-mul-seats Inv-loop μ-loop
 mul-seats c = omega (arith, line-seat (c .before .before .before .before .before .before .before .before .before .before .before .before .before .before .before .before .before .before .before .before .before .before .before .before .args .schedule .now) (c .before .before .before .before .before .before .before .before .before .before .before .before .before .before .before .before .before .loop .place) _ (c .before .before .before .before .before .before .before .before .before .before .before .before .before .read-line .ensures) _ (c .before .before .before .before .before .before .before .before .before .before .before .parsed .given .1) (c .before .before .before .before .before .before .before .before .before .seat-of .ensures))
 
 array-set-from-seats : tie.Need-array-set-from-seats Inv-loop μ-loop
 array-set-from-seats c = line-seat (c .before .before .before .before .before .before .before .before .before .before .before .before .before .before .before .before .before .before .before .before .before .before .before .before .args .schedule .now) (c .before .before .before .before .before .before .before .before .before .before .before .before .before .before .before .before .before .loop .place) _ (c .before .before .before .before .before .before .before .before .before .before .before .before .before .read-line .ensures) _ (c .before .before .before .before .before .before .before .before .before .before .before .parsed .given .1) (c .before .before .before .before .before .before .before .before .before .seat-of .ensures)
-
-number-of-requires : tie.Need-number-of-requires Inv-loop μ-loop
-number-of-requires c κs = search needs
 
 put-step-requires : tie.Need-put-step-requires Inv-loop μ-loop
 put-step-requires c κs = (room (c .before .before .before .before .before .before .before .before .before .before .before .before .before .before .before .before .before .before .before .before .before .before .before .before .before .args .schedule .now) (c .before .before .before .before .before .before .before .before .before .before .before .before .before .before .before .before .before .before .loop .place) _ (c .before .before .before .before .before .before .before .before .before .before .before .before .before .before .read-line .ensures) (c .before .before .before .before .before .before .before .before .before .before .before .before .before .before .before .before .before .before .loop .inv .1) (c .before .before .before .before .before .before .before .before .before .before .before .before .before .before .before .before .before .before .before .before .before .before .before .before .before .pre) (c .before .before .before .before .before .before .before .before .before .before .before .before .before .before .before .before .if1 .taken), omega (arith, line-seat (c .before .before .before .before .before .before .before .before .before .before .before .before .before .before .before .before .before .before .before .before .before .before .before .before .before .args .schedule .now) (c .before .before .before .before .before .before .before .before .before .before .before .before .before .before .before .before .before .before .loop .place) _ (c .before .before .before .before .before .before .before .before .before .before .before .before .before .before .read-line .ensures) _ (c .before .before .before .before .before .before .before .before .before .before .before .before .parsed .given .1) (c .before .before .before .before .before .before .before .before .before .before .seat-of .ensures)))
@@ -101,9 +62,6 @@ mul-below c = omega (arith, line-seat (c .before .before .before .before .before
 
 array-read-below : tie.Need-array-read-below Inv-loop μ-loop
 array-read-below c = line-seat (c .before .before .before .before .before .before .before .before .before .before .before .before .before .before .before .before .before .args .schedule .now) (c .before .before .before .before .before .before .before .before .before .before .loop .place) _ (c .before .before .before .before .before .before .read-line .ensures) _ (c .before .before .before .before .parsed .given .1) (c .before .before .seat-of .ensures)
-
-lacks-nothing-requires : tie.Need-lacks-nothing-requires Inv-loop μ-loop
-lacks-nothing-requires c κs = search needs
 
 put-line-requires-2 : tie.Need-put-line-requires-2 Inv-loop μ-loop
 put-line-requires-2 c κs = (room (c .before .before .before .before .before .before .before .before .before .before .before .before .before .before .before .before .before .before .before .before .before .before .args .schedule .now) (c .before .before .before .before .before .before .before .before .before .before .before .before .before .before .before .loop .place) _ (c .before .before .before .before .before .before .before .before .before .before .before .read-line .ensures) (c .before .before .before .before .before .before .before .before .before .before .before .before .before .before .before .loop .inv .1) (c .before .before .before .before .before .before .before .before .before .before .before .before .before .before .before .before .before .before .before .before .before .before .pre) (c .before .before .before .before .before .before .before .before .before .before .before .before .before .if1 .taken), omega (arith, line-seat (c .before .before .before .before .before .before .before .before .before .before .before .before .before .before .before .before .before .before .before .before .before .before .args .schedule .now) (c .before .before .before .before .before .before .before .before .before .before .before .before .before .before .before .loop .place) _ (c .before .before .before .before .before .before .before .before .before .before .before .read-line .ensures) _ (c .before .before .before .before .before .before .before .before .before .parsed .given .1) (c .before .before .before .before .before .before .before .seat-of .ensures)))
@@ -165,48 +123,37 @@ loop-less-5 c = run-less (c .before .before .before .before .before .before .bef
 loop-again-5 : tie.Need-loop-again-5 Inv-loop μ-loop
 loop-again-5 c = run-on (c .before .before .before .before .before .before .before .before .before .before .before .before .before .before .before .before .before .before .before .before .before .before .before .before .before .before .before .before .before .before .args .schedule .now) (c .before .before .before .before .before .before .before .before .before .before .before .before .before .before .before .before .before .before .before .before .before .before .before .loop .place) _ (c .before .before .before .before .before .before .before .before .before .before .before .before .before .before .before .before .before .before .before .read-line .ensures) _ (c .before .before .before .before .before .before .before .before .before .before .before .before .before .before .before .before .before .parsed .given .1) _ _ _ _ _ _ _ (c .before .before .before .before .before .before .before .before .before .before .before .before .before .before .before .seat-of .ensures) (c .before .before .before .before .before .before .before .before .before .before .before .before .before .before .before .before .before .before .before .before .before .before .before .loop .inv .0) (c .before .before .before .before .before .before .before .before .before .before .before .before .before .before .before .before .before .before .before .before .before .before .before .loop .inv .2) (c .before .before .before .before .run-line .result) _ _ (c .before .before .before .before .before .before .before .before .before .before .before .before .before .before .before .before .before .before .before .before .before .if1 .taken) (c .before .before .before .before .run-line .ensures) (c .if5 .left) (c .before .before .before .before .before .before .before .before .before .before .before .before .before .before .before .before .before .before .before .before .before .before .before .loop .inv .1)
 
-same-length : tie.Need-same-length Inv-loop μ-loop
-same-length c = going-long (c .before .before .loop .inv .1)
-
-returns : tie.Need-returns Inv-loop μ-loop
-returns c = going-end (c .before .before .loop .inv .1) (omega arith) (c .before .before .before .before .before .before .before .before .before .pre)
-
 pub run-lines-spec : {M : Type 1} → statement M
 run-lines-spec =
     tie.close
     (tie.spec
     Inv-loop
     μ-loop
-    new-requires
-    clear-requires
-    first-requires
+    (λ c κs. search needs) (λ c κs. search needs) (λ c κs. search needs)
     loop-holds
-    sub-read-line
-    part-read-line-start
-    part-read-line-end
-    read-line-requires
-    enum-known-parsed
-    enum-told
+    (λ c. omega (arith, c .before .before .loop .inv .1 .within))
+    (λ c. omega (arith, c .before .before .loop .inv .1 .within))
+    (λ c. omega (arith, c .before .before .loop .inv .1 .within))
+    (λ c κs. search needs) (λ c. search needs) (λ c. search needs)
     put-line-requires
     loop-less
     loop-again
-    seat-of-requires
-    is-call-requires
+    (λ c κs. search needs) (λ c κs. search needs)
     mul-named
     array-copy-out-named
     mul-call
     index-1-call
     call-requires
-    changes-requires
+    (λ c κs. search needs)
     mul-seats
     array-set-from-seats
-    number-of-requires
+    (λ c κs. search needs)
     put-step-requires
     loop-less-2
     loop-again-2
     mul-below
     array-read-below
-    lacks-nothing-requires
+    (λ c κs. search needs)
     put-line-requires-2
     loop-less-3
     loop-again-3
@@ -225,5 +172,5 @@ run-lines-spec =
     loop-again-4
     loop-less-5
     loop-again-5
-    same-length
-    returns)
+    (λ c. going-long (c .before .before .loop .inv .1))
+    (λ c. going-end (c .before .before .loop .inv .1) (omega arith) (c .before .before .before .before .before .before .before .before .before .pre)))

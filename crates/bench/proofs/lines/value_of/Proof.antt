@@ -1,13 +1,9 @@
 use borrow.Author.Needs.{needs}
-use native.Mathlib.Omega.{arith}
-use mathlib.Core.Path.{_≡_, refl, sym, ap, _∙_}
-use Rattle.bench.specs.Seats.{valueOf}
+use mathlib.Core.Path.{sym, ap, _∙_}
+use Rattle.bench.specs.Seats.{valueOfAnswer}
 use Rattle.bench.specs.declared.row.Value.the-variants.{Number}
 use Rattle.bench.proofs.lines.value_of.Statement.{statement}
 use Rattle.bench.proofs.lines.value_of.Tie as tie
-use Rattle.bench.proofs.lines.value_of.Reads as reads
-use Rattle.bench.proofs.lines.value_of.Lts as lts
-use Rattle.bench.proofs.lines.refusal_number.Reads as refusal-number-reads
 
 enum-told : tie.Need-enum-told
 enum-told c = search needs
@@ -34,25 +30,25 @@ refusal-number-requires : tie.Need-refusal-number-requires
 refusal-number-requires c κs = search needs
 
 returns : tie.Need-returns
-returns c = sym (ap (λ t. valueOf t (c .before .before .args .n)) (c .enum-told .given .1))
+returns c = sym (ap (λ t. valueOfAnswer t (c .before .before .args .n)) (c .enum-told .given .1))
 
 returns-2 : tie.Need-returns-2
-returns-2 c = sym (ap (λ t. valueOf t (c .before .before .args .n)) (c .enum-told2 .given .1))
+returns-2 c = sym (ap (λ t. valueOfAnswer t (c .before .before .args .n)) (c .enum-told2 .given .1))
 
 returns-3 : tie.Need-returns-3
-returns-3 c = sym (ap (λ t. valueOf t (c .before .before .before .args .n)) (c .before .a .given .1))
+returns-3 c = sym (ap (λ t. valueOfAnswer t (c .before .before .before .args .n)) (c .before .a .given .1))
 
 returns-4 : tie.Need-returns-4
-returns-4 c = sym (ap (λ t. valueOf t (c .before .before .before .args .n)) (c .before .a2 .given .1))
+returns-4 c = sym (ap (λ t. valueOfAnswer t (c .before .before .before .args .n)) (c .before .a2 .given .1))
 
 returns-5 : tie.Need-returns-5
-returns-5 c = sym (ap (λ t. valueOf t (c .before .before .args .n)) (c .enum-told3 .given .1))
+returns-5 c = sym (ap (λ t. valueOfAnswer t (c .before .before .args .n)) (c .enum-told3 .given .1))
 
 returns-6 : tie.Need-returns-6
-returns-6 c = sym (ap (λ t. valueOf t (c .before .before .args .n)) (c .enum-told4 .given .1))
+returns-6 c = sym (ap (λ t. valueOfAnswer t (c .before .before .args .n)) (c .enum-told4 .given .1))
 
 returns-7 : tie.Need-returns-7
-returns-7 c = ap Number (c .refusal-number .ensures) ∙ sym (ap (λ t. valueOf t (c .before .before .before .before .args .n)) (c .before .before .a3 .given .1))
+returns-7 c = ap Number (c .refusal-number .ensures) ∙ sym (ap (λ t. valueOfAnswer t (c .before .before .before .before .args .n)) (c .before .before .a3 .given .1))
 
 pub value-of-spec : {M : Type 1} → statement M
 value-of-spec =

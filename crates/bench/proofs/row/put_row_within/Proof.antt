@@ -11,13 +11,7 @@ pub put-row-within-spec : {M : Type 1} → statement M
 put-row-within-spec =
     tie.close
     (tie.spec
-    (λ c. search needs)
-    (λ c κs. search needs)
-    (λ c. search needs)
-    (λ c. search needs)
-    (λ c. search needs)
-    (λ c κs. search needs)
-    (λ c. search needs)
+    (λ c. search needs) (λ c κs. search needs) (λ c. search needs) (λ c. search needs) (λ c. search needs) (λ c κs. search needs) (λ c. search needs)
     (λ c. alone-long (replicate 40 0) _ (rowOf (c .before .before .before .before .before .before .before .args .n) (c .before .before .before .before .before .before .before .args .who) (c .before .before .before .before .before .before .before .args .word) (c .before .before .before .before .before .before .before .args .value)) _ (c .before .before .before .put-row2 .ensures) refl .0)
     (λ c κs. (omega arith, alone-long (replicate 40 0) _ (rowOf (c .before .before .before .before .before .before .before .args .n) (c .before .before .before .before .before .before .before .args .who) (c .before .before .before .before .before .before .before .args .word) (c .before .before .before .before .before .before .before .args .value)) _ (c .before .before .before .put-row2 .ensures) refl .1))
     (λ c. search needs)

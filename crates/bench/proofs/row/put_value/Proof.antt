@@ -12,9 +12,7 @@ put-value-spec =
     (tie.spec
     (λ c. search needs)
     (λ c κs. omega (arith, c .before .before .before .before .before .pre, most-long (c .before .before .value .given .0 .0) (omega (arith, c .before .known-told .given))))
+    (λ c. search needs) (λ c κs. search needs) (λ c. search needs)
+    (λ c. rw (c .before .before .before .before .before .value .given .1) (c .before .before .put-number .ensures, most-long (c .before .before .before .before .before .value .given .0 .0) (omega (arith, c .before .before .before .before .known-told .given))))
     (λ c. search needs)
-    (λ c κs. search needs)
-    (λ c. search needs)
-    (λ c. rw (c .before .before .before .before .before .value .given .1) (c .before .before .put-number .ensures .0, c .before .before .put-number .ensures .1, most-long (c .before .before .before .before .before .value .given .0 .0) (omega (arith, c .before .before .before .before .known-told .given))))
-    (λ c. search needs)
-    (λ c. rw (c .before .before .before .before .before .value2 .given .1) (omega (arith, c .before .before .put-view .ensures .0, view-long (viewIs (c .before .before .before .before .before .value2 .given .0 .0))), c .before .before .put-view .ensures .1, omega (arith, view-long (viewIs (c .before .before .before .before .before .value2 .given .0 .0))))))
+    (λ c. rw (c .before .before .before .before .before .value2 .given .1) (c .before .before .put-view .ensures .1, omega (arith, view-long (viewIs (c .before .before .before .before .before .value2 .given .0 .0))))))

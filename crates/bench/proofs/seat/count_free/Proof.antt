@@ -1,5 +1,4 @@
 use native.Mathlib.Omega.{arith}
-use native.Mathlib.Omega.{arith}
 use mathlib.Core.Path.{_≡_}
 use mathlib.Core.Bool.{false}
 use Prim.Native.Nat.{_-_, _≤_, _<_}
@@ -16,41 +15,16 @@ Inv-loop marks n count₀ i₀ count i = (i ≤ n) × (count ≤ i) × (count �
 abbrev μ-loop : tie.MeasureT-loop
 μ-loop marks n count₀ i₀ count i = n - i
 
-first-free-requires : tie.Need-first-free-requires Inv-loop μ-loop
-first-free-requires c κs = search needs
-
-loop-holds : tie.Need-loop-holds Inv-loop μ-loop
-loop-holds c = (c .first-free .ensures .most, omega arith, count-first _ _ _ (c .first-free .ensures), c .first-free .ensures .free)
-
-add-count : tie.Need-add-count Inv-loop μ-loop
-add-count c = omega (arith, (c .before .before .before .pre))
-
-add-first-free : tie.Need-add-first-free Inv-loop μ-loop
-add-first-free c = search needs
-
-first-free-requires-2 : tie.Need-first-free-requires-2 Inv-loop μ-loop
-first-free-requires-2 c κs = search needs
-
-loop-less : tie.Need-loop-less Inv-loop μ-loop
-loop-less c = omega (arith, c .first-free2 .ensures .from, c .first-free2 .ensures .most)
-
-loop-again : tie.Need-loop-again Inv-loop μ-loop
-loop-again c = (c .first-free2 .ensures .most, omega (arith, c .first-free2 .ensures .from), count-next _ _ _ _ _ (c .before .before .loop .inv .3 (c .before .loop-test .taken)) (c .first-free2 .ensures) (c .before .before .loop .inv .2), c .first-free2 .ensures .free)
-
-returns : tie.Need-returns Inv-loop μ-loop
-returns c = (count-end _ _ _ _ (omega arith) (c .before .loop .inv .2), omega arith)
-
 pub count-free-spec : {M : Type 1} → statement M
 count-free-spec =
     tie.close
     (tie.spec
     Inv-loop
     μ-loop
-    first-free-requires
-    loop-holds
-    add-count
-    add-first-free
-    first-free-requires-2
-    loop-less
-    loop-again
-    returns)
+    (λ c κs. search needs)
+    (λ c. (c .first-free .ensures .most, omega arith, count-first _ _ _ (c .first-free .ensures), c .first-free .ensures .free))
+    (λ c. omega (arith, (c .before .before .before .pre)))
+    (λ c. search needs) (λ c κs. search needs)
+    (λ c. omega (arith, c .first-free2 .ensures .from, c .first-free2 .ensures .most))
+    (λ c. (c .first-free2 .ensures .most, omega (arith, c .first-free2 .ensures .from), count-next _ _ _ _ _ (c .before .before .loop .inv .3 (c .before .loop-test .taken)) (c .first-free2 .ensures) (c .before .before .loop .inv .2), c .first-free2 .ensures .free))
+    (λ c. (count-end _ _ _ _ (omega arith) (c .before .loop .inv .2), omega arith)))

@@ -5,14 +5,6 @@ use Rattle.engine.proofs.Performs.{unready-is, bad-is, again-is, no-roo
 use borrow.Author.Needs.{needs}
 use Rattle.engine.proofs.Controller.add.Statement.{statement}
 use Rattle.engine.proofs.Controller.add.Tie as tie
-use Rattle.engine.proofs.Controller.add.Reads as reads
-use Rattle.engine.proofs.Controller.add.Lts as lts
-use Rattle.engine.proofs.calls.refuse.Reads as refuse-reads
-use Rattle.engine.proofs.calls.take.Reads as take-reads
-use Rattle.engine.proofs.keep.place.Reads as place-reads
-use Rattle.pool.proofs.record_holds.Reads as record-holds-reads
-use Rattle.pool.proofs.record_push.Reads as record-push-reads
-use Rattle.statements.proofs.keeps_field_rules.Reads as keeps-field-rules-reads
 
 returns : tie.Need-returns
 returns c = add-refused _ _ (c .before .before .before .args .self) _ _ OutOfPlace (unready-is (c .before .before .before .args .self) _ _ _ (not-true _ (c .before .if1 .taken))) (c .refuse .ensures .0) (c .refuse .ensures .1)
@@ -38,17 +30,12 @@ add-spec =
     (tie.spec
     (λ c κs. search needs)
     returns
-    (λ c κs. search needs)
-    (λ c κs. search needs)
+    (λ c κs. search needs) (λ c κs. search needs)
     returns-2
-    (λ c κs. search needs)
-    (λ c κs. search needs)
+    (λ c κs. search needs) (λ c κs. search needs)
     returns-3
     place-requires
-    (λ c. search needs)
-    (λ c. search needs)
-    (λ c κs. search needs)
+    (λ c. search needs) (λ c. search needs) (λ c κs. search needs)
     returns-4
-    (λ c κs. search needs)
-    (λ c κs. search needs)
+    (λ c κs. search needs) (λ c κs. search needs)
     returns-5)

@@ -1,35 +1,18 @@
 use borrow.Author.Tests.{not-true, not-false}
-use Rattle.engine.specs.declared.Refusal.the-variants.{BadRequest, OutOfPlace}
-use Rattle.engine.proofs.Requests.{refused, noted, leave-unready, leave-early, leave-again, leave-taken}
+use Rattle.engine.proofs.Requests.{request-unready, request-barred, request-again, request-taken, leaves, entered-none, entered-some}
 use borrow.Author.Needs.{needs}
 use Rattle.engine.proofs.Controller.leave.Statement.{statement}
 use Rattle.engine.proofs.Controller.leave.Tie as tie
-use Rattle.engine.proofs.Controller.leave.Reads as reads
-use Rattle.engine.proofs.Controller.leave.Lts as lts
-use Rattle.engine.proofs.calls.refuse.Reads as refuse-reads
-use Rattle.engine.proofs.calls.take.Reads as take-reads
-
-returns : tie.Need-returns
-returns c = refused (c .before .before .before .args .self) OutOfPlace (c .refuse .ensures .0) (c .refuse .ensures .1) (λ X. leave-unready (c .before .before .before .args .self) X (not-true _ (c .before .if1 .taken)))
-
-returns-2 : tie.Need-returns-2
-returns-2 c = refused (c .before .before .before .before .before .before .args .self) BadRequest (c .refuse2 .ensures .0) (c .refuse2 .ensures .1) (λ X. leave-early (c .before .before .before .before .before .before .args .self) X (not-false _ (c .before .before .before .before .if1 .left)) (c .before .if2 .taken))
-
-returns-3 : tie.Need-returns-3
-returns-3 c = refused (c .before .before .before .before .before .before .before .args .self) BadRequest (c .refuse3 .ensures .0) (c .refuse3 .ensures .1) (λ X. leave-again (c .before .before .before .before .before .before .before .args .self) X (not-false _ (c .before .before .before .before .before .if1 .left)) (c .before .before .if2 .left) (c .before .if3 .taken))
-
-returns-4 : tie.Need-returns-4
-returns-4 c = noted (c .before .before .before .before .before .before .before .before .before .args .self) _ (c .take .ensures .0) (c .take .ensures .1) (λ X. leave-taken (c .before .before .before .before .before .before .before .before .before .args .self) X (not-false _ (c .before .before .before .before .before .before .before .if1 .left)) (c .before .before .before .before .if2 .left) (c .before .before .before .if3 .left))
 
 pub leave-spec : {M : Type 1} → statement M
 leave-spec =
     tie.close
     (tie.spec
     (λ c κs. search needs)
-    returns
+    (λ c. leaves _ _ (request-unready _ _ _ _ _ (c .refuse .ensures) (not-true _ (c .before .if1 .taken))))
     (λ c κs. search needs)
-    returns-2
+    (λ c. leaves _ _ (request-barred _ _ _ _ _ (c .refuse2 .ensures) (not-false _ (c .before .before .before .before .if1 .left)) (entered-none _ (c .before .if2 .taken))))
     (λ c κs. search needs)
-    returns-3
+    (λ c. leaves _ _ (request-again _ _ _ _ _ (c .refuse3 .ensures) (not-false _ (c .before .before .before .before .before .if1 .left)) (entered-some _ (c .before .before .if2 .left)) (c .before .if3 .taken)))
     (λ c κs. search needs)
-    returns-4)
+    (λ c. leaves _ _ (request-taken _ _ _ _ _ (c .take .ensures) (not-false _ (c .before .before .before .before .before .before .before .if1 .left)) (entered-some _ (c .before .before .before .before .if2 .left)) (c .before .before .before .if3 .left))))

@@ -2,9 +2,6 @@ use Rattle.engine.proofs.Requests.{new-is}
 use borrow.Author.Needs.{needs}
 use Rattle.engine.proofs.Controller.new.Statement.{statement}
 use Rattle.engine.proofs.Controller.new.Tie as tie
-use Rattle.engine.proofs.Controller.new.Reads as reads
-use Rattle.engine.proofs.Controller.new.Lts as lts
-use Rattle.views.proofs.History.new.Reads as new-reads
 
 returns : tie.Need-returns
 returns c = new-is _ (c .new .ensures .0)

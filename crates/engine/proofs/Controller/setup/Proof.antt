@@ -4,12 +4,6 @@ use Rattle.engine.proofs.Requests.{barred, began, setup-again, setup-ba
 use borrow.Author.Needs.{needs}
 use Rattle.engine.proofs.Controller.setup.Statement.{statement}
 use Rattle.engine.proofs.Controller.setup.Tie as tie
-use Rattle.engine.proofs.Controller.setup.Reads as reads
-use Rattle.engine.proofs.Controller.setup.Lts as lts
-use Rattle.engine.proofs.calls.refuse.Reads as refuse-reads
-use Rattle.engine.proofs.calls.start.Reads as start-reads
-use Rattle.engine.proofs.calls.take.Reads as take-reads
-use Rattle.pool.proofs.record_clear.Reads as record-clear-reads
 
 returns : tie.Need-returns
 returns c = barred _ (c .before .before .args .self) BadSetup (c .refuse .ensures .0) (c .refuse .ensures .1) (λ X. setup-again (c .before .before .args .self) X _ _ _ (c .before .if1 .taken))
@@ -38,7 +32,5 @@ setup-spec =
     returns-3
     (λ c κs. search needs)
     returns-4
-    (λ c κs. search needs)
-    (λ c κs. search needs)
-    (λ c κs. search needs)
+    (λ c κs. search needs) (λ c κs. search needs) (λ c κs. search needs)
     returns-5)

@@ -2,11 +2,6 @@ use Rattle.engine.proofs.Requests.{first-one, first-none}
 use borrow.Author.Needs.{needs}
 use Rattle.engine.proofs.calls.entered_first.Statement.{statement}
 use Rattle.engine.proofs.calls.entered_first.Tie as tie
-use Rattle.engine.proofs.calls.entered_first.Reads as reads
-use Rattle.engine.proofs.calls.entered_first.Lts as lts
-use Rattle.views.proofs.History.new.Reads as new-reads
-use Rattle.views.proofs.History.push.Reads as push-reads
-use Rattle.views.proofs.View.has_member.Reads as has-member-reads
 
 returns : tie.Need-returns
 returns c = first-one _ _ _ _ _ (c .before .before .before .has-member .ensures) (c .before .before .if1 .taken) (c .before .new .ensures .0) (c .push .ensures .0)

@@ -3,10 +3,6 @@ use Rattle.engine.proofs.Keeps.{record-full, pool-placed}
 use borrow.Author.Needs.{needs}
 use Rattle.engine.proofs.keep.place.Statement.{statement}
 use Rattle.engine.proofs.keep.place.Tie as tie
-use Rattle.engine.proofs.keep.place.Reads as reads
-use Rattle.engine.proofs.keep.place.Lts as lts
-use Rattle.pool.proofs.record_length.Reads as record-length-reads
-use Rattle.pool.proofs.append.Reads as append-reads
 
 returns : tie.Need-returns
 returns c = record-full (omega (arith, c .before .record-length .ensures .0, c .if1 .taken))

@@ -2,8 +2,6 @@ use mathlib.Core.Path.{refl}
 use Rattle.engine.specs.Meaning.{controllerIs}
 use Rattle.engine.proofs.perform.deliver.Statement.{statement}
 use Rattle.engine.proofs.perform.deliver.Tie as tie
-use Rattle.engine.proofs.perform.deliver.Reads as reads
-use Rattle.engine.proofs.perform.deliver.Lts as lts
 
 returns : tie.Need-returns
 unfolding controllerIs

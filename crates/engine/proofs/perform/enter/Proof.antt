@@ -3,9 +3,6 @@ use Rattle.engine.proofs.Performs.{entering}
 use borrow.Author.Needs.{needs}
 use Rattle.engine.proofs.perform.enter.Statement.{statement}
 use Rattle.engine.proofs.perform.enter.Tie as tie
-use Rattle.engine.proofs.perform.enter.Reads as reads
-use Rattle.engine.proofs.perform.enter.Lts as lts
-use Rattle.views.proofs.History.push.Reads as push-reads
 
 returns : tie.Need-returns
 returns c = (refl, entering _ _ _ _ (c .before .push .ensures .0))

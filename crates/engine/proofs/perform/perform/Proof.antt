@@ -1,4 +1,3 @@
-use native.Mathlib.Omega.{arith}
 use Rattle.rules.proofs.Applied.{signs-else}
 use Rattle.engine.proofs.Performs.{rest-is, enter-is, deliver-is, ack-is, sign-is}
 use borrow.Author.Needs.{needs}
@@ -9,19 +8,9 @@ pub perform-spec : {M : Type 1} → statement M
 perform-spec =
     tie.close
     (tie.spec
-    (λ c. search needs)
-    (λ c κs. search needs)
-    (λ c κs. search needs)
-    (λ c. search needs)
-    (λ c κs. search needs)
-    (λ c. search needs)
-    (λ c κs. search needs)
-    (λ c. search needs)
-    (λ c κs. search needs)
-    (λ c κs. search needs)
-    (λ c κs. search needs)
-    (λ c κs. search needs)
-    (λ c. rest-is _ _ (c .before .before .before .before .before .args .c) _ _ _ _ _ (c .before .before .before .before .before .pre .1) (c .before .before .before .enum-told .given .1) (c .before .has-left .ensures) (c .rest .ensures .0) (c .rest .ensures .1))
+    (λ c. search needs) (λ c κs. search needs) (λ c. search needs) (λ c κs. search needs) (λ c. search needs) (λ c κs. search needs)
+    (λ c. search needs) (λ c κs. search needs) (λ c κs. search needs) (λ c κs. search needs) (λ c κs. search needs)
+    (λ c. rest-is _ _ (c .before .before .before .args .c) _ _ _ _ (c .before .before .before .pre .1) (c .before .enum-told .given .1) (c .rest .ensures .0) (c .rest .ensures .1))
     (λ c. enter-is _ _ (c .before .before .before .before .args .c) _ _ _ _ _ _ (c .before .before .a .given .1) (c .enter .ensures .0) (c .enter .ensures .1))
     (λ c. deliver-is _ _ (c .before .before .before .before .args .c) _ _ _ _ _ (c .before .before .a2 .given .1) (c .deliver .ensures .0) (c .deliver .ensures .1))
     (λ c. ack-is _ _ _ _ (c .before .before .before .before .before .before .before .args .c) _ _ _ _ _ _ (c .before .before .before .before .before .a3 .given .1) (c .before .statement .ensures) (c .sign .ensures))

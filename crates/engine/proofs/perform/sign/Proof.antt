@@ -1,13 +1,7 @@
-use native.Mathlib.Omega.{arith}
 use Rattle.engine.proofs.Performs.{sign-full, sign-kept}
 use borrow.Author.Needs.{needs}
 use Rattle.engine.proofs.perform.sign.Statement.{statement}
 use Rattle.engine.proofs.perform.sign.Tie as tie
-use Rattle.engine.proofs.perform.sign.Reads as reads
-use Rattle.engine.proofs.perform.sign.Lts as lts
-use Rattle.engine.proofs.calls.refuse.Reads as refuse-reads
-use Rattle.engine.proofs.keep.place.Reads as place-reads
-use Rattle.pool.proofs.record_push.Reads as record-push-reads
 
 returns : tie.Need-returns
 returns c = sign-full _ _ _ (c .before .before .before .before .before .before .args .c) _ (c .before .before .before .place .result) (c .before .before .before .place .ensures) (c .before .enum-told .given .1) _ _ (c .refuse .ensures .0) (c .refuse .ensures .1)
@@ -22,10 +16,7 @@ pub sign-spec : {M : Type 1} → statement M
 sign-spec =
     tie.close
     (tie.spec
-    (λ c κs. search needs)
-    (λ c. search needs)
-    (λ c. search needs)
-    (λ c κs. search needs)
+    (λ c κs. search needs) (λ c. search needs) (λ c. search needs) (λ c κs. search needs)
     returns
     record-push-requires
     returns-2)

@@ -9,6 +9,5 @@ end-spec =
     (tie.spec
     (λ c κs. search needs)
     (λ c. λ W ids r. laws.ended-full W ids _ _ (c .if1 .taken) r)
-    (λ c. search needs)
-    (λ c. search needs)
-    (λ c. λ W ids r. laws.ended-room W ids _ _ (c .before .room .ensures) (c .if1 .left) r))
+    (λ c. search needs) (λ c. search needs)
+    (λ c. λ W ids r. laws.ended-room W ids _ _ (c .before .groups-room .ensures) (c .if1 .left) r))

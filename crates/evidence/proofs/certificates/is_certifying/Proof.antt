@@ -9,6 +9,5 @@ is-certifying-spec =
     (tie.spec
     (λ c κs. search needs)
     (λ c. laws.certifies-kind _ _ _ (c .before .kind .ensures .0) (c .if1 .taken))
-    (λ c κs. search needs)
-    (λ c κs. search needs)
+    (λ c κs. search needs) (λ c κs. search needs)
     (λ c. laws.certifies-payload _ _ _ _ _ (c .before .before .before .kind .ensures .0) (c .before .before .if1 .left) (c .before .payload .ensures) (c .is-listed .ensures)))

@@ -25,7 +25,6 @@ is-stored-spec =
     (λ c. omega (arith, c .before .before .before .before .pre .place _ (c .before .before .loop-test .taken), c .place-of .ensures))
     (λ c κs. search needs)
     (λ c. laws.stored-found _ _ _ _ _ _ (c .before .before .before .before .before .before .before .pre) _ _ _ (c .before .before .before .place-of .ensures) _ (c .before .stores-it .ensures) (c .before .before .before .before .before .loop-test .taken) (c .if1 .taken))
-    (λ c. search needs)
-    (λ c. search needs)
+    (λ c. search needs) (λ c. search needs)
     (λ c. (omega arith, laws.unstored-not _ _ _ _ _ _ (c .before .before .before .before .before .before .before .pre) _ _ _ (c .before .before .before .place-of .ensures) _ (c .before .stores-it .ensures) (c .if1 .left) (c .before .before .before .before .before .before .loop .inv .1)))
     (λ c. laws.stored-none _ _ _ _ _ _ (c .before .before .pre) _ _ (omega arith) (c .before .loop .inv .1)))

@@ -17,8 +17,7 @@ is-twofold-spec =
     (tie.spec
     Inv-loop
     μ-loop
-    (λ c κs. search needs)
-    (λ c. search needs)
+    (λ c κs. search needs) (λ c. search needs)
     (λ c. (omega arith, laws.onefold-first _))
     (λ c. omega (arith, c .before .before .before .payload-count .ensures .1))
     (λ c. omega (arith, c .before .before .before .payload-count .ensures .1))

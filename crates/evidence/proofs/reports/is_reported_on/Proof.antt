@@ -10,6 +10,5 @@ is-reported-on-spec =
     (tie.spec
     (λ c κs. search needs)
     (λ c. laws.reported-above _ _ _ _ _ _ _ (c .before .below-view .ensures) (not-true _ (c .if1 .taken)))
-    (λ c κs. search needs)
-    (λ c κs. search needs)
+    (λ c κs. search needs) (λ c κs. search needs)
     (λ c. laws.reported-quorum _ _ _ _ _ _ _ (c .before .before .before .below-view .ensures) _ _ (not-false _ (c .before .before .if1 .left)) (c .before .reporters .ensures) (c .quorum-in .ensures)))

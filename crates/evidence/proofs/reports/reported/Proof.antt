@@ -5,10 +5,9 @@ use mathlib.Core.Path.{_≡_, _∙_}
 use mathlib.Core.Bool.{true}
 use borrow.Author.Tests.{not-true, not-false}
 use Rattle.protocol.specs.Lists.{all}
-use Rattle.views.specs.View.{viewOf}
+use Rattle.views.specs.View.{viewOf, viewsOf}
 use Rattle.views.proofs.Tables.{all-zero, all-more, all-miss}
 use Rattle.pool.specs.Pool.{recordIn}
-use Rattle.ranking.specs.Slots.{viewsOf}
 use Rattle.evidence.specs.Reports.{hasReports}
 use Rattle.evidence.proofs.Reporting as laws
 use Rattle.evidence.proofs.reports.reported.Statement.{statement}
@@ -26,11 +25,11 @@ loop-holds c = (omega arith, all-zero _ _)
 
 returns : tie.Need-returns Inv-loop μ-loop
 unfolding viewsOf
-returns c = laws.reported-all _ _ _ _ _ _ (c .before .before .before .before .before .before .before .before .before .before .before .before .pre) _ (c .before .before .before .before .before .before .before .before .before .before .list .ensures) _ (c .before .before .before .before .before .before .before .top-of .ensures) _ (c .before .before .before .before .before .before .before .before .reports-in .ensures) _ (all-miss _ _ _ (c .before .before .before .before .before .loop-test .taken) (laws.has-reports-at _ _ _ _ _ (c .before .before .before .before .before .before .loop .i) _ (c .before .before .before .before .before .before .before .before .before .before .before .before .args .greatest .now) _ (c .before .before .before .before .view-in .ensures) (c .before .is-reported-on .ensures) ∙ not-true _ (c .if1 .taken)))
+returns c = laws.reported-all _ _ _ _ _ _ (c .before .before .before .before .before .before .before .before .before .before .before .before .pre) _ (c .before .before .before .before .before .before .before .before .before .before .list .ensures) _ (c .before .before .before .before .before .before .before .top-of .ensures) _ (c .before .before .before .before .before .before .before .before .reports-in .ensures) _ (all-miss _ _ _ (c .before .before .before .before .before .loop-test .taken) (laws.has-reports-at _ _ _ _ _ (c .before .before .before .before .before .before .loop .i) _ (c .before .before .before .before .before .before .before .before .before .before .before .before .args .greatest .now) _ (c .before .before .before .before .list-at .ensures) (c .before .is-reported-on .ensures) ∙ not-true _ (c .if1 .taken)))
 
 loop-again : tie.Need-loop-again Inv-loop μ-loop
 unfolding viewsOf
-loop-again c = (omega arith, all-more _ _ _ (c .before .before .before .before .before .before .loop .inv .1) (laws.has-reports-at _ _ _ _ _ (c .before .before .before .before .before .before .loop .i) _ (c .before .before .before .before .before .before .before .before .before .before .before .before .args .greatest .now) _ (c .before .before .before .before .view-in .ensures) (c .before .is-reported-on .ensures) ∙ not-false _ (c .if1 .left)))
+loop-again c = (omega arith, all-more _ _ _ (c .before .before .before .before .before .before .loop .inv .1) (laws.has-reports-at _ _ _ _ _ (c .before .before .before .before .before .before .loop .i) _ (c .before .before .before .before .before .before .before .before .before .before .before .before .args .greatest .now) _ (c .before .before .before .before .list-at .ensures) (c .before .is-reported-on .ensures) ∙ not-false _ (c .if1 .left)))
 
 pub reported-spec : {M : Type 1} → statement M
 reported-spec =
@@ -38,8 +37,7 @@ reported-spec =
     (tie.spec
     Inv-loop
     μ-loop
-    (λ c κs. search needs)
-    (λ c κs. search needs)
+    (λ c κs. search needs) (λ c κs. search needs)
     (λ c κs. laws.length-most _ _ _ _ _ _ (c .before .before .before .before .pre))
     loop-holds
     (λ c κs. omega (arith, laws.length-most _ _ _ _ _ _ (c .before .before .before .before .before .before .before .pre)))

@@ -3,7 +3,7 @@ use native.Mathlib.Omega.{arith}
 use lib.Dec.{eqb}
 use Prim.Native.Nat.{_-_, _≤_}
 use Rattle.protocol.specs.Statement.{isKind}
-use Rattle.evidence.proofs.Sifted.{Sifted, more-fits, sifted-none, sifted-next, sifted-whole}
+use Rattle.evidence.proofs.Listing.{Sifted, more-fits, sifted-none, sifted-next, sifted-whole}
 use Rattle.evidence.proofs.Reporting.{kind-is}
 use Rattle.evidence.proofs.reports.reports_in.Statement.{statement}
 use Rattle.evidence.proofs.reports.reports_in.Tie as tie
@@ -20,9 +20,8 @@ reports-in-spec =
     (tie.spec
     Inv-loop
     μ-loop
-    (λ c κs. search needs)
-    (λ c κs. search needs)
-    (λ c. (omega arith, sifted-none (c .before .room .ensures)))
+    (λ c κs. search needs) (λ c κs. search needs)
+    (λ c. (omega arith, sifted-none (c .before .record-room .ensures)))
     (λ c. omega (arith, c .before .before .record-length .ensures .1))
     (λ c. omega (arith, c .before .before .record-length .ensures .1))
     (λ c κs. search needs)
@@ -30,8 +29,7 @@ reports-in-spec =
     (λ c. omega (arith, c .before .before .before .before .record-length .ensures .1, c .before .before .before .loop .inv .1 .most))
     (λ c. search needs)
     (λ c. record { fits = more-fits _ (eqb (c .kind .result) 5) (omega (arith, c .before .before .before .loop .inv .1 .most, c .before .before .before .before .record-length .ensures .1)) })
-    (λ c. search needs)
-    (λ c. search needs)
+    (λ c. search needs) (λ c. search needs)
     (λ c. (omega arith, sifted-next (omega (arith, c .before .before .before .before .record-length .ensures .1)) (c .before .before .before .loop .inv .1) _ (kind-is _ _ (c .kind .ensures .0))))
     (λ c. omega (arith, c .before .loop .inv .1 .most, c .before .before .record-length .ensures .1))
     (λ c. search needs)

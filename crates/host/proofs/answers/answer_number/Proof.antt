@@ -3,25 +3,11 @@ use Rattle.host.specs.Host.{answerNumber}
 use borrow.Author.Needs.{needs}
 use Rattle.host.proofs.answers.answer_number.Statement.{statement}
 use Rattle.host.proofs.answers.answer_number.Tie as tie
-use Rattle.host.proofs.answers.answer_number.Reads as reads
-use Rattle.host.proofs.answers.answer_number.Lts as lts
 
 pub answer-number-spec : {M : Type 1} → statement M
 unfolding answerNumber answerIs
 answer-number-spec =
     tie.close
     (tie.spec
-    (λ c. search needs)
-    (λ c. search needs)
-    (λ c. search needs)
-    (λ c. search needs)
-    (λ c. search needs)
-    (λ c. search needs)
-    (λ c. search needs)
-    (λ c. search needs)
-    (λ c. search needs)
-    (λ c. search needs)
-    (λ c. search needs)
-    (λ c. search needs)
-    (λ c. search needs)
-    (λ c. search needs))
+    (λ c. search needs) (λ c. search needs) (λ c. search needs) (λ c. search needs) (λ c. search needs) (λ c. search needs) (λ c. search needs)
+    (λ c. search needs) (λ c. search needs) (λ c. search needs) (λ c. search needs) (λ c. search needs) (λ c. search needs) (λ c. search needs))

@@ -2,11 +2,6 @@ use Rattle.host.proofs.Hosting.{was-refused, was-kept}
 use borrow.Author.Needs.{needs}
 use Rattle.host.proofs.answers.finish.Statement.{statement}
 use Rattle.host.proofs.answers.finish.Tie as tie
-use Rattle.host.proofs.answers.finish.Reads as reads
-use Rattle.host.proofs.answers.finish.Lts as lts
-use Rattle.host.proofs.answers.answer_number.Reads as answer-number-reads
-use Rattle.host.proofs.answers.value_number.Reads as value-number-reads
-use Rattle.host.proofs.held.store.Reads as store-reads
 
 pub finish-spec : {M : Type 1} → statement M
 finish-spec =

@@ -6,30 +6,13 @@ use Rattle.host.specs.Host.{valueNumber}
 use borrow.Author.Needs.{needs}
 use Rattle.host.proofs.answers.value_number.Statement.{statement}
 use Rattle.host.proofs.answers.value_number.Tie as tie
-use Rattle.host.proofs.answers.value_number.Reads as reads
-use Rattle.host.proofs.answers.value_number.Lts as lts
-use Rattle.host.proofs.answers.refusal_number.Reads as refusal-number-reads
-use Rattle.views.proofs.View.word.Reads as word-reads
 
 pub value-number-spec : {M : Type 1} → statement M
 unfolding valueNumber answerIs
 value-number-spec =
     tie.close
     (tie.spec
-    (λ c. search needs)
-    (λ c. search needs)
-    (λ c. search needs)
-    (λ c. search needs)
-    (λ c κs. search needs)
-    (λ c. search needs)
-    (λ c. search needs)
-    (λ c. search needs)
-    (λ c. search needs)
-    (λ c κs. search needs)
-    (λ c. search needs)
-    (λ c. search needs)
+    (λ c. search needs) (λ c. search needs) (λ c. search needs) (λ c. search needs) (λ c κs. search needs) (λ c. search needs) (λ c. search needs)
+    (λ c. search needs) (λ c. search needs) (λ c κs. search needs) (λ c. search needs) (λ c. search needs)
     (λ c. word-of _ _ (omega arith) (c .word .ensures) ∙ sym (ap valueNumber (c .before .before .a2 .given .1)))
-    (λ c. search needs)
-    (λ c. search needs)
-    (λ c. search needs)
-    (λ c. search needs))
+    (λ c. search needs) (λ c. search needs) (λ c. search needs) (λ c. search needs))

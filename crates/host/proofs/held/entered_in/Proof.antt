@@ -5,9 +5,6 @@ use native.Mathlib.Omega.{arith}
 use borrow.Author.Needs.{needs}
 use Rattle.host.proofs.held.entered_in.Statement.{statement}
 use Rattle.host.proofs.held.entered_in.Tie as tie
-use Rattle.host.proofs.held.entered_in.Reads as reads
-use Rattle.host.proofs.held.entered_in.Lts as lts
-use Rattle.host.proofs.held.view_in.Reads as view-in-reads
 
 abbrev Inv-loop : tie.InvT-loop
 Inv-loop fields views₀ i₀ views i = Loads fields views i
@@ -19,16 +16,9 @@ pub entered-in-spec : {M : Type 1} → statement M
 entered-in-spec =
     tie.close
     (tie.spec
-    Inv-loop
-    μ-loop
+    Inv-loop μ-loop
     (λ c. load-first _)
-    (λ c. search needs)
-    (λ c. search needs)
-    (λ c. search needs)
-    (λ c κs. search needs)
-    (λ c. search needs)
-    (λ c. search needs)
-    (λ c. search needs)
+    (λ c. search needs) (λ c. search needs) (λ c. search needs) (λ c κs. search needs) (λ c. search needs) (λ c. search needs) (λ c. search needs)
     (λ c. search needs)
     (λ c. load-next _ (c .before .before .before .loop .inv) (omega arith) (c .view-in .ensures))
     (λ c. search needs)

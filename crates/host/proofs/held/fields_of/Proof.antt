@@ -2,41 +2,13 @@ use Rattle.host.proofs.Loading.{stored}
 use borrow.Author.Needs.{needs}
 use Rattle.host.proofs.held.fields_of.Statement.{statement}
 use Rattle.host.proofs.held.fields_of.Tie as tie
-use Rattle.host.proofs.held.fields_of.Reads as reads
-use Rattle.host.proofs.held.fields_of.Lts as lts
-use Rattle.host.proofs.held.binding_number.Reads as binding-number-reads
-use Rattle.host.proofs.held.binding_payload.Reads as binding-payload-reads
-use Rattle.host.proofs.held.send_number.Reads as send-number-reads
-use Rattle.host.proofs.held.send_payload.Reads as send-payload-reads
-use Rattle.host.proofs.held.wide_number.Reads as wide-number-reads
-use Rattle.host.proofs.held.word_of.Reads as word-of-reads
-use Rattle.host.proofs.held.words_of.Reads as words-of-reads
 
 pub fields-of-spec : {M : Type 1} → statement M
 fields-of-spec =
     tie.close
     (tie.spec
-    (λ c κs. search needs)
-    (λ c. search needs)
-    (λ c. search needs)
-    (λ c κs. search needs)
-    (λ c. search needs)
-    (λ c κs. search needs)
-    (λ c. search needs)
-    (λ c κs. search needs)
-    (λ c. search needs)
-    (λ c κs. search needs)
-    (λ c. search needs)
-    (λ c κs. search needs)
-    (λ c. search needs)
-    (λ c. search needs)
-    (λ c. search needs)
-    (λ c. search needs)
-    (λ c. search needs)
-    (λ c. search needs)
-    (λ c. search needs)
-    (λ c κs. search needs)
-    (λ c. search needs)
-    (λ c κs. search needs)
-    (λ c. search needs)
-    (λ c. stored (c .before .before .before .before .before .before .before .before .before .before .before .before .before .before .args .c) _ _ _ _ _ _ _ _ (c .before .before .before .before .before .before .before .before .before .before .before .words-of .ensures) (c .before .before .before .before .before .before .before .before .before .wide-number .ensures) (c .before .before .before .before .before .before .before .before .word-of .ensures) (c .before .before .before .before .before .before .before .wide-number2 .ensures) (c .before .before .before .before .before .before .binding-number .ensures) (c .before .before .before .before .before .binding-payload .ensures) (c .before .send-number .ensures) (c .send-payload .ensures)))
+    (λ c κs. search needs) (λ c. search needs) (λ c. search needs) (λ c κs. search needs) (λ c. search needs) (λ c κs. search needs)
+    (λ c. search needs) (λ c κs. search needs) (λ c. search needs) (λ c κs. search needs) (λ c. search needs) (λ c κs. search needs)
+    (λ c. search needs) (λ c. search needs) (λ c. search needs) (λ c. search needs) (λ c. search needs) (λ c. search needs) (λ c. search needs)
+    (λ c κs. search needs) (λ c. search needs) (λ c κs. search needs) (λ c. search needs)
+    (λ c. stored (c .before .before .before .before .before .before .before .before .before .before .before .before .before .before .args .c) _ _ _ _ _ _ _ _ (c .before .before .before .before .before .before .before .before .before .before .before .words-of .ensures) (c .before .before .before .before .before .before .before .before .before .wide-number .ensures) (c .before .before .before .before .before .before .before .before .word-of .ensures) (c .before .before .before .before .before .before .before .wide-number2 .ensures) (c .before .before .before .before .before .before .number-of .ensures .0) (c .before .before .before .before .before .binding-payload .ensures) (c .before .send-number .ensures) (c .send-payload .ensures)))

@@ -2,32 +2,12 @@ use Rattle.host.proofs.Loading.{loaded}
 use borrow.Author.Needs.{needs}
 use Rattle.host.proofs.held.load.Statement.{statement}
 use Rattle.host.proofs.held.load.Tie as tie
-use Rattle.host.proofs.held.load.Reads as reads
-use Rattle.host.proofs.held.load.Lts as lts
-use Rattle.host.proofs.held.binding_in.Reads as binding-in-reads
-use Rattle.host.proofs.held.entered_in.Reads as entered-in-reads
-use Rattle.host.proofs.held.send_in.Reads as send-in-reads
-use Rattle.host.proofs.held.view_in.Reads as view-in-reads
 
 pub load-spec : {M : Type 1} → statement M
 load-spec =
     tie.close
     (tie.spec
-    (λ c κs. search needs)
-    (λ c. search needs)
-    (λ c. search needs)
-    (λ c. search needs)
-    (λ c. search needs)
-    (λ c κs. search needs)
-    (λ c. search needs)
-    (λ c. search needs)
-    (λ c. search needs)
-    (λ c. search needs)
-    (λ c κs. search needs)
-    (λ c. search needs)
-    (λ c. search needs)
-    (λ c. search needs)
-    (λ c. search needs)
-    (λ c. search needs)
-    (λ c κs. search needs)
+    (λ c κs. search needs) (λ c. search needs) (λ c. search needs) (λ c. search needs) (λ c. search needs) (λ c κs. search needs) (λ c. search needs)
+    (λ c. search needs) (λ c. search needs) (λ c. search needs) (λ c κs. search needs) (λ c. search needs) (λ c. search needs) (λ c. search needs)
+    (λ c. search needs) (λ c. search needs) (λ c κs. search needs)
     (λ c. loaded _ (c .before .before .before .before .before .before .before .before .before .before .before .before .before .before .entered-in .ensures) (c .before .before .before .before .before .before .before .before .before .before .view-in .ensures) (c .before .before .before .before .before .before .binding-in .ensures) (c .send-in .ensures)))

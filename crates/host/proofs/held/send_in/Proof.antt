@@ -1,9 +1,6 @@
 use borrow.Author.Tests.{eq-eqb, ne-eqb}
-use borrow.Author.Needs.{needs}
 use Rattle.host.proofs.held.send_in.Statement.{statement}
 use Rattle.host.proofs.held.send_in.Tie as tie
-use Rattle.host.proofs.held.send_in.Reads as reads
-use Rattle.host.proofs.held.send_in.Lts as lts
 
 pub send-in-spec : {M : Type 1} → statement M
 send-in-spec = tie.close (tie.spec (λ c. rw (eq-eqb _ _ (c .if1 .taken))) (λ c. rw (ne-eqb _ _ (c .if1 .left))))

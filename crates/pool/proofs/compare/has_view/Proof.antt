@@ -2,7 +2,7 @@ use borrow.Author.Needs.{needs}
 use native.Mathlib.Omega.{arith}
 use mathlib.Core.Path.{_≡_, sym, ap, _∙_}
 use mathlib.Core.Bool.{false}
-use Prim.Native.Nat.{ℕ, _+_, _-_, _≤_, _<_}
+use Prim.Native.Nat.{_-_, _≤_}
 use Rattle.protocol.specs.Lists.{any}
 use Rattle.protocol.specs.View.{sameView}
 use Rattle.views.specs.Table.{table}
@@ -13,10 +13,6 @@ use Rattle.pool.specs.Pool.{viewAt}
 use Rattle.pool.proofs.Laws.{of-views}
 use Rattle.pool.proofs.compare.has_view.Statement.{statement}
 use Rattle.pool.proofs.compare.has_view.Tie as tie
-use Rattle.pool.proofs.compare.has_view.Reads as reads
-use Rattle.pool.proofs.compare.has_view.Lts as lts
-use Rattle.pool.proofs.read.count.Reads as count-reads
-use Rattle.pool.proofs.read.nth.Reads as nth-reads
 
 abbrev Inv-loop : tie.InvT-loop
 Inv-loop words n t c p₀ p = (p ≤ c) × (any (sameView (viewOf t)) (table p (viewAt words n)) ≡ false)
@@ -34,7 +30,6 @@ has-view-spec =
     (λ c. (omega arith, any-zero _ _))
     (λ c κs. search needs)
     (λ c. of-views (any (sameView (viewOf (c .before .before .before .before .before .args .t)))) _ _ _ (c .before .before .before .before .count .ensures .0) (sym (any-at _ _ _ (c .before .before .loop-test .taken) (same-yes _ _ (ap viewOf (c .if1 .taken) ∙ c .before .nth .ensures)))))
-    (λ c. search needs)
-    (λ c. search needs)
+    (λ c. search needs) (λ c. search needs)
     (λ c. (omega arith, any-more _ _ _ (c .before .before .before .loop .inv .1) (same-no _ _ (λ q. c .if1 .left (view-inj _ _ (omega arith) (omega arith) (q ∙ sym (c .before .nth .ensures)))))))
     (λ c. of-views (any (sameView (viewOf (c .before .before .before .args .t)))) _ _ _ (omega (arith, c .before .before .count .ensures .0)) (sym (c .before .loop .inv .1))))

@@ -1,7 +1,7 @@
 use borrow.Author.Needs.{needs}
 use native.Mathlib.Omega.{arith}
-use mathlib.Core.Path.{_≡_, refl, sym, ap, ap₂, _∙_}
-use Prim.Native.Nat.{ℕ, _+_, _-_, _≤_, _<_}
+use mathlib.Core.Path.{_≡_, sym, ap, ap₂, _∙_}
+use Prim.Native.Nat.{_-_, _≤_}
 use Rattle.protocol.specs.History.{sameViews}
 use Rattle.views.specs.Table.{table}
 use Rattle.views.specs.View.{viewOf}
@@ -12,10 +12,6 @@ use Rattle.pool.specs.Pool.{viewAt}
 use Rattle.pool.proofs.Laws.{views-of}
 use Rattle.pool.proofs.compare.same_views.Statement.{statement}
 use Rattle.pool.proofs.compare.same_views.Tie as tie
-use Rattle.pool.proofs.compare.same_views.Reads as reads
-use Rattle.pool.proofs.compare.same_views.Lts as lts
-use Rattle.pool.proofs.read.count.Reads as count-reads
-use Rattle.pool.proofs.read.nth.Reads as nth-reads
 
 abbrev Inv-loop : tie.InvT-loop
 Inv-loop words i j n p₀ p = (p ≤ n) × (table p (viewAt words i) ≡ table p (viewAt words j))
@@ -29,14 +25,11 @@ same-views-spec =
     (tie.spec
     Inv-loop
     μ-loop
-    (λ c κs. search needs)
-    (λ c κs. search needs)
+    (λ c κs. search needs) (λ c κs. search needs)
     (λ c. sames-short _ _ _ _ (c .if1 .taken) ∙ ap₂ sameViews (views-of _ _ _ (c .before .before .count .ensures .0)) (views-of _ _ _ (c .before .count2 .ensures .0)))
     (λ c. (omega arith, table-none _ _))
-    (λ c κs. search needs)
-    (λ c κs. search needs)
+    (λ c κs. search needs) (λ c κs. search needs)
     (λ c. sames-differ _ _ _ _ (c .before .before .before .loop-test .taken) (λ q. c .if2 .taken (view-inj _ _ (omega arith) (omega arith) (c .before .before .nth .ensures ∙ q ∙ sym (c .before .nth2 .ensures)))) ∙ ap₂ sameViews (views-of _ _ _ (c .before .before .before .before .before .before .before .count .ensures .0)) (views-of _ _ _ (c .before .before .before .before .before .if1 .left ∙ c .before .before .before .before .before .before .count2 .ensures .0)))
-    (λ c. search needs)
-    (λ c. search needs)
+    (λ c. search needs) (λ c. search needs)
     (λ c. (omega arith, table-more _ _ _ (c .before .before .before .before .loop .inv .1) (sym (c .before .before .nth .ensures) ∙ ap viewOf (c .if2 .left) ∙ c .before .nth2 .ensures)))
     (λ c. sames-all _ _ _ (c .before .loop .inv .1) ∙ ap₂ sameViews (views-of _ _ _ (omega (arith, c .before .before .before .before .count .ensures .0))) (views-of _ _ _ (omega (arith, c .before .before .if1 .left, c .before .before .before .count2 .ensures .0)))))

@@ -5,10 +5,6 @@ use Rattle.pool.specs.Pool.{stmtAt}
 use borrow.Author.Needs.{needs}
 use Rattle.pool.proofs.read.binding.Statement.{statement}
 use Rattle.pool.proofs.read.binding.Tie as tie
-use Rattle.pool.proofs.read.binding.Reads as reads
-use Rattle.pool.proofs.read.binding.Lts as lts
-use Rattle.pool.proofs.read.capped.Reads as capped-reads
-use Rattle.pool.proofs.read.head_word.Reads as head-word-reads
 
 returns : tie.Need-returns
 unfolding stmtAt

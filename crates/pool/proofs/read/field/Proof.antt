@@ -5,9 +5,6 @@ use Rattle.pool.specs.Pool.{word}
 use borrow.Author.Needs.{needs}
 use Rattle.pool.proofs.read.field.Statement.{statement}
 use Rattle.pool.proofs.read.field.Tie as tie
-use Rattle.pool.proofs.read.field.Reads as reads
-use Rattle.pool.proofs.read.field.Lts as lts
-use Rattle.pool.proofs.read.slot.Reads as slot-reads
 
 returns : tie.Need-returns
 unfolding word

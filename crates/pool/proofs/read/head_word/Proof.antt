@@ -4,9 +4,6 @@ use Rattle.pool.specs.Pool.{headAt}
 use borrow.Author.Needs.{needs}
 use Rattle.pool.proofs.read.head_word.Statement.{statement}
 use Rattle.pool.proofs.read.head_word.Tie as tie
-use Rattle.pool.proofs.read.head_word.Reads as reads
-use Rattle.pool.proofs.read.head_word.Lts as lts
-use Rattle.pool.proofs.read.slot.Reads as slot-reads
 
 returns : tie.Need-returns
 unfolding headAt

@@ -6,10 +6,6 @@ use Rattle.pool.specs.Pool.{viewsFrom, viewWord}
 use borrow.Author.Needs.{needs}
 use Rattle.pool.proofs.read.nth.Statement.{statement}
 use Rattle.pool.proofs.read.nth.Tie as tie
-use Rattle.pool.proofs.read.nth.Reads as reads
-use Rattle.pool.proofs.read.nth.Lts as lts
-use Rattle.views.proofs.narrow.Reads as narrow-reads
-use Rattle.pool.proofs.read.slot.Reads as slot-reads
 
 returns : tie.Need-returns
 unfolding viewWord
@@ -19,11 +15,5 @@ pub nth-spec : {M : Type 1} → statement M
 nth-spec =
     tie.close
     (tie.spec
-    (λ c κs. search needs)
-    (λ c. search needs)
-    (λ c. search needs)
-    (λ c. search needs)
-    (λ c. search needs)
-    (λ c. search needs)
-    (λ c κs. search needs)
+    (λ c κs. search needs) (λ c. search needs) (λ c. search needs) (λ c. search needs) (λ c. search needs) (λ c. search needs) (λ c κs. search needs)
     returns)

@@ -5,9 +5,6 @@ use Rattle.pool.specs.Pool.{stmtAt}
 use borrow.Author.Needs.{needs}
 use Rattle.pool.proofs.read.origin.Statement.{statement}
 use Rattle.pool.proofs.read.origin.Tie as tie
-use Rattle.pool.proofs.read.origin.Reads as reads
-use Rattle.pool.proofs.read.origin.Lts as lts
-use Rattle.pool.proofs.read.head_word.Reads as head-word-reads
 
 returns : tie.Need-returns
 unfolding stmtAt

@@ -1,11 +1,7 @@
-use native.Mathlib.Omega.{arith}
 use Rattle.pool.specs.Pool.{stmtAt}
 use borrow.Author.Needs.{needs}
 use Rattle.pool.proofs.read.payload.Statement.{statement}
 use Rattle.pool.proofs.read.payload.Tie as tie
-use Rattle.pool.proofs.read.payload.Reads as reads
-use Rattle.pool.proofs.read.payload.Lts as lts
-use Rattle.pool.proofs.read.field.Reads as field-reads
 
 returns : tie.Need-returns
 unfolding stmtAt

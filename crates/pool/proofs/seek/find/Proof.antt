@@ -8,13 +8,6 @@ use Rattle.statements.specs.Meaning.{stmtOf}
 use Rattle.pool.proofs.Searches.{numberTo, seek-none, seek-more, seek-found, seek-all, others-differ}
 use Rattle.pool.proofs.seek.find.Statement.{statement}
 use Rattle.pool.proofs.seek.find.Tie as tie
-use Rattle.pool.proofs.seek.find.Reads as reads
-use Rattle.pool.proofs.seek.find.Lts as lts
-use Rattle.pool.proofs.read.pool_len.Reads as pool-len-reads
-use Rattle.pool.proofs.seek.head_of.Reads as head-of-reads
-use Rattle.pool.proofs.seek.is_other.Reads as is-other-reads
-use Rattle.views.proofs.View.word.Reads as word-reads
-use Rattle.pool.proofs.seek.same_at.Reads as same-at-reads
 
 abbrev Inv-loop : tie.InvT-loop
 Inv-loop words st end key t i₀ i = (i ≤ end) × (numberTo words (stmtOf st) i ≡ none)
@@ -28,20 +21,12 @@ find-spec =
     (tie.spec
     Inv-loop
     μ-loop
-    (λ c κs. search needs)
-    (λ c κs. search needs)
-    (λ c κs. search needs)
+    (λ c κs. search needs) (λ c κs. search needs) (λ c κs. search needs)
     (λ c. (omega arith, seek-none _ _))
-    (λ c. search needs)
-    (λ c κs. search needs)
-    (λ c. search needs)
-    (λ c. search needs)
+    (λ c. search needs) (λ c κs. search needs) (λ c. search needs) (λ c. search needs)
     (λ c. (omega arith, seek-more _ _ _ false (c .before .before .before .loop .inv .1) (sym (others-differ _ _ _ _ _ (c .before .is-other .ensures) (c .if1 .taken) (c .before .before .before .before .before .before .head-of .ensures .0) (c .before .before .before .before .word .ensures))) refl))
-    (λ c. search needs)
-    (λ c κs. search needs)
-    (λ c. search needs)
+    (λ c. search needs) (λ c κs. search needs) (λ c. search needs)
     (λ c. seek-found _ _ _ _ _ (c .before .before .before .before .loop-test .taken) (c .before .before .before .before .before .before .before .before .before .pool-len .ensures .0) (c .before .before .before .before .before .loop .inv .1) (c .before .same-at .ensures) (c .if2 .taken))
-    (λ c. search needs)
-    (λ c. search needs)
+    (λ c. search needs) (λ c. search needs)
     (λ c. (omega arith, seek-more _ _ _ _ (c .before .before .before .before .before .loop .inv .1) (c .before .same-at .ensures) (c .if2 .left)))
     (λ c. seek-all _ _ _ (omega (arith, c .before .before .before .before .before .pool-len .ensures .0)) (c .before .loop .inv .1)))

@@ -5,8 +5,6 @@ use Rattle.pool.specs.Changes.{headOf}
 use borrow.Author.Needs.{needs}
 use Rattle.pool.proofs.seek.head_of.Statement.{statement}
 use Rattle.pool.proofs.seek.head_of.Tie as tie
-use Rattle.pool.proofs.seek.head_of.Reads as reads
-use Rattle.pool.proofs.seek.head_of.Lts as lts
 
 returns : tie.Need-returns
 unfolding stmtOf headOf

@@ -3,10 +3,6 @@ use Rattle.pool.proofs.Searches.{other-is}
 use borrow.Author.Needs.{needs}
 use Rattle.pool.proofs.seek.is_other.Statement.{statement}
 use Rattle.pool.proofs.seek.is_other.Tie as tie
-use Rattle.pool.proofs.seek.is_other.Reads as reads
-use Rattle.pool.proofs.seek.is_other.Lts as lts
-use Rattle.pool.proofs.read.head.Reads as head-reads
-use Rattle.pool.proofs.read.at.Reads as at-reads
 
 pub is-other-spec : {M : Type 1} → statement M
 is-other-spec = tie.close (tie.spec (λ c κs. search needs) (λ c κs. search needs) (λ c. other-is _ _ _ _ _ (c .before .head .ensures) (c .at .ensures) (omega arith) (omega arith)))

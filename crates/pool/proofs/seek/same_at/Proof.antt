@@ -7,21 +7,6 @@ use Rattle.views.specs.View.{viewOf}
 use borrow.Author.Needs.{needs}
 use Rattle.pool.proofs.seek.same_at.Statement.{statement}
 use Rattle.pool.proofs.seek.same_at.Tie as tie
-use Rattle.pool.proofs.seek.same_at.Reads as reads
-use Rattle.pool.proofs.seek.same_at.Lts as lts
-use Rattle.pool.proofs.read.at.Reads as at-reads
-use Rattle.pool.proofs.read.binding.Reads as binding-reads
-use Rattle.pool.proofs.read.flag.Reads as flag-reads
-use Rattle.pool.proofs.read.kept.Reads as kept-reads
-use Rattle.pool.proofs.read.kind.Reads as kind-reads
-use Rattle.pool.proofs.read.origin.Reads as origin-reads
-use Rattle.pool.proofs.read.payload.Reads as payload-reads
-use Rattle.pool.proofs.read.stored.Reads as stored-reads
-use Rattle.pool.proofs.read.view.Reads as view-reads
-use Rattle.pool.proofs.seek.same_history.Reads as same-history-reads
-use Rattle.statements.proofs.binding_number.Reads as binding-number-reads
-use Rattle.statements.proofs.payload_of.Reads as payload-of-reads
-use Rattle.views.proofs.View.word.Reads as word-reads
 
 returns : tie.Need-returns
 unfolding stmtOf
@@ -55,26 +40,19 @@ pub same-at-spec : {M : Type 1} → statement M
 same-at-spec =
     tie.close
     (tie.spec
-    (λ c. search needs)
-    (λ c κs. search needs)
+    (λ c. search needs) (λ c κs. search needs)
     returns
-    (λ c. search needs)
-    (λ c κs. search needs)
+    (λ c. search needs) (λ c κs. search needs)
     returns-2
-    (λ c κs. search needs)
-    (λ c κs. search needs)
+    (λ c κs. search needs) (λ c κs. search needs)
     returns-3
-    (λ c κs. search needs)
-    (λ c κs. search needs)
+    (λ c κs. search needs) (λ c κs. search needs)
     returns-4
-    (λ c κs. search needs)
-    (λ c κs. search needs)
+    (λ c κs. search needs) (λ c κs. search needs)
     (λ c. differs (λ s. s .payload) _ _ (λ q. c .if5 .taken (c .before .before .payload-of .ensures ∙ q ∙ sym (c .before .payload .ensures))))
-    (λ c κs. search needs)
-    (λ c κs. search needs)
+    (λ c κs. search needs) (λ c κs. search needs)
     (λ c. differs (λ s. s .binding) _ _ (λ q. c .if6 .taken (c .before .before .binding-number .ensures .0 ∙ q ∙ sym (c .before .binding .ensures .0))))
-    (λ c κs. search needs)
-    (λ c κs. search needs)
+    (λ c κs. search needs) (λ c κs. search needs)
     returns-7
     (λ c κs. search needs)
     returns-8

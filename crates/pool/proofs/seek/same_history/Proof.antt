@@ -15,11 +15,6 @@ use Rattle.pool.specs.Pool.{viewAt}
 use Rattle.pool.proofs.Laws.{views-of}
 use Rattle.pool.proofs.seek.same_history.Statement.{statement}
 use Rattle.pool.proofs.seek.same_history.Tie as tie
-use Rattle.pool.proofs.seek.same_history.Reads as reads
-use Rattle.pool.proofs.seek.same_history.Lts as lts
-use Rattle.pool.proofs.read.count.Reads as count-reads
-use Rattle.pool.proofs.read.nth.Reads as nth-reads
-use Rattle.views.proofs.View.word.Reads as word-reads
 
 abbrev Inv-loop : tie.InvT-loop
 Inv-loop words n c views p₀ p = (p ≤ c) × (table p (heldAt views) ≡ table p (viewAt words n))

@@ -1,25 +1,13 @@
 use native.Mathlib.Omega.{arith}
-use mathlib.Core.Path.{sym, ap, _∙_}
+use mathlib.Core.Path.{_∙_}
 use Rattle.statements.specs.Meaning.{stmtOf}
 use Rattle.views.proofs.Views.{view-whole}
+use Rattle.statements.proofs.Statements.{flag-is}
 use Rattle.pool.proofs.Laws.{at-fits, view-fits}
-use Rattle.pool.proofs.Writes.{stmts, flag-is}
+use Rattle.pool.proofs.Writes.{stmts}
 use borrow.Author.Needs.{needs}
 use Rattle.pool.proofs.write.get.Statement.{statement}
 use Rattle.pool.proofs.write.get.Tie as tie
-use Rattle.pool.proofs.write.get.Reads as reads
-use Rattle.pool.proofs.write.get.Lts as lts
-use Rattle.pool.proofs.read.at.Reads as at-reads
-use Rattle.pool.proofs.read.binding.Reads as binding-reads
-use Rattle.pool.proofs.read.kept.Reads as kept-reads
-use Rattle.pool.proofs.read.kind.Reads as kind-reads
-use Rattle.pool.proofs.read.origin.Reads as origin-reads
-use Rattle.pool.proofs.read.payload.Reads as payload-reads
-use Rattle.pool.proofs.read.stored.Reads as stored-reads
-use Rattle.pool.proofs.read.view.Reads as view-reads
-use Rattle.pool.proofs.write.binding_of.Reads as binding-of-reads
-use Rattle.pool.proofs.write.get_views.Reads as get-views-reads
-use Rattle.views.proofs.View.of_word.Reads as of-word-reads
 
 returns : tie.Need-returns
 unfolding stmtOf
@@ -29,18 +17,6 @@ pub get-spec : {M : Type 1} → statement M
 get-spec =
     tie.close
     (tie.spec
-    (λ c κs. search needs)
-    (λ c κs. search needs)
-    (λ c κs. search needs)
-    (λ c κs. search needs)
-    (λ c κs. search needs)
-    (λ c κs. search needs)
-    (λ c κs. search needs)
-    (λ c κs. search needs)
-    (λ c κs. search needs)
-    (λ c. search needs)
-    (λ c κs. search needs)
-    (λ c. search needs)
-    (λ c κs. search needs)
-    (λ c κs. search needs)
+    (λ c κs. search needs) (λ c κs. search needs) (λ c κs. search needs) (λ c κs. search needs) (λ c κs. search needs) (λ c κs. search needs) (λ c κs. search needs)
+    (λ c κs. search needs) (λ c κs. search needs) (λ c. search needs) (λ c κs. search needs) (λ c. search needs) (λ c κs. search needs) (λ c κs. search needs)
     returns)

@@ -1,6 +1,6 @@
 use borrow.Author.Needs.{needs}
 use native.Mathlib.Omega.{arith}
-use mathlib.Core.Path.{_≡_, refl, sym, _∙_}
+use mathlib.Core.Path.{_≡_, refl, _∙_}
 use Prim.Native.Nat.{_-_, _≤_}
 use lib.ListN.{length, length-set}
 use Rattle.views.specs.Table.{table}
@@ -13,11 +13,6 @@ use Rattle.pool.specs.Pool.{viewAt}
 use Rattle.pool.proofs.Laws.{views-of, nth-fits}
 use Rattle.pool.proofs.write.get_views.Statement.{statement}
 use Rattle.pool.proofs.write.get_views.Tie as tie
-use Rattle.pool.proofs.write.get_views.Reads as reads
-use Rattle.pool.proofs.write.get_views.Lts as lts
-use Rattle.pool.proofs.read.count.Reads as count-reads
-use Rattle.pool.proofs.read.nth.Reads as nth-reads
-use Rattle.views.proofs.View.of_word.Reads as of-word-reads
 
 abbrev Inv-loop : tie.InvT-loop
 Inv-loop words n c views₀ p₀ views p = (p ≤ c) × (length views ≡ 16) × (table p (heldAt views) ≡ table p (viewAt words n))

@@ -7,12 +7,6 @@ use Rattle.pool.proofs.Parts.{head-word-is, head-back}
 use borrow.Author.Needs.{needs}
 use Rattle.pool.proofs.write.head_word.Statement.{statement}
 use Rattle.pool.proofs.write.head_word.Tie as tie
-use Rattle.pool.proofs.write.head_word.Reads as reads
-use Rattle.pool.proofs.write.head_word.Lts as lts
-use Rattle.pool.proofs.read.flag.Reads as flag-reads
-use Rattle.pool.proofs.seek.head_of.Reads as head-of-reads
-use Rattle.statements.proofs.binding_number.Reads as binding-number-reads
-use Rattle.views.proofs.History.count.Reads as count-reads
 
 returns : tie.Need-returns
 unfolding stmtOf
@@ -25,14 +19,6 @@ pub head-word-spec : {M : Type 1} → statement M
 head-word-spec =
     tie.close
     (tie.spec
-    (λ c κs. search needs)
-    (λ c κs. search needs)
-    (λ c κs. search needs)
-    (λ c κs. search needs)
-    (λ c. search needs)
-    (λ c. search needs)
-    (λ c. search needs)
-    (λ c. search needs)
-    (λ c. search needs)
-    (λ c. search needs)
+    (λ c κs. search needs) (λ c κs. search needs) (λ c κs. search needs) (λ c κs. search needs) (λ c. search needs) (λ c. search needs) (λ c. search needs) (λ c. search needs)
+    (λ c. search needs) (λ c. search needs)
     returns)

@@ -4,40 +4,13 @@ use Rattle.pool.proofs.Writes.{row-long, put-is}
 use borrow.Author.Needs.{needs}
 use Rattle.pool.proofs.write.put.Statement.{statement}
 use Rattle.pool.proofs.write.put.Tie as tie
-use Rattle.pool.proofs.write.put.Reads as reads
-use Rattle.pool.proofs.write.put.Lts as lts
-use Rattle.pool.proofs.read.size.Reads as size-reads
-use Rattle.pool.proofs.read.slot.Reads as slot-reads
-use Rattle.pool.proofs.write.head_word.Reads as head-word-reads
-use Rattle.pool.proofs.write.put_views.Reads as put-views-reads
-use Rattle.statements.proofs.payload_of.Reads as payload-of-reads
-use Rattle.views.proofs.View.word.Reads as word-reads
 
 pub put-spec : {M : Type 1} → statement M
 put-spec =
     tie.close
     (tie.spec
-    (λ c κs. search needs)
-    (λ c κs. search needs)
-    (λ c κs. search needs)
-    (λ c. search needs)
-    (λ c. search needs)
-    (λ c κs. search needs)
-    (λ c. search needs)
-    (λ c. search needs)
-    (λ c. search needs)
-    (λ c κs. search needs)
-    (λ c. search needs)
-    (λ c. search needs)
-    (λ c. search needs)
-    (λ c κs. search needs)
-    (λ c. search needs)
-    (λ c. search needs)
-    (λ c. search needs)
-    (λ c. search needs)
-    (λ c. search needs)
-    (λ c. search needs)
-    (λ c. search needs)
-    (λ c. search needs)
+    (λ c κs. search needs) (λ c κs. search needs) (λ c κs. search needs) (λ c. search needs) (λ c. search needs) (λ c κs. search needs) (λ c. search needs) (λ c. search needs)
+    (λ c. search needs) (λ c κs. search needs) (λ c. search needs) (λ c. search needs) (λ c. search needs) (λ c κs. search needs) (λ c. search needs) (λ c. search needs)
+    (λ c. search needs) (λ c. search needs) (λ c. search needs) (λ c. search needs) (λ c. search needs) (λ c. search needs)
     (λ c κs. (row-long (c .before .before .before .before .before .before .before .before .before .before .before .args .words .now) (c .before .before .before .before .before .before .before .before .slot .result) _ _ _ _ _ ∙ c .before .before .before .before .before .before .before .before .before .size .ensures .1, omega (arith, c .before .before .before .before .before .before .before .before .slot .ensures .1)))
     (λ c. put-is (c .before .before .before .before .before .before .before .before .before .before .before .before .args .words .now) _ _ (c .before .before .before .before .before .before .before .before .before .slot .result) _ (c .before .before .before .before .before .head-word .result) (c .before .before .before .before .word .result) (c .before .before .before .word2 .result) (c .before .before .payload-of .result) (c .before .before .before .before .before .before .before .before .before .before .before .before .args .st .kept) (c .before .before .before .before .before .before .before .before .before .before .size .ensures .1) (c .before .before .before .before .before .before .before .before .before .slot .ensures .0) (c .put-views .ensures) (c .before .before .before .before .before .head-word .ensures) (omega arith) (c .before .before .before .before .word .ensures) (omega arith) (c .before .before .before .word2 .ensures) (c .before .before .payload-of .ensures) refl))

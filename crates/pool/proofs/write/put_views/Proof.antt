@@ -2,16 +2,11 @@ use borrow.Author.Needs.{needs}
 use native.Mathlib.Omega.{arith}
 use mathlib.Core.Path.{_≡_}
 use Prim.Native.Nat.{_-_, _≤_}
-use lib.ListN.{length}
 use lib.Seq.{sets}
 use Rattle.views.specs.Table.{table}
 use Rattle.pool.proofs.Writes.{heldWord, word-of, none-written, one-written, wrote-views}
 use Rattle.pool.proofs.write.put_views.Statement.{statement}
 use Rattle.pool.proofs.write.put_views.Tie as tie
-use Rattle.pool.proofs.write.put_views.Reads as reads
-use Rattle.pool.proofs.write.put_views.Lts as lts
-use Rattle.views.proofs.History.count.Reads as count-reads
-use Rattle.views.proofs.View.word.Reads as word-reads
 
 abbrev Inv-loop : tie.InvT-loop
 Inv-loop words₀ s n views p₀ words p = (p ≤ n) × (words ≡ sets words₀ s (table p (heldWord views)))
@@ -33,7 +28,6 @@ put-views-spec =
     (λ c. omega (arith, c .before .before .before .before .before .count .ensures .1, c .before .before .before .before .before .before .pre .1))
     (λ c. omega (arith, c .before .before .before .before .before .count .ensures .1, c .before .before .before .before .before .before .pre .1))
     (λ c. omega (arith, c .before .before .before .before .before .count .ensures .1, c .before .before .before .before .before .before .pre .1))
-    (λ c. search needs)
-    (λ c. search needs)
+    (λ c. search needs) (λ c. search needs)
     (λ c. (omega arith, one-written _ _ _ _ _ _ (c .before .before .before .loop .inv .1) (word-of _ _ (omega arith) (c .word .ensures))))
     (λ c. wrote-views _ _ _ (c .before .loop .p) _ (omega (arith, c .before .before .before .count .ensures .0)) (c .before .loop .inv .1)))

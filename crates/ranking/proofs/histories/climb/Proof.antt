@@ -11,10 +11,8 @@ pub climb-spec : {M : Type 1} → statement M
 climb-spec =
     tie.close
     (tie.spec
-    (λ c κs. search needs)
-    (λ c κs. search needs)
-    (λ c. search needs)
-    (λ c. λ X h. laws.alone _ X _ _ _ _ h (c .before .before .before .before .args .out .now) _ (c .before .before .room .ensures) (c .if1 .taken) (c .before .first-marked .ensures))
+    (λ c κs. search needs) (λ c κs. search needs) (λ c. search needs)
+    (λ c. λ X h. laws.alone _ X _ _ _ _ h (c .before .before .before .before .args .out .now) _ (c .before .before .list-room .ensures) (c .if1 .taken) (c .before .first-marked .ensures))
     (λ c κs. omega (arith, c .before .first-marked .ensures .most))
     (λ c κs. (c .before .before .before .before .before .before .pre, slots-first (historyScale _) _ _ _ (laws.views-short _ _)))
     (λ c. λ X h. laws.clash-conflict _ X _ _ _ _ h _ _ (omega (arith, c .before .before .before .before .before .first-marked .ensures .most)) (c .before .before .before .before .before .first-marked .ensures .is (omega (arith, c .before .before .before .before .before .first-marked .ensures .most))) (c .before .before .before .entry-at .ensures) (c .before .fill-lengths .ensures .bad (not-true _ (c .if2 .taken))) _ _)

@@ -6,7 +6,7 @@ use lib.ListN.{length, length-set}
 use Rattle.views.specs.Table.{table}
 use Rattle.pool.specs.Pool.{viewAt}
 use Rattle.pool.proofs.Laws.{views-of}
-use Rattle.ranking.specs.Slots.{viewsOf}
+use Rattle.views.specs.View.{viewsOf}
 use Rattle.ranking.proofs.Summits.{copy-first, copy-more}
 use Rattle.ranking.proofs.histories.copy_views.Statement.{statement}
 use Rattle.ranking.proofs.histories.copy_views.Tie as tie
@@ -25,10 +25,8 @@ copy-views-spec =
     μ-loop
     (λ c κs. search needs)
     (λ c. (omega arith, c .before .pre, copy-first _ _))
-    (λ c κs. search needs)
-    (λ c. search needs)
+    (λ c κs. search needs) (λ c. search needs)
     (λ c. omega (arith, c .before .before .before .count .ensures .1))
-    (λ c. search needs)
-    (λ c. search needs)
+    (λ c. search needs) (λ c. search needs)
     (λ c. (omega arith, simp length-set (c .before .before .loop .inv .1), copy-more _ _ _ _ (omega (arith, c .before .before .before .count .ensures .1)) (c .before .before .loop .inv .2) (c .nth .ensures)))
     (λ c. (let e : c .before .loop .p ≡ c .before .before .count .result = omega arith in ap (viewsOf (c .before .loop .out)) (sym e) ∙ c .before .loop .inv .2 ∙ views-of _ _ _ (e ∙ c .before .before .count .ensures .0))))

@@ -8,10 +8,10 @@ use Rattle.ranking.proofs.histories.first_marked.Statement.{statement}
 use Rattle.ranking.proofs.histories.first_marked.Tie as tie
 
 abbrev Inv-loop : tie.InvT-loop
-Inv-loop memo na a₀ a = (a ≤ na) × ((b : ℕ) → b < a → sealMark memo b ≡ 1 → ⊥)
+Inv-loop memo agreements a₀ a = (a ≤ agreements) × ((b : ℕ) → b < a → sealMark memo b ≡ 1 → ⊥)
 
 abbrev μ-loop : tie.MeasureT-loop
-μ-loop memo na a₀ a = na - a
+μ-loop memo agreements a₀ a = agreements - a
 
 pub first-marked-spec : {M : Type 1} → statement M
 first-marked-spec =
@@ -20,10 +20,8 @@ first-marked-spec =
     Inv-loop
     μ-loop
     (λ c. (omega arith, λ b l. absurd (omega arith)))
-    (λ c. search needs)
-    (λ c. search needs)
+    (λ c. search needs) (λ c. search needs)
     (λ c. record { most = omega arith; none = c .before .before .before .loop .inv .1; is = λ l. c .if1 .taken })
-    (λ c. search needs)
-    (λ c. search needs)
+    (λ c. search needs) (λ c. search needs)
     (λ c. (omega arith, below-more _ _ (c .before .before .before .loop .inv .1) (c .if1 .left)))
-    (λ c. (let e : c .before .loop .a ≡ c .before .before .args .na = omega arith in record { most = omega arith; none = λ b l. c .before .loop .inv .1 b (omega arith); is = λ l. absurd (omega arith) })))
+    (λ c. (let e : c .before .loop .a ≡ c .before .before .args .agreements = omega arith in record { most = omega arith; none = λ b l. c .before .loop .inv .1 b (omega arith); is = λ l. absurd (omega arith) })))

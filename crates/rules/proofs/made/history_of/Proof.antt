@@ -16,15 +16,8 @@ pub history-of-spec : {M : Type 1} → statement M
 history-of-spec =
     tie.close
     (tie.spec
-    Inv-loop
-    μ-loop
+    Inv-loop μ-loop
     (λ c. (omega arith, slots-none refl))
-    (λ c. search needs)
-    (λ c. search needs)
-    (λ c κs. search needs)
-    (λ c. search needs)
-    (λ c. search needs)
-    (λ c. search needs)
-    (λ c. search needs)
+    (λ c. search needs) (λ c. search needs) (λ c κs. search needs) (λ c. search needs) (λ c. search needs) (λ c. search needs) (λ c. search needs)
     (λ c. (omega arith, slots-next _ (omega arith) (c .of-word .ensures) (c .before .before .before .loop .inv .1)))
     (λ c. (slots-whole _ _ (omega arith) (c .before .before .pre) (c .before .loop .inv .1), c .before .before .pre)))

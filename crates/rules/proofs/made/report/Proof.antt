@@ -1,4 +1,3 @@
-use native.Mathlib.Omega.{arith}
 use Rattle.rules.proofs.Applied.{reporting-made}
 use borrow.Author.Needs.{needs}
 use Rattle.rules.proofs.made.report.Statement.{statement}

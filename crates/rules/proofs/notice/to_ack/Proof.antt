@@ -1,4 +1,3 @@
-use native.Mathlib.Omega.{arith}
 use Rattle.rules.proofs.Applied.{ack-bound, ack-barred, ack-outside, ack-first}
 use borrow.Author.Needs.{needs}
 use Rattle.rules.proofs.notice.to_ack.Statement.{statement}
@@ -8,11 +7,7 @@ pub to-ack-spec : {M : Type 1} → statement M
 to-ack-spec =
     tie.close
     (tie.spec
-    (λ c. search needs)
-    (λ c. search needs)
-    (λ c. search needs)
-    (λ c κs. search needs)
-    (λ c κs. search needs)
+    (λ c. search needs) (λ c. search needs) (λ c. search needs) (λ c κs. search needs) (λ c κs. search needs)
     (λ c. ack-bound _ _ _ (c .before .b .given .1))
     (λ c. ack-barred _ _ (c .enum-told .given .1))
     (λ c. ack-first _ _ _ (c .before .before .before .enum-told2 .given .1) (c .before .before .has-member .ensures) _ (c .before .if1 .taken) (c .first-prepare .ensures))

@@ -1,4 +1,3 @@
-use native.Mathlib.Omega.{arith}
 use Rattle.rules.proofs.Applied.{leave-late, leave-waits, leave-free}
 use borrow.Author.Needs.{needs}
 use Rattle.rules.proofs.requests.may_leave.Statement.{statement}

@@ -1,4 +1,3 @@
-use native.Mathlib.Omega.{arith}
 use Rattle.rules.proofs.Scans.{own-not, own-is}
 use borrow.Author.Needs.{needs}
 use Rattle.rules.proofs.signed.is_own.Statement.{statement}

@@ -23,7 +23,6 @@ line-end-spec =
     (λ c. (omega arith, omega arith))
     (λ c. search needs)
     (λ c. omega (arith, c .before .before .before .loop .inv .1, end-here (c .before .before .before .before .args .s .now) (c .before .before .before .loop .i) (c .before .before .loop-test .taken) (c .if1 .taken)))
-    (λ c. search needs)
-    (λ c. search needs)
+    (λ c. search needs) (λ c. search needs)
     (λ c. (omega arith, omega (arith, c .before .before .before .loop .inv .1, end-later (c .before .before .before .before .args .s .now) (c .before .before .before .loop .i) (c .before .before .loop-test .taken) (c .if1 .left))))
     (λ c. omega (arith, c .before .loop .inv .1, end-none (c .before .before .args .s .now) (c .before .loop .i) (c .loop-test .left))))

@@ -9,8 +9,7 @@ pub read-body-spec : {M : Type 1} → statement M
 read-body-spec =
     tie.close
     (tie.spec
-    (λ c κs. search needs)
-    (λ c. search needs)
+    (λ c κs. search needs) (λ c. search needs)
     (λ c κs. set-by (c .before .before .before .before .args .line .now) _ (c .before .before .verb-of .ensures) (c .enum-told .given .1))
     (λ c. search needs)
     (λ c κs. named-by (c .before .before .before .before .args .line .now) _ (c .before .before .verb-of .ensures) Join _ (c .enum-told2 .given .1) refl tt)
@@ -26,13 +25,6 @@ read-body-spec =
     (λ c κs. named-by (c .before .before .before .before .args .line .now) _ (c .before .before .verb-of .ensures) Turn _ (c .enum-told7 .given .1) refl tt)
     (λ c. search needs)
     (λ c κs. lie-by (c .before .before .before .before .args .line .now) _ (c .before .before .verb-of .ensures) (c .enum-told8 .given .1))
-    (λ c. search needs)
-    (λ c. search needs)
-    (λ c. search needs)
-    (λ c. search needs)
-    (λ c. search needs)
-    (λ c. search needs)
-    (λ c. search needs)
-    (λ c. search needs)
+    (λ c. search needs) (λ c. search needs) (λ c. search needs) (λ c. search needs) (λ c. search needs) (λ c. search needs) (λ c. search needs) (λ c. search needs)
     (λ c. search needs)
     (λ c. unknown (c .before .before .before .before .args .line .now) _ (c .before .before .verb-of .ensures) (c .enum-told9 .given .1)))

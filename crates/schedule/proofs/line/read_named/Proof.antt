@@ -11,10 +11,7 @@ read-named-spec =
     (tie.spec
     (λ c κs. search needs)
     (λ c. named-none (c .before .before .before .before .args .line .now) _ _ _ (c .before .before .before .before .pre) (c .before .before .last-at .ensures) (not-true _ (c .if1 .taken)))
-    (λ c. search needs)
-    (λ c. search needs)
-    (λ c. search needs)
-    (λ c. search needs)
+    (λ c. search needs) (λ c. search needs) (λ c. search needs) (λ c. search needs)
     (λ c. named-some (c .before .before .before .before .before .before .before .args .line .now) _ _ _ Join (c .enum-told .given .1) (c .before .before .before .before .before .before .before .pre) (c .before .before .before .before .before .last-at .ensures) (not-false _ (c .before .before .before .if1 .left)))
     (λ c. named-some (c .before .before .before .before .before .before .before .args .line .now) _ _ _ Leave (c .enum-told2 .given .1) (c .before .before .before .before .before .before .before .pre) (c .before .before .before .before .before .last-at .ensures) (not-false _ (c .before .before .before .if1 .left)))
     (λ c. named-some (c .before .before .before .before .before .before .before .args .line .now) _ _ _ All (c .enum-told3 .given .1) (c .before .before .before .before .before .before .before .pre) (c .before .before .before .before .before .last-at .ensures) (not-false _ (c .before .before .before .if1 .left)))

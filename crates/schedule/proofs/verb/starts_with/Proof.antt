@@ -22,10 +22,8 @@ starts-with-spec =
     μ-loop
     (λ c. sym (starts-short (c .before .args .s .now) (c .before .args .word .now) (c .if1 .taken)))
     (λ c. (omega arith, omega arith, refl))
-    (λ c. search needs)
-    (λ c. search needs)
+    (λ c. search needs) (λ c. search needs)
     (λ c. sym (c .before .before .before .before .loop .inv .2 ∙ starts-differ (c .before .before .before .before .before .before .args .s .now) (c .before .before .before .before .before .before .args .word .now) (c .before .before .before .before .loop .i) (omega arith) (omega arith) (c .if2 .taken)))
-    (λ c. search needs)
-    (λ c. search needs)
+    (λ c. search needs) (λ c. search needs)
     (λ c. (omega arith, omega arith, c .before .before .before .before .loop .inv .2 ∙ starts-on (c .before .before .before .before .before .before .args .s .now) (c .before .before .before .before .before .before .args .word .now) (c .before .before .before .before .loop .i) (omega arith) (omega arith) (c .if2 .left)))
     (λ c. sym (c .before .loop .inv .2 ∙ starts-end (c .before .before .before .args .s .now) (c .before .before .before .args .word .now) (c .before .loop .i) (omega arith))))

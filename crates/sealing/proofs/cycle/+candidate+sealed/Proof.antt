@@ -1,6 +1,6 @@
 use borrow.Author.Needs.{needs}
 use native.Mathlib.Omega.{arith}
-use Prim.Native.Nat.{_+_, _-_, _*_, _≤_}
+use Prim.Native.Nat.{_+_, _-_, _*_, _≤_, _<_}
 use borrow.Author.Tests.{not-true, not-false}
 use Rattle.protocol.specs.View.{size}
 use Rattle.views.specs.View.{viewOf}
@@ -8,7 +8,7 @@ use Rattle.pool.specs.Pool.{recordIn}
 use Rattle.tables.specs.Index.{keyAt}
 use Rattle.sealing.specs.Memos.{Later}
 use Rattle.sealing.proofs.Laws as laws
-use Prim.Native.Nat.{ℕ, _<_}
+use Prim.Native.Nat.{ℕ}
 use borrow.Fn.Kinds.{In}
 use borrow.Fn.PlainCycle.{Measures, is, falls, and}
 use Rattle.sealing.proofs.cycle.candidate.Reads as candidate
@@ -158,8 +158,7 @@ pub +candidate+sealed-spec : {M : Type 1} → statement M
     (λ c. omega (arith, c .before .before .before .before .before .before .before .before .before .before .pre .1 .0 .among, c .before .before .before .before .before .before .before .before .before .before .pre .1 .0 .tables .agreed .few))
     (λ c. omega (arith, c .before .before .before .before .before .before .before .before .before .before .pre .1 .0 .among, c .before .before .before .before .before .before .before .before .before .before .pre .1 .0 .tables .agreed .few))
     (λ c. laws.put-no (laws.later-more (c .before .before .before .before .before .loop .inv .1) (c .before .candidate .ensures .1)) (laws.about-agreement (c .before .before .before .before .before .before .before .before .before .before .args .a)) (laws.seal-not (c .before .before .before .before .before .before .before .before .before .before .pre .1 .0 .tables) _ _ (c .before .before .before .before .before .before .before .number .ensures) (c .before .before .before .before .before .before .count .ensures .0) (c .before .before .before .before .loop-test .taken) (c .before .before .before .nth .ensures) (c .before .candidate .ensures .0) (not-true _ (c .if2 .taken))))
-    (λ c. search needs)
-    (λ c. search needs)
+    (λ c. search needs) (λ c. search needs)
     (λ c. (omega arith, laws.later-more (c .before .before .before .before .before .loop .inv .1) (c .before .candidate .ensures .1), laws.all-next (c .before .before .before .before .before .before .before .before .before .before .pre .1 .0 .tables) _ (c .before .before .before .before .before .loop .inv .2) (c .before .before .before .nth .ensures) (c .before .candidate .ensures .0) (not-false _ (c .if2 .left))))
     (λ c κs. search needs)
     (λ c. omega (arith, c .before .before .before .before .before .before .before .before .pre .1 .0 .among, c .before .before .before .before .before .before .before .before .pre .1 .0 .tables .agreed .few))

@@ -4,11 +4,6 @@ use Rattle.statements.proofs.FieldLaws.{rules-long, rules-are, payload-
 use borrow.Author.Needs.{needs}
 use Rattle.statements.proofs.field_rules.keeps_field_rules.Statement.{statement}
 use Rattle.statements.proofs.field_rules.keeps_field_rules.Tie as tie
-use Rattle.statements.proofs.field_rules.keeps_field_rules.Reads as reads
-use Rattle.statements.proofs.field_rules.keeps_field_rules.Lts as lts
-use Rattle.statements.proofs.field_rules.kind_rule.Reads as kind-rule-reads
-use Rattle.views.proofs.History.each_is_view.Reads as each-is-view-reads
-use Rattle.views.proofs.View.is_view.Reads as is-view-reads
 
 returns-2 : tie.Need-returns-2
 unfolding stmtOf
@@ -19,8 +14,5 @@ keeps-field-rules-spec =
     tie.close
     (tie.spec
     (λ c. rules-long (c .before .before .before .args .st) (c .if1 .taken))
-    (λ c κs. search needs)
-    (λ c κs. search needs)
-    (λ c κs. search needs)
-    (λ c κs. search needs)
+    (λ c κs. search needs) (λ c κs. search needs) (λ c κs. search needs) (λ c κs. search needs)
     returns-2)

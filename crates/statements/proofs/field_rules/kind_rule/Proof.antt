@@ -5,14 +5,6 @@ use Rattle.statements.proofs.FieldLaws.{no-kind}
 use borrow.Author.Needs.{needs}
 use Rattle.statements.proofs.field_rules.kind_rule.Statement.{statement}
 use Rattle.statements.proofs.field_rules.kind_rule.Tie as tie
-use Rattle.statements.proofs.field_rules.kind_rule.Reads as reads
-use Rattle.statements.proofs.field_rules.kind_rule.Lts as lts
-use Rattle.statements.proofs.field_rules.agree_history_rule.Reads as agree-history-rule-reads
-use Rattle.statements.proofs.field_rules.agree_view_rule.Reads as agree-view-rule-reads
-use Rattle.statements.proofs.field_rules.prepare_rule.Reads as prepare-rule-reads
-use Rattle.statements.proofs.field_rules.report_kind_rule.Reads as report-kind-rule-reads
-use Rattle.statements.proofs.field_rules.vote_rule.Reads as vote-rule-reads
-use Rattle.statements.proofs.field_rules.wish_rule.Reads as wish-rule-reads
 
 returns-7 : tie.Need-returns-7
 unfolding stmtOf
@@ -24,19 +16,4 @@ returns-8 c = no-kind (stmtOf (c .before .before .before .before .args .st)) (in
 
 pub kind-rule-spec : {M : Type 1} → statement M
 kind-rule-spec =
-    tie.close
-    (tie.spec
-    (λ c κs. search needs)
-    (λ c κs. search needs)
-    (λ c κs. search needs)
-    (λ c κs. search needs)
-    (λ c κs. search needs)
-    (λ c κs. search needs)
-    (λ c. search needs)
-    (λ c. search needs)
-    (λ c. search needs)
-    (λ c. search needs)
-    (λ c. search needs)
-    (λ c. search needs)
-    returns-7
-    returns-8)
+    tie.close (tie.spec (λ c κs. search needs) (λ c κs. search needs) (λ c κs. search needs) (λ c κs. search needs) (λ c κs. search needs) (λ c κs. search needs) (λ c. search needs) (λ c. search needs) (λ c. search needs) (λ c. search needs) (λ c. search needs) (λ c. search needs) returns-7 returns-8)

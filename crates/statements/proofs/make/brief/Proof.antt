@@ -2,19 +2,6 @@ use borrow.Author.Needs.{needs}
 use Rattle.statements.proofs.Held.{brief-made}
 use Rattle.statements.proofs.make.brief.Statement.{statement}
 use Rattle.statements.proofs.make.brief.Tie as tie
-use Rattle.statements.proofs.make.brief.Reads as reads
-use Rattle.statements.proofs.make.brief.Lts as lts
-use Rattle.statements.proofs.make.plain.Reads as plain-reads
-use Rattle.views.proofs.History.new.Reads as new-reads
-
-new-requires : tie.Need-new-requires
-new-requires c κs = search needs
-
-plain-requires : tie.Need-plain-requires
-plain-requires c κs = search needs
-
-returns : tie.Need-returns
-returns c = brief-made (c .before .new .ensures .0) (c .plain .ensures)
 
 pub brief-spec : {M : Type 1} → statement M
-brief-spec = tie.close (tie.spec new-requires plain-requires returns)
+brief-spec = tie.close (tie.spec (λ c κs. search needs) (λ c κs. search needs) (λ c. brief-made (c .before .new .ensures .0) (c .plain .ensures)))

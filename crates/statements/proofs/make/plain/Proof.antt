@@ -2,11 +2,6 @@ use mathlib.Core.Path.{refl}
 use Rattle.statements.proofs.Held.{plain-made}
 use Rattle.statements.proofs.make.plain.Statement.{statement}
 use Rattle.statements.proofs.make.plain.Tie as tie
-use Rattle.statements.proofs.make.plain.Reads as reads
-use Rattle.statements.proofs.make.plain.Lts as lts
-
-returns : tie.Need-returns
-returns c = plain-made _ refl refl refl (c .pre)
 
 pub plain-spec : {M : Type 1} → statement M
-plain-spec = tie.close (tie.spec returns)
+plain-spec = tie.close (tie.spec (λ c. plain-made _ refl refl refl (c .pre)))

@@ -3,15 +3,6 @@ use Rattle.statements.proofs.Held.{report-made}
 use borrow.Author.Needs.{needs}
 use Rattle.statements.proofs.make.report.Statement.{statement}
 use Rattle.statements.proofs.make.report.Tie as tie
-use Rattle.statements.proofs.make.report.Reads as reads
-use Rattle.statements.proofs.make.report.Lts as lts
-use Rattle.statements.proofs.make.kept.Reads as kept-reads
-
-kept-requires : tie.Need-kept-requires
-kept-requires c κs = search needs
-
-returns : tie.Need-returns
-returns c = report-made _ (c .before .args .payload) refl refl (c .kept .ensures) (c .before .pre)
 
 pub report-spec : {M : Type 1} → statement M
-report-spec = tie.close (tie.spec kept-requires returns)
+report-spec = tie.close (tie.spec (λ c κs. search needs) (λ c. report-made _ (c .before .args .payload) refl refl (c .kept .ensures) (c .before .pre)))

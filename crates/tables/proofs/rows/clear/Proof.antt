@@ -17,13 +17,8 @@ clear-spec =
     (tie.spec
     Inv-loop
     μ-loop
-    (λ c κs. search needs)
-    (λ c. search needs)
+    (λ c κs. search needs) (λ c. search needs)
     (λ c. (omega arith, clearing-first (c .rows-room .ensures)))
-    (λ c. search needs)
-    (λ c. search needs)
-    (λ c. search needs)
-    (λ c. search needs)
-    (λ c. search needs)
+    (λ c. search needs) (λ c. search needs) (λ c. search needs) (λ c. search needs) (λ c. search needs)
     (λ c. (omega arith, clearing-next (c .before .before .before .before .pre) (c .loop-test .taken) (c .before .loop .inv .1)))
     (λ c. clearing-all (c .before .before .before .before .pre) (omega arith) (c .before .loop .inv .1)))

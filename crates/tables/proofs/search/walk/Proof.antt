@@ -1,8 +1,8 @@
 use borrow.Author.Needs.{needs}
 use native.Mathlib.Omega.{arith}
 use mathlib.Core.Path.{sym, _∙_}
-use Rattle.tables.specs.Index.{slotOf, slotAt}
-use Rattle.tables.proofs.Searches.{Walked, walked-first, walked-next, older-most, HasKey, walked-found, walked-none, key-slot}
+use Rattle.tables.specs.Index.{slotOf, slotAt, HasKey}
+use Rattle.tables.proofs.Searches.{Walked, walked-first, walked-next, older-most, walked-found, walked-none, key-slot}
 use Rattle.tables.proofs.search.walk.Statement.{statement}
 use Rattle.tables.proofs.search.walk.Tie as tie
 
@@ -21,7 +21,7 @@ walk-spec =
     (λ c. walked-first (c .pre .2))
     (λ c. search needs)
     (λ c κs. (c .before .before .pre .0, omega (arith, c .before .before .pre .1 .1 .few, c .before .before .pre .1 .2, c .before .loop .inv .most, c .loop-test .taken)))
-    (λ c. walked-found (c .before .before .before .loop .inv) (c .before .key .ensures) (c .if1 .taken))
+    (λ c. walked-found (c .before .before .before .loop .inv) (sym (c .before .key .ensures) ∙ c .if1 .taken))
     (λ c κs. (c .before .before .before .before .pre .0, omega (arith, c .before .before .before .before .pre .1 .1 .few, c .before .before .before .before .pre .1 .2, c .before .before .before .loop .inv .most, c .before .before .loop-test .taken)))
     (λ c. omega (arith, older-most (c .before .before .before .before .before .pre .1 .1 .chained) (omega (arith, c .before .before .before .before .before .pre .1 .2, c .before .before .before .before .loop .inv .most, c .before .before .before .loop-test .taken)) (c .older .ensures), c .before .before .before .loop-test .taken))
     (λ c. walked-next (c .before .before .before .before .before .pre .1 .1 .chained) (key-slot _ _ _) (c .before .before .before .before .loop .inv) (c .before .before .before .before .before .pre .1 .2) (c .before .before .before .loop-test .taken) (λ e. c .before .if1 .left (c .before .before .key .ensures ∙ e)) (c .older .ensures))

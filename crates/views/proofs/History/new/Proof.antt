@@ -1,11 +1,7 @@
-use borrow.Author.Needs.{needs}
-use native.Mathlib.Omega.{arith}
 use mathlib.Core.Path.{refl}
 use Rattle.views.proofs.Held.{none-held}
 use Rattle.views.proofs.History.new.Statement.{statement}
 use Rattle.views.proofs.History.new.Tie as tie
-use Rattle.views.proofs.History.new.Reads as reads
-use Rattle.views.proofs.History.new.Lts as lts
 
 pub new-spec : {M : Type 1} → statement M
 new-spec = tie.close (tie.spec (λ c. (none-held _ refl, refl)))

@@ -4,10 +4,6 @@ use Rattle.views.proofs.Held.{push-room, push-full}
 use borrow.Author.Needs.{needs}
 use Rattle.views.proofs.History.push.Statement.{statement}
 use Rattle.views.proofs.History.push.Tie as tie
-use Rattle.views.proofs.History.push.Reads as reads
-use Rattle.views.proofs.History.push.Lts as lts
-use Rattle.views.proofs.History.count.Reads as count-reads
-use Rattle.views.proofs.History.cut.Reads as cut-reads
 
 pub push-spec : {M : Type 1} → statement M
 push-spec = tie.close (tie.spec (λ c κs. search needs) (λ c κs. search needs) (λ c. (c .cut .ensures .0 ∙ push-room _ _ _ (c .before .before .count .ensures .0) (c .before .if1 .taken), omega arith)) (λ c. search needs) (λ c κs. search needs) (λ c. (c .cut2 .ensures .0 ∙ push-full _ _ _ (c .before .before .count .ensures .0) (λ l. omega arith), omega arith)))

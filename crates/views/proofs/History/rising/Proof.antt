@@ -11,10 +11,6 @@ use Rattle.views.proofs.Histories.{rising-none, rising-one, rising-brea
 use Rattle.views.proofs.Held.{of-history}
 use Rattle.views.proofs.History.rising.Statement.{statement}
 use Rattle.views.proofs.History.rising.Tie as tie
-use Rattle.views.proofs.History.rising.Reads as reads
-use Rattle.views.proofs.History.rising.Lts as lts
-use Rattle.views.proofs.History.count.Reads as count-reads
-use Rattle.views.proofs.View.below.Reads as below-reads
 
 abbrev Inv-loop : tie.InvT-loop
 Inv-loop n views p₀ p = (1 ≤ p) × (p ≤ n) × (isRising 16 (table p (heldAt views)) ≡ true)
@@ -26,19 +22,11 @@ pub rising-spec : {M : Type 1} → statement M
 rising-spec =
     tie.close
     (tie.spec
-    Inv-loop
-    μ-loop
-    (λ c κs. search needs)
+    Inv-loop μ-loop (λ c κs. search needs)
     (λ c. of-history (isRising 16) _ _ (c .before .count .ensures .0) (rising-none _ 16 _ (c .if1 .taken)))
     (λ c. (omega arith, omega arith, rising-one _ 16))
-    (λ c. search needs)
-    (λ c. search needs)
-    (λ c. search needs)
-    (λ c. search needs)
-    (λ c. search needs)
-    (λ c κs. search needs)
+    (λ c. search needs) (λ c. search needs) (λ c. search needs) (λ c. search needs) (λ c. search needs) (λ c κs. search needs)
     (λ c. of-history (isRising 16) _ _ (c .before .before .before .before .before .before .before .before .count .ensures .0) (sym (rising-breaks _ 16 _ _ (c .before .before .before .before .before .loop .inv .0) (c .before .before .before .before .loop-test .taken) (sym (c .before .below .ensures) ∙ not-true _ (c .if2 .taken)))))
-    (λ c. search needs)
-    (λ c. search needs)
+    (λ c. search needs) (λ c. search needs)
     (λ c. (omega arith, omega arith, rising-more _ 16 _ (c .before .before .before .before .before .loop .inv .0) (c .before .before .before .before .before .loop .inv .2) (sym (c .before .below .ensures) ∙ not-false _ (c .if2 .left))))
     (λ c. of-history (isRising 16) _ _ (omega (arith, c .before .before .before .before .count .ensures .0)) (sym (c .before .loop .inv .2))))

@@ -1,13 +1,8 @@
-use native.Mathlib.Omega.{arith}
 use Rattle.protocol.specs.View.{below}
 use Rattle.views.proofs.Held.{of-words}
 use borrow.Author.Needs.{needs}
 use Rattle.views.proofs.View.below.Statement.{statement}
 use Rattle.views.proofs.View.below.Tie as tie
-use Rattle.views.proofs.View.below.Reads as reads
-use Rattle.views.proofs.View.below.Lts as lts
-use Rattle.views.proofs.View.word.Reads as word-reads
-use Rattle.views.proofs.words.below_view.Reads as below-view-reads
 
 pub below-spec : {M : Type 1} → statement M
 below-spec = tie.close (tie.spec (λ c κs. search needs) (λ c κs. search needs) (λ c κs. search needs) (λ c. of-words (below 16) _ _ (c .below-view .ensures) (c .before .before .word .ensures) (c .before .word2 .ensures)))

@@ -4,9 +4,6 @@ use Rattle.views.proofs.Views.{counted, at-most}
 use borrow.Author.Needs.{needs}
 use Rattle.views.proofs.View.count.Statement.{statement}
 use Rattle.views.proofs.View.count.Tie as tie
-use Rattle.views.proofs.View.count.Reads as reads
-use Rattle.views.proofs.View.count.Lts as lts
-use Rattle.views.proofs.View.members.Reads as members-reads
 
 pub count-spec : {M : Type 1} → statement M
 count-spec = tie.close (tie.spec (λ c κs. search needs) (λ c. let e = counted _ _ (c .members .ensures) in (e, omega (arith, e, at-most (viewIs (c .before .args .self))))))

@@ -3,9 +3,6 @@ use Rattle.views.proofs.Held.{member-far, member-at}
 use borrow.Author.Needs.{needs}
 use Rattle.views.proofs.View.has_member.Statement.{statement}
 use Rattle.views.proofs.View.has_member.Tie as tie
-use Rattle.views.proofs.View.has_member.Reads as reads
-use Rattle.views.proofs.View.has_member.Lts as lts
-use Rattle.views.proofs.View.members.Reads as members-reads
 
 pub has-member-spec : {M : Type 1} → statement M
 has-member-spec = tie.close (tie.spec (λ c. member-far _ _ _ (omega arith) (c .if1 .taken)) (λ c κs. search needs) (λ c. search needs) (λ c. member-at _ _ _ (c .members .ensures) (omega arith)))

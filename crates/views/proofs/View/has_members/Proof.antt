@@ -1,12 +1,8 @@
-use native.Mathlib.Omega.{arith}
 use mathlib.Core.Path.{ap}
 use lib.Dec.{ltb}
 use borrow.Author.Needs.{needs}
 use Rattle.views.proofs.View.has_members.Statement.{statement}
 use Rattle.views.proofs.View.has_members.Tie as tie
-use Rattle.views.proofs.View.has_members.Reads as reads
-use Rattle.views.proofs.View.has_members.Lts as lts
-use Rattle.views.proofs.View.count.Reads as count-reads
 
 pub has-members-spec : {M : Type 1} → statement M
 has-members-spec = tie.close (tie.spec (λ c κs. search needs) (λ c. ap (ltb 0) (c .count .ensures .0)))

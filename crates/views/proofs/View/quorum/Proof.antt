@@ -2,9 +2,6 @@ use Rattle.protocol.specs.View.{quorum}
 use borrow.Author.Needs.{needs}
 use Rattle.views.proofs.View.quorum.Statement.{statement}
 use Rattle.views.proofs.View.quorum.Tie as tie
-use Rattle.views.proofs.View.quorum.Reads as reads
-use Rattle.views.proofs.View.quorum.Lts as lts
-use Rattle.views.proofs.View.count.Reads as count-reads
 
 returns : tie.Need-returns
 unfolding quorum

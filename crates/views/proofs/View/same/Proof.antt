@@ -5,9 +5,6 @@ use Rattle.views.proofs.Held.{of-words}
 use borrow.Author.Needs.{needs}
 use Rattle.views.proofs.View.same.Statement.{statement}
 use Rattle.views.proofs.View.same.Tie as tie
-use Rattle.views.proofs.View.same.Reads as reads
-use Rattle.views.proofs.View.same.Lts as lts
-use Rattle.views.proofs.View.word.Reads as word-reads
 
 pub same-spec : {M : Type 1} → statement M
 same-spec = tie.close (tie.spec (λ c κs. search needs) (λ c κs. search needs) (λ c. of-words sameView _ _ (same-view _ _ (omega arith) (omega arith)) (c .before .word .ensures) (c .word2 .ensures)))

@@ -4,10 +4,6 @@ use Rattle.views.proofs.Views.{below-stop, below-words}
 use borrow.Author.Needs.{needs}
 use Rattle.views.proofs.words.below_view.Statement.{statement}
 use Rattle.views.proofs.words.below_view.Tie as tie
-use Rattle.views.proofs.words.below_view.Reads as reads
-use Rattle.views.proofs.words.below_view.Lts as lts
-use Rattle.views.proofs.words.within_view.Reads as within-view-reads
-use Rattle.views.proofs.words.narrow.Reads as narrow-reads
 
 pub below-view-spec : {M : Type 1} → statement M
 below-view-spec = tie.close (tie.spec (λ c κs. search needs) (λ c. below-stop _ _ _ (c .before .within-view .ensures) (not-true _ (c .if1 .taken))) (λ c κs. search needs) (λ c κs. search needs) (λ c. below-words _ _ _ _ (record { word = omega arith; view = c .before .narrow .ensures }) (record { word = omega arith; view = c .narrow2 .ensures }) _ (c .before .before .before .within-view .ensures) (not-false _ (c .before .before .if1 .left))))

@@ -1,10 +1,6 @@
-use borrow.Author.Needs.{needs}
-use native.Mathlib.Omega.{arith}
 use Rattle.views.proofs.Views.{narrow-is}
 use Rattle.views.proofs.words.narrow.Statement.{statement}
 use Rattle.views.proofs.words.narrow.Tie as tie
-use Rattle.views.proofs.words.narrow.Reads as reads
-use Rattle.views.proofs.words.narrow.Lts as lts
 
 pub narrow-spec : {M : Type 1} → statement M
 narrow-spec = tie.close (tie.spec (λ c. narrow-is _))

@@ -4,20 +4,12 @@ use Rattle.views.proofs.Views.{quorum-empty, quorum-seen, quorum-in}
 use borrow.Author.Needs.{needs}
 use Rattle.views.proofs.words.quorum_in.Statement.{statement}
 use Rattle.views.proofs.words.quorum_in.Tie as tie
-use Rattle.views.proofs.words.quorum_in.Reads as reads
-use Rattle.views.proofs.words.quorum_in.Lts as lts
-use Rattle.views.proofs.View.has_members.Reads as has-members-reads
-use Rattle.views.proofs.View.members.Reads as members-reads
-use Rattle.views.proofs.View.of_word.Reads as of-word-reads
-use Rattle.views.proofs.View.quorum.Reads as quorum-reads
 
 pub quorum-in-spec : {M : Type 1} → statement M
 quorum-in-spec =
     tie.close
     (tie.spec
-    (λ c κs. search needs)
-    (λ c κs. search needs)
+    (λ c κs. search needs) (λ c κs. search needs)
     (λ c. quorum-empty _ _ _ _ (c .before .before .of-word .ensures) (c .before .has-members .ensures) (not-true _ (c .if1 .taken)) ∙ quorum-in _ _)
-    (λ c κs. search needs)
-    (λ c κs. search needs)
+    (λ c κs. search needs) (λ c κs. search needs)
     (λ c. quorum-seen _ _ _ _ _ _ (c .before .before .before .before .of-word .ensures) (c .before .before .before .has-members .ensures) (not-false _ (c .before .before .if1 .left)) (c .members .ensures) (c .before .quorum .ensures) ∙ quorum-in _ _))

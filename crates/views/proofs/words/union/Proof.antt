@@ -1,11 +1,7 @@
-use borrow.Author.Needs.{needs}
-use native.Mathlib.Omega.{arith}
 use mathlib.Core.Path.{refl}
 use lib.Bits.{or-lt}
 use Rattle.views.proofs.words.union.Statement.{statement}
 use Rattle.views.proofs.words.union.Tie as tie
-use Rattle.views.proofs.words.union.Reads as reads
-use Rattle.views.proofs.words.union.Lts as lts
 
 pub union-spec : {M : Type 1} → statement M
 union-spec = tie.close (tie.spec (λ c. record { is = refl; small = λ p q. or-lt 16 _ _ p q }))

@@ -6,7 +6,7 @@ use borrow.Author.Tests.{not-true, not-false}
 use Rattle.tables.specs.Index.{SameRows, SameKeys}
 use Rattle.tables.proofs.Chains.{rows-again, keys-again, rows-same, keys-same}
 use Rattle.votes.specs.Chosen.{Agreements}
-use Rattle.votes.proofs.Picked.{tag-is, agreement-of, agreements-first, agreements-skip, agreements-take, agreements-all}
+use Rattle.votes.proofs.Picked.{tag-is, agreement-of, rows-first, rows-skip, rows-take, rows-all}
 use Rattle.votes.proofs.chosen.agreements.Statement.{statement}
 use Rattle.votes.proofs.chosen.agreements.Tie as tie
 
@@ -22,20 +22,17 @@ agreements-spec =
     (tie.spec
     Inv-loop
     μ-loop
-    (λ c. (omega arith, agreements-first _ _ _ _ (c .pre .empty), keys-same, rows-same))
+    (λ c. (omega arith, rows-first (c .pre .empty), keys-same, rows-same))
     (λ c. omega (arith, c .before .before .pre .groups .most, c .loop-test .taken))
     (λ c. omega (arith, c .before .before .pre .groups .most, c .loop-test .taken))
     (λ c κs. search needs)
     (λ c. omega (arith, c .place-of .ensures, c .before .before .before .before .pre .groups .place (c .before .before .before .loop .g) (c .before .before .loop-test .taken)))
     (λ c. omega (arith, c .place-of .ensures, c .before .before .before .before .pre .groups .place (c .before .before .before .loop .g) (c .before .before .loop-test .taken)))
     (λ c κs. tag-is _ _ (c .before .before .before .before .before .args .init) _ (c .before .before .before .before .before .pre .groups) (c .before .before .before .loop-test .taken) (c .before .place-of .ensures))
-    (λ c. search needs)
-    (λ c. search needs)
-    (λ c. (omega arith, agreements-skip _ _ _ _ _ (agreement-of _ _ _ _ (c .before .before .before .before .before .before .before .pre .groups) (c .before .before .before .before .before .loop-test .taken) (c .before .before .before .place-of .ensures) _ (c .before .is-agreement .ensures)) (not-true _ (c .if1 .taken)) (c .before .before .before .before .before .before .loop .inv .1), c .before .before .before .before .before .before .loop .inv .2, c .before .before .before .before .before .before .loop .inv .3))
+    (λ c. search needs) (λ c. search needs)
+    (λ c. (omega arith, rows-skip _ (agreement-of _ _ _ _ (c .before .before .before .before .before .before .before .pre .groups) (c .before .before .before .before .before .loop-test .taken) (c .before .before .before .place-of .ensures) _ (c .before .is-agreement .ensures)) (not-true _ (c .if1 .taken)) (c .before .before .before .before .before .before .loop .inv .1), c .before .before .before .before .before .before .loop .inv .2, c .before .before .before .before .before .before .loop .inv .3))
     (λ c κs. search needs)
     (λ c κs. (omega arith, omega (arith, c .before .before .before .before .before .before .before .before .before .loop .inv .1 .picked .fewer, c .before .before .before .before .before .before .before .before .before .before .pre .groups .most, c .before .before .before .before .before .before .before .before .loop-test .taken)))
-    (λ c. search needs)
-    (λ c. search needs)
-    (λ c. search needs)
-    (λ c. (omega arith, agreements-take _ _ _ _ _ (agreement-of _ _ _ _ (c .before .before .before .before .before .before .before .before .before .before .before .pre .groups) (c .before .before .before .before .before .before .before .before .before .loop-test .taken) (c .before .before .before .before .before .before .before .place-of .ensures) _ (c .before .before .before .before .before .is-agreement .ensures)) (not-false _ (c .before .before .before .before .if1 .left)) (omega (arith, c .before .before .before .before .before .before .before .before .before .before .loop .inv .1 .picked .fewer, c .before .before .before .before .before .before .before .before .before .before .before .pre .groups .most, c .before .before .before .before .before .before .before .before .before .loop-test .taken)) (c .add .ensures) (c .before .before .before .before .before .before .before .place-of .ensures) (c .before .top-view .ensures) (omega arith) refl (c .before .before .before .before .before .before .before .before .before .before .loop .inv .1), keys-again (c .before .before .before .before .before .before .before .before .before .before .loop .inv .2) (c .add .ensures .others 0 (omega arith) (λ u. omega arith)), rows-again (c .before .before .before .before .before .before .before .before .before .before .loop .inv .3) (c .add .ensures .rows 0 (omega arith) (λ u. omega arith))))
-    (λ c. (agreements-all _ _ _ _ (omega arith) (c .before .loop .inv .1), c .before .loop .inv .2, c .before .loop .inv .3)))
+    (λ c. search needs) (λ c. search needs) (λ c. search needs)
+    (λ c. (omega arith, rows-take _ (agreement-of _ _ _ _ (c .before .before .before .before .before .before .before .before .before .before .before .pre .groups) (c .before .before .before .before .before .before .before .before .before .loop-test .taken) (c .before .before .before .before .before .before .before .place-of .ensures) _ (c .before .before .before .before .before .is-agreement .ensures)) (not-false _ (c .before .before .before .before .if1 .left)) (omega (arith, c .before .before .before .before .before .before .before .before .before .before .loop .inv .1 .picked .fewer, c .before .before .before .before .before .before .before .before .before .before .before .pre .groups .most, c .before .before .before .before .before .before .before .before .before .loop-test .taken)) (c .add .ensures) (c .before .before .before .before .before .before .before .place-of .ensures) (c .before .top-view .ensures) (omega arith) refl (c .before .before .before .before .before .before .before .before .before .before .loop .inv .1), keys-again (c .before .before .before .before .before .before .before .before .before .before .loop .inv .2) (c .add .ensures .others 0 (omega arith) (λ u. omega arith)), rows-again (c .before .before .before .before .before .before .before .before .before .before .loop .inv .3) (c .add .ensures .rows 0 (omega arith) (λ u. omega arith))))
+    (λ c. (rows-all (omega arith) (c .before .loop .inv .1), c .before .loop .inv .2, c .before .loop .inv .3)))

@@ -5,7 +5,7 @@ use Prim.Native.Nat.{_-_, _≤_}
 use Rattle.protocol.specs.Statement.{isKind}
 use Rattle.protocol.specs.Evidence.{signs}
 use Rattle.views.specs.Sets.{IsSet}
-use Rattle.pool.specs.Pool.{recordOf}
+use Rattle.pool.specs.Pool.{recordUpTo}
 use Rattle.pool.proofs.Records.{set-first, set-next, set-whole}
 use Rattle.votes.specs.Keys.{Sofar}
 use Rattle.votes.proofs.Gathering.{sofar-first, sofar-whole}
@@ -13,7 +13,7 @@ use Rattle.votes.proofs.groups.gather.Statement.{statement}
 use Rattle.votes.proofs.groups.gather.Tie as tie
 
 abbrev Inv-loop : tie.InvT-loop
-Inv-loop words ids init keys₀ rows₀ groups₀ end joins₀ leaves₀ n₀ i₀ keys rows groups joins leaves n i = (i ≤ end) × Sofar words ids i keys rows groups n × IsSet joins (signs (isKind 1) (recordOf words ids i)) × IsSet leaves (signs (isKind 2) (recordOf words ids i))
+Inv-loop words ids init keys₀ rows₀ groups₀ end joins₀ leaves₀ n₀ i₀ keys rows groups joins leaves n i = (i ≤ end) × Sofar words ids i keys rows groups n × IsSet joins (signs (isKind 1) (recordUpTo words ids i)) × IsSet leaves (signs (isKind 2) (recordUpTo words ids i))
 
 abbrev μ-loop : tie.MeasureT-loop
 μ-loop words ids init keys₀ rows₀ groups₀ end joins₀ leaves₀ n₀ i₀ keys rows groups joins leaves n i = end - i
@@ -24,16 +24,11 @@ gather-spec =
     (tie.spec
     Inv-loop
     μ-loop
-    (λ c κs. search needs)
-    (λ c κs. search needs)
-    (λ c. (omega arith, sofar-first _ _ (c .before .room .ensures) (c .before .before .before .pre .0) (c .before .before .before .pre .1), set-first _ _ _, set-first _ _ _))
-    (λ c. search needs)
-    (λ c. search needs)
-    (λ c κs. search needs)
-    (λ c κs. search needs)
+    (λ c κs. search needs) (λ c κs. search needs)
+    (λ c. (omega arith, sofar-first _ _ (c .before .groups-room .ensures) (c .before .before .before .pre .0) (c .before .before .before .pre .1), set-first _ _ _, set-first _ _ _))
+    (λ c. search needs) (λ c. search needs) (λ c κs. search needs) (λ c κs. search needs)
     (λ c κs. (omega (arith, c .before .before .before .before .before .before .before .before .record-length .ensures .1), c .before .before .before .before .before .before .before .loop .inv .1))
-    (λ c. search needs)
-    (λ c. search needs)
+    (λ c. search needs) (λ c. search needs)
     (λ c. (omega arith, c .add .ensures, set-next _ _ _ _ _ _ _ _ (omega (arith, c .before .before .before .before .before .before .before .before .before .record-length .ensures .1)) (c .before .before .before .before .before .before .before .before .loop .inv .2) (c .before .before .before .before .before .note-kind .ensures) refl refl, set-next _ _ _ _ _ _ _ _ (omega (arith, c .before .before .before .before .before .before .before .before .before .record-length .ensures .1)) (c .before .before .before .before .before .before .before .before .loop .inv .3) (c .before .before .before .before .note-kind2 .ensures) refl refl))
     (λ c κs. search needs)
     (λ c. let e : c .before .before .loop .i ≡ c .before .before .before .record-length .result = omega arith in record { groups = sofar-whole _ _ _ (e ∙ c .before .before .before .record-length .ensures .0) (c .before .before .loop .inv .1); wished = c .wished-view .ensures _ (set-whole _ _ _ _ _ _ _ e (c .before .before .before .record-length .ensures .0) (c .before .before .loop .inv .2)) (set-whole _ _ _ _ _ _ _ e (c .before .before .before .record-length .ensures .0) (c .before .before .loop .inv .3)); empty = c .before .before .loop .inv .1 .empty }))

@@ -4,14 +4,14 @@ use mathlib.Core.Path.{_≡_, sym, _∙_}
 use mathlib.Core.Bool.{false}
 use Prim.Native.Nat.{_-_, _≤_}
 use Rattle.protocol.specs.Lists.{any}
-use Rattle.pool.specs.Pool.{recordOf}
+use Rattle.pool.specs.Pool.{recordUpTo}
 use Rattle.pool.proofs.Records as records
 use Rattle.votes.specs.Votes.{isVote}
 use Rattle.votes.proofs.groups.has_votes.Statement.{statement}
 use Rattle.votes.proofs.groups.has_votes.Tie as tie
 
 abbrev Inv-loop : tie.InvT-loop
-Inv-loop words ids end i₀ i = (i ≤ end) × (any isVote (recordOf words ids i) ≡ false)
+Inv-loop words ids end i₀ i = (i ≤ end) × (any isVote (recordUpTo words ids i) ≡ false)
 
 abbrev μ-loop : tie.MeasureT-loop
 μ-loop words ids end i₀ i = end - i
@@ -24,11 +24,8 @@ has-votes-spec =
     μ-loop
     (λ c κs. search needs)
     (λ c. (omega arith, records.none-first _ _ _))
-    (λ c. search needs)
-    (λ c. search needs)
-    (λ c κs. search needs)
+    (λ c. search needs) (λ c. search needs) (λ c κs. search needs)
     (λ c. sym (records.found _ _ _ _ _ (omega (arith, c .before .before .before .before .before .record-length .ensures .0)) (sym (c .before .is-vote .ensures) ∙ c .if1 .taken)))
-    (λ c. search needs)
-    (λ c. search needs)
+    (λ c. search needs) (λ c. search needs)
     (λ c. (omega arith, records.none-next _ _ _ _ (omega (arith, c .before .before .before .before .before .record-length .ensures .1)) (c .before .before .before .before .loop .inv .1) (sym (c .before .is-vote .ensures) ∙ c .if1 .left)))
     (λ c. sym (records.none _ _ _ _ _ (omega (arith, c .before .before .record-length .ensures .0)) (c .before .loop .inv .1))))

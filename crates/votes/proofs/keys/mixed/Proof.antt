@@ -28,7 +28,6 @@ mixed-spec =
     (λ c κs. omega (arith, c .before .before .before .count .ensures .1))
     (λ c. omega (arith, mix-part _ _ (omega arith) (c .before .nth .ensures) (nth-fits _ _ _) (c .weight .ensures .1)))
     (λ c. omega (arith, c .before .before .before .before .count .ensures .1, c .before .before .before .loop .inv .1, mix-part _ _ (omega arith) (c .before .nth .ensures) (nth-fits _ _ _) (c .weight .ensures .1)))
-    (λ c. search needs)
-    (λ c. search needs)
+    (λ c. search needs) (λ c. search needs)
     (λ c. (omega arith, omega (arith, c .before .before .before .loop .inv .1, mix-part _ _ (omega arith) (c .before .nth .ensures) (nth-fits _ _ _) (c .weight .ensures .1)), mix-more _ _ _ _ _ (c .before .before .before .loop .inv .2) (omega arith) (c .before .nth .ensures) (c .weight .ensures .0)))
     (λ c. of-views (mixFrom 0 0) _ _ _ (omega (arith, c .before .before .count .ensures .0)) (c .before .loop .inv .2)))

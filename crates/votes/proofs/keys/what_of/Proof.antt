@@ -9,8 +9,7 @@ pub what-of-spec : {M : Type 1} → statement M
 what-of-spec =
     tie.close
     (tie.spec
-    (λ c κs. search needs)
-    (λ c κs. search needs)
+    (λ c κs. search needs) (λ c κs. search needs)
     (λ c. word-of _ _ (omega arith) (c .view .ensures) ∙ sym (what-view _ (sym (c .before .before .kind .ensures .0) ∙ c .before .if1 .taken)))
     (λ c κs. search needs)
     (λ c. c .mixed .ensures ∙ sym (what-history _ (sym (c .before .before .before .kind .ensures .0) ∙ c .before .if2 .taken)))

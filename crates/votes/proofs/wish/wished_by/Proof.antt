@@ -5,13 +5,13 @@ use Prim.Native.Nat.{_-_, _≤_}
 use Rattle.protocol.specs.Statement.{isKind}
 use Rattle.protocol.specs.Evidence.{signs}
 use Rattle.views.specs.Sets.{IsSet}
-use Rattle.pool.specs.Pool.{recordOf}
+use Rattle.pool.specs.Pool.{recordUpTo}
 use Rattle.pool.proofs.Records.{set-first, set-next, set-whole}
 use Rattle.votes.proofs.wish.wished_by.Statement.{statement}
 use Rattle.votes.proofs.wish.wished_by.Tie as tie
 
 abbrev Inv-loop : tie.InvT-loop
-Inv-loop words ids init end joins₀ leaves₀ i₀ joins leaves i = (i ≤ end) × IsSet joins (signs (isKind 1) (recordOf words ids i)) × IsSet leaves (signs (isKind 2) (recordOf words ids i))
+Inv-loop words ids init end joins₀ leaves₀ i₀ joins leaves i = (i ≤ end) × IsSet joins (signs (isKind 1) (recordUpTo words ids i)) × IsSet leaves (signs (isKind 2) (recordUpTo words ids i))
 
 abbrev μ-loop : tie.MeasureT-loop
 μ-loop words ids init end joins₀ leaves₀ i₀ joins leaves i = end - i
@@ -24,12 +24,7 @@ wished-by-spec =
     μ-loop
     (λ c κs. search needs)
     (λ c. (omega arith, set-first _ _ _, set-first _ _ _))
-    (λ c. search needs)
-    (λ c. search needs)
-    (λ c κs. search needs)
-    (λ c κs. search needs)
-    (λ c. search needs)
-    (λ c. search needs)
+    (λ c. search needs) (λ c. search needs) (λ c κs. search needs) (λ c κs. search needs) (λ c. search needs) (λ c. search needs)
     (λ c. (omega arith, set-next _ _ _ _ _ _ _ _ (omega (arith, c .before .before .before .before .before .record-length .ensures .1)) (c .before .before .before .before .loop .inv .1) (c .before .note-kind .ensures) refl refl, set-next _ _ _ _ _ _ _ _ (omega (arith, c .before .before .before .before .before .record-length .ensures .1)) (c .before .before .before .before .loop .inv .2) (c .note-kind2 .ensures) refl refl))
     (λ c κs. search needs)
     (λ c. let e : c .before .before .loop .i ≡ c .before .before .before .record-length .result = omega arith in c .wished-view .ensures _ (set-whole _ _ _ _ _ _ _ e (c .before .before .before .record-length .ensures .0) (c .before .before .loop .inv .1)) (set-whole _ _ _ _ _ _ _ e (c .before .before .before .record-length .ensures .0) (c .before .before .loop .inv .2))))

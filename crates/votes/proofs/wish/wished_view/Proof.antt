@@ -7,10 +7,5 @@ pub wished-view-spec : {M : Type 1} → statement M
 wished-view-spec =
     tie.close
     (tie.spec
-    (λ c κs. search needs)
-    (λ c κs. search needs)
-    (λ c κs. search needs)
-    (λ c κs. search needs)
-    (λ c κs. search needs)
-    (λ c κs. search needs)
+    (λ c κs. search needs) (λ c κs. search needs) (λ c κs. search needs) (λ c κs. search needs) (λ c κs. search needs) (λ c κs. search needs)
     (λ c. λ X s t. wish-is _ X (record { view = c .before .before .before .before .before .of-word .ensures; joins = s; leaves = t; first = c .before .before .before .before .joined-set .ensures; second = c .before .before .left-set .ensures; joined = c .before .before .before .union .ensures; left = c .before .union2 .ensures }) _ (c .word .ensures)))

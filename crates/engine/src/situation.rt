@@ -1,0 +1,61 @@
+// What the rules look at, of a controller and its evidence.
+ghost use mathlib.Core.Path.{_≡_};
+ghost use Prim.Native.Nat.{_≤_, _<_};
+ghost use Rattle.protocol.specs.Lists.{all};
+ghost use Rattle.views.specs.Held.{viewIs, viewsIs};
+ghost use Rattle.engine.specs.Situation.{notAbove, RingOf, SituationFrom};
+use crate::Controller;
+use evidence::Evidence;
+use evidence::Ring;
+use rules::Situation;
+use views::History;
+use views::View;
+
+// Whether no view of h is greater than t.
+fn none_above(h: History, t: View) -> bool
+    ensures { λ r. ⌜ r ≡ all (notAbove (viewIs t)) (viewsIs h) ⌝ }
+{
+    let n = h.count();
+    let views = h.views;
+    let mut p = 0usize;
+    while p < n {
+        let u = views[p];
+        if t.below(u) {
+            return false;
+        }
+        p += 1;
+    }
+    true
+}
+
+// The situation of the controller c, in its ring, with the evidence e of its record.
+pub fn of_controller(
+    c: Controller,
+    ring: Ring,
+    e: Evidence,
+    greatest: &[u64; View::LIMIT],
+) -> Situation
+    requires { ⌜ RingOf c ring × (0 < e .length) × (e .length ≤ 16) ⌝ }
+    ensures { λ r. ⌜ SituationFrom c ring (now (greatest .entry)) e r ⌝ }
+{
+    let t = View::of_word(greatest[e.length - 1]);
+    let h = c.entered;
+    let entered = h.has(t);
+    let b = c.binding;
+    let sending = c.sending;
+    Situation {
+        number: c.number,
+        ring: ring,
+        binding: b,
+        delivered: c.delivered,
+        joining: c.joining,
+        leaving: c.leaving,
+        sending: sending,
+        active: h.count() > 0,
+        entered: entered,
+        stands: entered & none_above(h, t),
+        left: t.has_left(c.number),
+        top: t,
+        shown: e,
+    }
+}

@@ -1,0 +1,46 @@
+//! Two controllers in one program: what one signs, the other is given. Both deliver the payload 7. `host.c` is the same host in C.
+//!
+//!     rt staticlib pekdrav
+//!     cargo run --release --offline --manifest-path rust/Cargo.toml -p pekdrav --example host
+
+use pekdrav::{Answer, Controller, Pool};
+
+/// A controller with a pool of its own.
+#[derive(Default)]
+struct Seat {
+    controller: Controller,
+    pool: Pool,
+}
+
+/// A host would sign this text and send it; here it goes straight to the other controller.
+fn pass_on(ring: &mut [Seat; 2], from: usize, number: u16) {
+    let text = ring[from].pool.text(number).unwrap_or_default();
+    println!("{from} signed {}", String::from_utf8_lossy(&text));
+    let to = &mut ring[1 - from];
+    to.controller.add(&mut to.pool, &text);
+}
+
+/// One turn. Answers false where there was nothing to do.
+fn turn(ring: &mut [Seat; 2], k: usize) -> bool {
+    let Seat { controller, pool } = &mut ring[k];
+    match controller.turn(pool) {
+        Answer::Signed(number) => pass_on(ring, k, number),
+        Answer::Entered(view) => println!("{k} entered {view}"),
+        Answer::Delivered(payload) => println!("{k} delivered {payload}"),
+        Answer::Refused(refusal) => {
+            println!("{k} refused {}", refusal.number());
+            return false;
+        }
+        Answer::Taken | Answer::Left | Answer::Quiet => return false,
+    }
+    true
+}
+
+fn main() {
+    let mut ring: [Seat; 2] = Default::default();
+    for (number, seat) in (0..).zip(&mut ring) {
+        seat.controller.setup(number, 0x0003, 0);
+    }
+    ring[0].controller.send(7);
+    while turn(&mut ring, 0) | turn(&mut ring, 1) {}
+}

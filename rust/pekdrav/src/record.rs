@@ -1,0 +1,91 @@
+//! A list of a pool's statements, and what it shows.
+
+use crate::evidence::{Evidence, EvidenceWords};
+use crate::ffi;
+use crate::pool::{Pool, STATEMENTS};
+use crate::statement::Kind;
+use crate::view::{Ring, View};
+
+/// Statements of a pool by their numbers, in order of arrival.
+///
+/// A controller has one of its own; one that is made here can be looked at in any ring. `==` compares the memory, also places that do not count.
+#[derive(Clone, PartialEq, Eq)]
+#[repr(C)]
+pub struct Record {
+    ids: [u16; STATEMENTS],
+    count: u16,
+}
+
+impl Default for Record {
+    fn default() -> Record {
+        Record { ids: [0; STATEMENTS], count: 0 }
+    }
+}
+
+impl std::fmt::Debug for Record {
+    fn fmt(&self, f: &mut std::fmt::Formatter<'_>) -> std::fmt::Result {
+        f.debug_list().entries(self.numbers()).finish()
+    }
+}
+
+/// No text of what a record shows has more bytes.
+const SCREEN_MAX: usize = 512;
+
+impl Record {
+    /// An empty record.
+    pub fn new() -> Record {
+        Record::default()
+    }
+
+    /// The record of these numbers, if there are at most 512.
+    pub fn of(numbers: &[u16]) -> Option<Record> {
+        let mut record = Record::new();
+        record.ids.get_mut(..numbers.len())?.copy_from_slice(numbers);
+        record.count = numbers.len() as u16;
+        Some(record)
+    }
+
+    /// The numbers of its statements.
+    pub fn numbers(&self) -> &[u16] {
+        &self.ids[..self.len()]
+    }
+
+    /// How many statements it has.
+    pub fn len(&self) -> usize {
+        usize::from(self.count).min(STATEMENTS)
+    }
+
+    /// Whether it has none.
+    pub fn is_empty(&self) -> bool {
+        self.count == 0
+    }
+
+    /// Who signed a statement of this kind at this view, bit k for controller k.
+    #[inline]
+    pub fn signers(&self, pool: &Pool, kind: Kind, at: View) -> u32 {
+        ffi::pekdrav_record_signers(self, pool.words(), kind as u8, at.word())
+    }
+
+    /// What the record shows in a ring.
+    pub fn evidence(&self, pool: &Pool, ring: Ring) -> Evidence {
+        let mut out = EvidenceWords::default();
+        self.evidence_into(pool, ring, &mut out);
+        Evidence::from(&out)
+    }
+
+    /// The same in memory that is lent, all of which is written.
+    #[inline]
+    pub fn evidence_into(&self, pool: &Pool, ring: Ring, out: &mut EvidenceWords) {
+        ffi::pekdrav_record_evidence(self, pool.words(), ring.initial.word(), ring.sender, out);
+    }
+
+    /// What the record shows in a ring, in lines, for a service screen.
+    ///
+    /// The lines: `wished,VIEW`; then `conflict` and nothing more, or `candidates,COUNT,VIEW,..` (`candidates,many` for more than sixteen),
+    /// `greatest,COUNT,VIEW,..` and `certificate,PAYLOAD,stored` (`kept` if it is not stored, `certificate,none` if no payload has one).
+    pub fn screen(&self, pool: &Pool, ring: Ring) -> String {
+        let mut out = [0; SCREEN_MAX];
+        let length = ffi::record_screen(self, pool.words(), ring.initial.word(), ring.sender, &mut out);
+        out[..length].iter().map(|&byte| char::from(byte)).collect()
+    }
+}

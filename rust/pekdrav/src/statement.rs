@@ -1,0 +1,37 @@
+//! The text of a statement.
+
+use crate::ffi;
+
+/// No statement's text has more bytes.
+pub const TEXT_MAX: usize = 256;
+
+/// The kinds of statements, by the number that their text begins with.
+#[derive(Clone, Copy, PartialEq, Eq, PartialOrd, Ord, Hash, Debug)]
+#[repr(u8)]
+pub enum Kind {
+    /// Its origin asks to join.
+    Join = 1,
+    /// Its origin asks to leave.
+    Leave = 2,
+    /// A vote for a view.
+    AgreeView = 3,
+    /// A vote for a history.
+    AgreeHistory = 4,
+    /// What its origin has seen and is bound to, for those who enter a greater view.
+    Report = 5,
+    /// The payload of the sender's notice.
+    Prepare = 6,
+    /// An acknowledgement of a payload.
+    Ack = 7,
+    /// Its origin has seen a quorum of acks.
+    Store = 8,
+}
+
+/// Writes the statement that `line` is from the start of `out` and answers its length.
+///
+/// `None`, with `out` as it was, if `line` is the text of no statement that keeps the field rules or `out` is too short.
+#[inline]
+pub fn rewrite(line: &[u8], out: &mut [u8]) -> Option<usize> {
+    let length = ffi::statement_rewrite(line, out);
+    (length > 0).then_some(length)
+}
