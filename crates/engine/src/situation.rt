@@ -3,8 +3,7 @@ ghost use mathlib.Core.Path.{_≡_};
 ghost use Prim.Native.Nat.{_≤_, _<_};
 ghost use Rattle.protocol.specs.Lists.{all};
 ghost use Rattle.views.specs.Held.{viewIs, viewsIs};
-ghost use Rattle.engine.specs.Situation.{notAbove, RingOf, SituationFrom};
-use crate::Controller;
+ghost use Rattle.engine.specs.Situation.{notAbove, Situated};
 use evidence::Evidence;
 use evidence::Ring;
 use rules::Situation;
@@ -28,33 +27,34 @@ fn none_above(h: History, t: View) -> bool
     true
 }
 
-// The situation of the controller c, in its ring, with the evidence e of its record.
-pub fn of_controller(
-    c: Controller,
+// The situation of the controller with these fields, that entered the views h, in its ring, with the evidence e of its record.
+pub fn of_fields(
+    number: u8,
     ring: Ring,
+    delivered: u64,
+    requested: u64,
+    joining: bool,
+    leaving: bool,
+    h: History,
     e: Evidence,
     greatest: &[u64; View::LIMIT],
 ) -> Situation
-    requires { ⌜ RingOf c ring × (0 < e .length) × (e .length ≤ 16) ⌝ }
-    ensures { λ r. ⌜ SituationFrom c ring (now (greatest .entry)) e r ⌝ }
+    requires { ⌜ (0 < e .length) × (e .length ≤ 16) ⌝ }
+    ensures { λ r. ⌜ Situated number ring delivered requested joining leaving h (now (greatest .entry)) e r ⌝ }
 {
     let t = View::of_word(greatest[e.length - 1]);
-    let h = c.entered;
     let entered = h.has(t);
-    let b = c.binding;
-    let sending = c.sending;
     Situation {
-        number: c.number,
+        number: number,
         ring: ring,
-        binding: b,
-        delivered: c.delivered,
-        joining: c.joining,
-        leaving: c.leaving,
-        sending: sending,
+        delivered: delivered,
+        joining: joining,
+        leaving: leaving,
+        requested: requested,
         active: h.count() > 0,
         entered: entered,
         stands: entered & none_above(h, t),
-        left: t.has_left(c.number),
+        left: t.has_left(number),
         top: t,
         shown: e,
     }
