@@ -106,6 +106,21 @@ fn put_step(rows: &mut [u8], place: Place, next: usize, who: u64, a: Answer, num
     put_line(rows, place, next, who, word_of(a), value_of(a, number))
 }
 
+// The row of a line that is unreadable: it names nobody.
+fn put_unreadable(rows: &mut [u8], place: Place, next: usize) -> Place
+    requires { ⌜ HasRoom place next ⌝ }
+    ensures { λ r. ⌜ RowPut (now (rows .entry)) place next (rowOf (place .n) 16 Word.Refused (Value.Number 8)) r (now (rows .exit)) ⌝ }
+{
+    put_line(
+        rows,
+        place,
+        next,
+        NOBODY,
+        Word::Refused,
+        Value::Number(UNREADABLE),
+    )
+}
+
 // The seat of the controller that a line names; the first where it names none.
 fn seat_of(line: Line) -> usize
     ensures { λ r. ⌜ r ≡ seatOf (Readable line) ⌝ }
@@ -229,14 +244,7 @@ fn run_lines(schedule: &[u8], rows: &mut [u8]) -> usize
         let next = read.next;
         let parsed = read.parsed;
         let Parsed::Readable(line) = parsed else {
-            let on = put_line(
-                rows,
-                place,
-                next,
-                NOBODY,
-                Word::Refused,
-                Value::Number(UNREADABLE),
-            );
+            let on = put_unreadable(rows, place, next);
             place = on;
             continue;
         };
