@@ -25,7 +25,7 @@ use Rattle.engine.specs.declared.Controller.{Controller}
 use Rattle.engine.specs.declared.Outcome.{Outcome}
 use Rattle.engine.specs.declared.Answer.{Answer}
 use Rattle.engine.specs.declared.Answer.the-variants.{Taken, Signed, Entered, Delivered, Left, Quiet, Refused}
-use Rattle.engine.specs.Meaning.{controllerIs, answerIs}
+use Rattle.engine.specs.Meaning.{controllerIs, signedNumber, answerIs}
 use Rattle.schedule.specs.declared.line.Line.{Line as Held}
 use Rattle.schedule.specs.declared.line.Parsed.the-variants.{Readable, Unreadable}
 use Rattle.schedule.specs.declared.line.ReadLine.{ReadLine}
@@ -48,7 +48,7 @@ use Rattle.bench.specs.Bench as bench
 use Rattle.bench.specs.Bench.{Seat, emptySeat, Bench, Reply, newBench, step}
 use Rattle.bench.specs.Rows.{rowText, headerText, rowsFrom, ReadAll, refusedRow, Printed}
 use Rattle.bench.specs.Writing.{wordFor, valueIs, rowOf}
-use Rattle.bench.specs.Seats.{blank, seatIs, termsOf, benchOf, Sound, Full, Keeps, ReadFrom, seatOf, sendersIn, seatsAfter, replyIs, numberIs, changesIs, CalledAtSeat, IfIdle, Rests, CalledByLine, nextTurn, Judged, LacksNothing, Advanced, SteppedBy, wordOfAnswer, valueOfAnswer}
+use Rattle.bench.specs.Seats.{blank, seatIs, termsOf, benchOf, Sound, Full, Keeps, ReadFrom, seatOf, sendersIn, seatsAfter, replyIs, changesIs, CalledAtSeat, IfIdle, Rests, CalledByLine, nextTurn, Judged, LacksNothing, Advanced, SteppedBy, wordOfAnswer, valueOfAnswer}
 use Rattle.bench.specs.Running.{rowIs, seatsIs, benchIs, BenchKept, Fulls, Turnings, Started, Reading, RunSoFar, AtStart, HasRoom, RowWritten, RowPut, fullAfter, LineRun, Ran, PrintedInto}
 use Rattle.bench.proofs.Rows.{shown}
 use Rattle.bench.proofs.Records.{full-none, full-kept}
@@ -221,9 +221,9 @@ module _ (g : Setting) (W W′ : List ℕ) (cs cs′ : List Controller) (Rs : Li
       go (inl (q, z)) = ap controllerIs (sym (ap (λ u. getD u k blank) z ∙ getD-set-same cs k (o .controller) blank (omega (arith, m .long))))
       go (inr (q, z)) = a .same q ∙ ap (λ u. controllerIs (getD u k blank)) (sym z)
 
-  call-left : step (benchIs g W cs Rs) (some l) ≡ record { reply = replyIs W′ k (o .answer) (numberIs (o .answer)); bench = benchIs g W′ cs′ (set Rs k R′) }
+  call-left : step (benchIs g W cs Rs) (some l) ≡ record { reply = replyIs W′ k (o .answer) (signedNumber (o .answer)); bench = benchIs g W′ cs′ (set Rs k R′) }
   call-left = a .steps (g .ready) (termsOf g) (seatsIs W cs Rs) (seat-there W cs Rs k h)
-      ∙ ap (λ X. record { reply = replyIs W′ k (o .answer) (numberIs (o .answer)); bench = benchOf (g .ready) (termsOf g) X W′ })
+      ∙ ap (λ X. record { reply = replyIs W′ k (o .answer) (signedNumber (o .answer)); bench = benchOf (g .ready) (termsOf g) X W′ })
       (ap (λ c. set (seatsIs W cs Rs) k (record { controller = c; statements = recordIn W′ R′ })) controller-after ∙ seats-set W W′ cs cs′ Rs R′ k h m (a .grows) call-others)
 
   -- what is known of its next turn
@@ -366,15 +366,15 @@ module _ (S : List ℕ) (place : Place) (r : ReadLine) (of : LineOf (take (lengt
       call-reads : (n : ℕ) → Reads n (ended body) (some (a .line))
       call-reads = subst (λ u. Tells u (ended body)) (a .means) (line-fits .tells)
 
-      pub call-on : {R₀ rows rows′ : List ℕ} {on : Place} {number : ℕ} {v : Verdict} → RunSoFar S place (benchIs (place .setting) W cs Rs) R₀ rows → place .at < length S → number ≡ numberIs (o .answer) → v ≡ nextTurn l (o .answer)
+      pub call-on : {R₀ rows rows′ : List ℕ} {on : Place} {number : ℕ} {v : Verdict} → RunSoFar S place (benchIs (place .setting) W cs Rs) R₀ rows → place .at < length S → number ≡ signedNumber (o .answer) → v ≡ nextTurn l (o .answer)
           → RowPut rows place (r .next) (rowIs (place .n) k (o .answer) number) on rows′
           → BenchKept W′ cs′ (set Rs k R′) × RunSoFar S on (benchIs (on .setting) W′ cs′ (set Rs k R′)) R₀ rows′ × Fulls (set Rs k R′) fs × Turnings W′ cs′ (set Rs k R′) (set vs k v)
       call-on {R₀} {rows} {rows′} {on} {number} {v} going more z x p = (
         call-kept (place .setting) W W′ cs cs′ Rs R′ k (a .line) o (line-seat q) m at-seat t,
         subst (λ g. RunSoFar S on (benchIs g W′ cs′ (set Rs k R′)) R₀ rows′) (sym (p .setting))
             (goes-on S place on (benchIs (place .setting) W cs Rs) (benchIs (place .setting) W′ cs′ (set Rs k R′)) R₀ rows rows′ going r (part-read S (place .at) r of) more (some (a .line)) (line-reads (termsOf (place .setting) .notices) (a .line) (call-reads (termsOf (place .setting) .notices)))
-            (replyIs W′ k (o .answer) (numberIs (o .answer))) (call-left (place .setting) W W′ cs cs′ Rs R′ k (a .line) o (line-seat q) m at-seat t)
-            (passed-as (ap (rowIs (place .n) k (o .answer)) z ∙ row-is W′ (place .n) k (o .answer) (numberIs (o .answer))) (p .passed))),
+            (replyIs W′ k (o .answer) (signedNumber (o .answer))) (call-left (place .setting) W W′ cs cs′ Rs R′ k (a .line) o (line-seat q) m at-seat t)
+            (passed-as (ap (rowIs (place .n) k (o .answer)) z ∙ row-is W′ (place .n) k (o .answer) (signedNumber (o .answer))) (p .passed))),
         fulls-kept Rs fs k (line-seat q) (m .records) w R′ (at-seat .keeps),
         call-turnings (place .setting) W W′ cs cs′ Rs R′ k (a .line) o (line-seat q) m at-seat t vs v y (subst (λ u. IfIdle u (Rests W′ R′ (o .controller))) (sym x) (a .rests)),
       )
@@ -393,7 +393,7 @@ module _ (S : List ℕ) (place : Place) (r : ReadLine) (of : LineOf (take (lengt
           go true e′ = inl (e′, sym (set-getD cs k blank))
           go false e′ = inr (e′, refl)
 
-      pub judged-on : {R₀ rows rows′ : List ℕ} {on : Place} {number : ℕ} → RunSoFar S place (benchIs (place .setting) W cs Rs) R₀ rows → place .at < length S → number ≡ numberIs x → RowPut rows place (r .next) (rowIs (place .n) k x number) on rows′
+      pub judged-on : {R₀ rows rows′ : List ℕ} {on : Place} {number : ℕ} → RunSoFar S place (benchIs (place .setting) W cs Rs) R₀ rows → place .at < length S → number ≡ signedNumber x → RowPut rows place (r .next) (rowIs (place .n) k x number) on rows′
           → BenchKept W cs Rs × RunSoFar S on (benchIs (on .setting) W cs Rs) R₀ rows′ × Fulls Rs fs × Turnings W cs Rs vs
       judged-on {R₀} {rows} {rows′} {on} going more n p =
           let c = call-on W W cs cs Rs fs vs (getD Rs k []) k q m w y (record { answer = x; controller = getD cs k blank }) judged-call stays-stored going more n refl p in

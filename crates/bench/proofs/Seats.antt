@@ -30,7 +30,7 @@ use Rattle.engine.specs.declared.Refusal.{Refusal}
 use Rattle.engine.specs.declared.Refusal.the-variants as refusal
 use Rattle.engine.specs.declared.Answer.{Answer}
 use Rattle.engine.specs.declared.Answer.the-variants.{Taken, Signed, Entered, Delivered, Left, Quiet, Refused}
-use Rattle.engine.specs.Meaning.{controllerIs, answerIs, refusalIs}
+use Rattle.engine.specs.Meaning.{controllerIs, signedNumber, answerIs, refusalIs}
 use Rattle.engine.specs.Promise.{Change, unchanged, Meets, Calls, Turns, PoolAfter, NumbersAfter, signedOf}
 use Rattle.schedule.specs.Line.{Line, join, leave, send, give, all, turn}
 use Rattle.schedule.specs.declared.line.Line.{Line as Held}
@@ -39,7 +39,7 @@ use Rattle.pool.proofs.Records.{pool-length, record-length}
 use Rattle.bench.specs.declared.seat.Given.{Given}
 use Rattle.bench.specs.Bench as bench
 use Rattle.bench.specs.Bench.{Seat, emptySeat, Bench, Stepped, step}
-use Rattle.bench.specs.Seats.{seatIs, Terms, benchOf, Distinct, Sound, numbersIn, hasNumber, Full, Keeps, NumberMarks, unmarked, RecordFilled, refusedFor, takenAs, GivenAtSeat, Gives, GivesAll, numberIs, changesIs, CalledAtSeat, IfIdle, Rests, turnAfter, CalledByLine}
+use Rattle.bench.specs.Seats.{seatIs, Terms, benchOf, Distinct, Sound, numbersIn, hasNumber, Full, Keeps, NumberMarks, unmarked, RecordFilled, refusedFor, takenAs, GivenAtSeat, Gives, GivesAll, changesIs, CalledAtSeat, IfIdle, Rests, turnAfter, CalledByLine}
 use Rattle.bench.proofs.Unchanged.{idle-answer, Unsigned, join-unsigned, leave-unsigned, send-unsigned, Resting, turn-rests}
 use Rattle.bench.proofs.Records.{ids, keeps-same, keeps-pushed, below-pushed, within-pool, pool-within, pool-most, keeps-filled, full-filled, filter-append, filter-one, numbers-pushed}
 
@@ -348,7 +348,7 @@ pool-then W W′ controller.left e = ap poolOf e
 pool-then W W′ controller.quiet e = ap poolOf e
 pool-then W W′ (controller.refused r) e = ap poolOf e
 
-not-signed : (W : List ℕ) (x : Answer) (a : controller.Answer) → answerIs W x ≡ a → signedOf a ≡ unchanged → numberIs x ≡ 0
+not-signed : (W : List ℕ) (x : Answer) (a : controller.Answer) → answerIs W x ≡ a → signedOf a ≡ unchanged → signedNumber x ≡ 0
 unfolding answerIs
 not-signed W Taken a e h = refl
 not-signed W (Signed n) a e h = let q = ap signedOf e ∙ h in let z : _≡_ {A = ℕ} 0 1 = cc in absurd (omega arith)
@@ -358,9 +358,9 @@ not-signed W Left a e h = refl
 not-signed W Quiet a e h = refl
 not-signed W (Refused q) a e h = refl
 
-number-then : (W W′ : List ℕ) (x : Answer) (a : controller.Answer) → answerIs W′ x ≡ a → ((s : Stmt) → a ≡ controller.signed s → x ≡ Signed (numberOf s (poolOf W))) → numberThen a (poolOf W) ≡ numberIs x
+number-then : (W W′ : List ℕ) (x : Answer) (a : controller.Answer) → answerIs W′ x ≡ a → ((s : Stmt) → a ≡ controller.signed s → x ≡ Signed (numberOf s (poolOf W))) → numberThen a (poolOf W) ≡ signedNumber x
 number-then W W′ x controller.taken e h = sym (not-signed W′ x controller.taken e refl)
-number-then W W′ x (controller.signed s) e h = sym (ap numberIs (h s refl))
+number-then W W′ x (controller.signed s) e h = sym (ap signedNumber (h s refl))
 number-then W W′ x (controller.entered v) e h = sym (not-signed W′ x (controller.entered v) e refl)
 number-then W W′ x (controller.delivered i m) e h = sym (not-signed W′ x (controller.delivered i m) e refl)
 number-then W W′ x controller.left e h = sym (not-signed W′ x controller.left e refl)

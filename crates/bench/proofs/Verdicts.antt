@@ -29,7 +29,7 @@ use Rattle.engine.specs.declared.Refusal.{Refusal}
 use Rattle.engine.specs.declared.Refusal.the-variants.{BadRequest, OutOfPlace, UnknownNotice}
 use Rattle.engine.specs.declared.Answer.{Answer}
 use Rattle.engine.specs.declared.Answer.the-variants.{Taken, Signed, Entered, Delivered, Left, Quiet, Refused}
-use Rattle.engine.specs.Meaning.{controllerIs, answerIs, refusalIs}
+use Rattle.engine.specs.Meaning.{controllerIs, signedNumber, answerIs, refusalIs}
 use Rattle.schedule.specs.Line.{Line, join, leave, send, turn}
 use Rattle.schedule.specs.declared.line.Line.{Line as Held}
 use Rattle.schedule.specs.declared.line.Line.the-variants as is
@@ -37,7 +37,7 @@ use Rattle.bench.specs.declared.state.Verdict.{Verdict}
 use Rattle.bench.specs.declared.state.Verdict.the-variants.{Idle, Open}
 use Rattle.bench.specs.Bench as bench
 use Rattle.bench.specs.Bench.{Seat, Bench, Stepped, step}
-use Rattle.bench.specs.Seats.{seatIs, benchOf, Sound, isCall, changesIs, numberIs, CalledAtSeat, IfIdle, Rests, turnAfter, CalledByLine, denied, joinVerdict, leaveVerdict, sendVerdict, Judged}
+use Rattle.bench.specs.Seats.{seatIs, benchOf, Sound, isCall, changesIs, CalledAtSeat, IfIdle, Rests, turnAfter, CalledByLine, denied, joinVerdict, leaveVerdict, sendVerdict, Judged}
 use Rattle.bench.proofs.Records.{keeps-same}
 use Rattle.bench.proofs.Seats.{grows-same}
 
@@ -86,7 +86,7 @@ module _ (W R : List ℕ) (c : Controller) (s : Sound W R) where
 
   -- what the line l does to seat k is g
   idles : (a : Answer) (k : ℕ) (l : Line) (g : Bench → Seat → Stepped) → ((b : Bench) → step b (some l) ≡ g b (bench.seat b k))
-      → ((b : Bench) → g b (seatIs W c R) ≡ bench.at b k (record { answer = answerIs W a; controller = d₀; statements = X₀ }) (b .pool) (numberIs a)) → CalledAtSeat W R c k l (record { answer = a; controller = c }) W R
+      → ((b : Bench) → g b (seatIs W c R) ≡ bench.at b k (record { answer = answerIs W a; controller = d₀; statements = X₀ }) (b .pool) (signedNumber a)) → CalledAtSeat W R c k l (record { answer = a; controller = c }) W R
   idles a k l g h e = record {
     steps = λ ready terms X x. h (benchOf ready terms X W) ∙ ap (g (benchOf ready terms X W)) x ∙ e (benchOf ready terms X W);
     sound = s;
@@ -167,7 +167,7 @@ module _ (W R : List ℕ) (c : Controller) (s : Sound W R) where
 
 -- ---- a turn that is known to do nothing
 
-after-idle : (W : List ℕ) (b : Bench) (k : ℕ) (o : controller.Outcome) (a : Answer) → changesIs a ≡ false → bench.afterTurn b k o (answerIs W a) ≡ bench.at b k o (b .pool) (numberIs a)
+after-idle : (W : List ℕ) (b : Bench) (k : ℕ) (o : controller.Outcome) (a : Answer) → changesIs a ≡ false → bench.afterTurn b k o (answerIs W a) ≡ bench.at b k o (b .pool) (signedNumber a)
 unfolding answerIs bench.afterTurn
 after-idle W b k o Taken e = absurd (true≢false e)
 after-idle W b k o (Signed n) e = absurd (true≢false e)

@@ -21,7 +21,7 @@ use Rattle.engine.specs.declared.Answer.{Answer}
 use Rattle.engine.specs.declared.Refusal.{Refusal}
 use Rattle.engine.specs.declared.Refusal.the-variants.{BadRequest, UnknownNotice}
 use Rattle.engine.specs.declared.Answer.the-variants.{Taken, Signed, Entered, Delivered, Left, Quiet, Refused}
-use Rattle.engine.specs.Meaning.{firstSenders, controllerIs, answerIs, refusalIs}
+use Rattle.engine.specs.Meaning.{firstSenders, controllerIs, signedNumber, answerIs, refusalIs}
 use Rattle.protocol.specs.Controller.{refusalNumber, taken}
 use Rattle.schedule.specs.declared.line.Line.{Line as Held}
 use Rattle.schedule.specs.declared.line.Line.the-variants as is
@@ -152,16 +152,6 @@ pub record GivesAll (W R : List ℕ) (ready : Bool) (r : Given) (R′ : List ℕ
 
 -- ---- a call
 
--- The number beside an engine's answer: of a signed statement its own.
-abbrev pub numberIs : Answer → ℕ
-numberIs Taken = 0
-numberIs (Signed n) = n
-numberIs (Entered v) = 0
-numberIs (Delivered i m) = 0
-numberIs Left = 0
-numberIs Quiet = 0
-numberIs (Refused r) = 0
-
 -- Whether a call that answers so may have changed its controller.
 abbrev pub changesIs : Answer → Bool
 changesIs Taken = true
@@ -177,7 +167,7 @@ pub record CalledAtSeat (W R : List ℕ) (c : Controller) (k : ℕ) (l : Line) (
   pub steps : (ready : Bool) (terms : Terms) (X : List Seat) → getD X k emptySeat ≡ seatIs W c R
       → step (benchOf ready terms X W) (some l)
       ≡ record {
-        reply = record { who = k; answer = answerIs W′ (o .answer); number = numberIs (o .answer) };
+        reply = record { who = k; answer = answerIs W′ (o .answer); number = signedNumber (o .answer) };
         bench = benchOf ready terms (set X k (seatIs W′ (o .controller) R′)) W′;
       }
   pub sound : Sound W′ R′

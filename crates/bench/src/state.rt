@@ -4,10 +4,11 @@ ghost use mathlib.Core.Bool.{true, false};
 ghost use Prim.Native.Nat.{_<_, _≤_};
 ghost use Rattle.protocol.specs.Sets.{bit};
 ghost use Rattle.statements.specs.Meaning.{stmtOf};
+ghost use Rattle.engine.specs.Meaning.{signedNumber};
 ghost use Rattle.schedule.specs.declared.line.Parsed.the-variants.{Readable};
 ghost use Rattle.schedule.specs.Line as lines;
 ghost use Rattle.schedule.specs.Reading.{Lying, SettingUp};
-ghost use Rattle.bench.specs.Seats.{Distinct, Sound, ReadFrom, seatOf, isCall, numberIs, changesIs, refusedFor, turnAfter, nextTurn, joinVerdict, leaveVerdict, sendVerdict, Judged, CalledByLine, ToldAs, SteppedBy, SteppedOnPool, SteppedOnPoolBy, SetUpBy, shownIn, NoStatement, LacksNothing};
+ghost use Rattle.bench.specs.Seats.{Distinct, Sound, ReadFrom, seatOf, isCall, changesIs, refusedFor, turnAfter, nextTurn, joinVerdict, leaveVerdict, sendVerdict, Judged, CalledByLine, ToldAs, SteppedBy, SteppedOnPool, SteppedOnPoolBy, SetUpBy, shownIn, NoStatement, LacksNothing};
 use crate::seat;
 use crate::seat::Given;
 use engine::Answer;
@@ -193,7 +194,7 @@ pub fn changes(a: Answer) -> bool
 
 // The number in the row of a call: of a turn that signs, the statement's.
 pub fn number_of(a: Answer) -> u64
-    ensures { λ r. ⌜ r ≡ numberIs a ⌝ }
+    ensures { λ r. ⌜ r ≡ signedNumber a ⌝ }
 {
     match a {
         Answer::Taken => 0,

@@ -51,6 +51,16 @@ refusalIs Conflict = controller.conflict
 refusalIs OutOfPlace = controller.outOfPlace
 refusalIs UnknownNotice = controller.unknownNotice
 
+-- The number in the pool of what was signed; 0 where nothing was.
+abbrev pub signedNumber : Answer → ℕ
+signedNumber Taken = 0
+signedNumber (Signed n) = n
+signedNumber (Entered v) = 0
+signedNumber (Delivered i m) = 0
+signedNumber Left = 0
+signedNumber Quiet = 0
+signedNumber (Refused r) = 0
+
 -- An answer over the pool's memory W: a signed statement is answered by its number in the pool.
 unfoldable pub answerIs : List ℕ → Answer → controller.Answer
 answerIs W Taken = controller.taken

@@ -15,7 +15,7 @@ use Rattle.engine.specs.declared.Answer.{Answer}
 use Rattle.engine.specs.declared.Answer.the-variants.{Taken, Signed, Entered, Delivered, Left, Quiet, Refused}
 use Rattle.views.specs.View.{wordOf}
 use Rattle.pool.specs.Pool.{recordLen, recordIn, poolOf}
-use Rattle.engine.specs.Meaning.{controllerIs, answerIs}
+use Rattle.engine.specs.Meaning.{controllerIs, signedNumber, answerIs}
 use Rattle.engine.specs.Promise.{unchanged, Meets, Starts, Turns, Adds, Called}
 use Rattle.host.specs.Statement.{IsStatement}
 use Rattle.host.specs.Memory.{noticesIn, controllerAt}
@@ -26,16 +26,6 @@ use Rattle.host.specs.Memory.{noticesIn, controllerAt}
 abbrev pub valueWord : controller.Value → ℕ
 valueWord (controller.number n) = n
 valueWord (controller.view v) = wordOf v
-
--- The pool number of what was signed.
-abbrev pub signedNumber : Answer → ℕ
-signedNumber Taken = 0
-signedNumber (Signed n) = n
-signedNumber (Entered v) = 0
-signedNumber (Delivered i m) = 0
-signedNumber Left = 0
-signedNumber Quiet = 0
-signedNumber (Refused r) = 0
 
 -- The notice that was delivered.
 abbrev pub noticeNumber : Answer → ℕ

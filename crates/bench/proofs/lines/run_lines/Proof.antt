@@ -159,28 +159,22 @@ run-lines-spec =
     (tie.spec
     Inv-loop
     μ-loop
-    (λ c κs. search needs)
-    (λ c κs. search needs)
-    (λ c κs. search needs)
+    (λ c κs. search needs) (λ c κs. search needs) (λ c κs. search needs)
     loop-holds
     (λ c. omega (arith, c .before .before .loop .inv .1 .within))
     (λ c. omega (arith, c .before .before .loop .inv .1 .within))
     (λ c. omega (arith, c .before .before .loop .inv .1 .within))
-    (λ c κs. search needs)
-    (λ c. search needs)
-    (λ c. search needs)
+    (λ c κs. search needs) (λ c. search needs) (λ c. search needs)
     put-unreadable-requires
     loop-less
     loop-again
-    (λ c κs. search needs)
-    (λ c κs. search needs)
+    (λ c κs. search needs) (λ c κs. search needs)
     mul-seen
     array-copy-out-seen
     mul-turn
     array-copy-out-turn
     (λ c κs. sym (c .before .before .before .is-call .ensures) ∙ c .before .before .if2 .taken)
-    (λ c. search needs)
-    (λ c κs. search needs)
+    (λ c. search needs) (λ c κs. search needs)
     put-step-requires
     loop-less-2
     loop-again-2

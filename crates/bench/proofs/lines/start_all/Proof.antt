@@ -21,16 +21,8 @@ start-all-spec =
     (tie.spec
     Inv-loop
     μ-loop
-    (λ c κs. search needs)
-    (λ c κs. search needs)
+    (λ c κs. search needs) (λ c κs. search needs)
     (λ c. (omega arith, started-none _ _ _ 16 _ refl (c .before .seats-of .ensures)))
-    (λ c. search needs)
-    (λ c. search needs)
-    (λ c. search needs)
-    (λ c κs. search needs)
-    (λ c. search needs)
-    (λ c. search needs)
-    (λ c. search needs)
-    (λ c. search needs)
+    (λ c. search needs) (λ c. search needs) (λ c. search needs) (λ c κs. search needs) (λ c. search needs) (λ c. search needs) (λ c. search needs) (λ c. search needs)
     (λ c. (omega arith, started-next _ _ (c .before .before .before .before .before .before .before .before .pre) _ (c .before .before .before .before .before .new .ensures) _ _ (getD (c .before .before .before .before .loop .records) (c .before .before .before .before .loop .k) []) _ (omega arith) (c .before .setup .ensures) _ _ (c .before .before .before .before .loop .inv .1)))
     (λ c. started-all _ _ _ _ _ (omega arith) (c .before .loop .inv .1)))

@@ -11,8 +11,7 @@ join-spec =
     (tie.spec
     (λ c κs. search needs)
     (λ c. joins _ _ (request-unready _ _ _ _ _ (c .refuse .ensures) (not-true _ (c .before .if1 .taken))))
-    (λ c κs. search needs)
-    (λ c κs. search needs)
+    (λ c κs. search needs) (λ c κs. search needs)
     (λ c. joins _ _ (request-barred _ _ _ _ _ (c .refuse2 .ensures) (not-false _ (c .before .before .before .before .if1 .left)) (sym (c .before .before .has-member .ensures) ∙ c .before .if2 .taken)))
     (λ c κs. search needs)
     (λ c. joins _ _ (request-again _ _ _ _ _ (c .refuse3 .ensures) (not-false _ (c .before .before .before .before .before .if1 .left)) (sym (c .before .before .before .has-member .ensures) ∙ c .before .before .if2 .left) (c .before .if3 .taken)))

@@ -11,8 +11,7 @@ setup-spec =
     (tie.spec
     (λ c κs. search needs)
     (λ c. barred _ (c .before .before .args .self) BadSetup (c .refuse .ensures .0) (c .refuse .ensures .1) (λ X. setup-again (c .before .before .args .self) X _ _ _ (c .before .if1 .taken)))
-    (λ c κs. search needs)
-    (λ c κs. search needs)
+    (λ c κs. search needs) (λ c κs. search needs)
     (λ c. barred _ (c .before .before .before .before .args .self) BadSetup (c .refuse2 .ensures .0) (c .refuse2 .ensures .1) (λ X. setup-barred (c .before .before .before .before .args .self) X _ _ _ _ (c .before .before .before .if1 .left) (c .before .before .is-allowed .ensures) (not-true _ (c .before .if2 .taken))))
     (λ c κs. search needs)
     (λ c κs. few-notices _ _ _ _ _ (c .before .before .before .is-allowed .ensures) (not-false _ (c .before .before .if2 .left)))

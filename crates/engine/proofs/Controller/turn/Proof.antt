@@ -11,9 +11,7 @@ turn-spec =
     (tie.spec
     (λ c κs. search needs)
     (λ c. turn-refused _ _ (c .before .before .before .args .self) _ OutOfPlace (turn-unready (c .before .before .before .args .self) _ _ (not-true _ (c .before .if1 .taken))) (c .refuse .ensures .0) (c .refuse .ensures .1))
-    (λ c κs. search needs)
-    (λ c κs. search needs)
-    (λ c κs. search needs)
+    (λ c κs. search needs) (λ c κs. search needs) (λ c κs. search needs)
     (λ c. turn-split _ _ (c .before .before .before .before .before .before .before .before .before .before .before .before .before .before .args .self) _ (ring-is (c .before .before .before .before .before .before .before .before .before .before .before .before .before .before .args .self) _ (c .before .before .before .before .before .before .before .before .before .before .word .ensures)) _ _ _ (c .before .before .of-record .result) (c .before .before .of-record .ensures) (not-false _ (c .before .before .before .before .before .before .before .before .before .before .before .before .if1 .left)) _ (c .before .if2 .taken) (c .refuse2 .ensures .0) (c .refuse2 .ensures .1))
     (λ c κs. search needs)
     (λ c. turn-crowded _ _ (c .before .before .before .before .before .before .before .before .before .before .before .before .before .before .before .args .self) _ (ring-is (c .before .before .before .before .before .before .before .before .before .before .before .before .before .before .before .args .self) _ (c .before .before .before .before .before .before .before .before .before .before .before .word .ensures)) _ _ _ (c .before .before .before .of-record .result) (c .before .before .before .of-record .ensures) (not-false _ (c .before .before .before .before .before .before .before .before .before .before .before .before .before .if1 .left)) _ (c .before .before .if2 .left) (c .before .if3 .taken) (c .refuse3 .ensures .0) (c .refuse3 .ensures .1))

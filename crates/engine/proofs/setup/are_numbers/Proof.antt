@@ -24,7 +24,6 @@ are-numbers-spec =
     (λ c. (omega arith, numbers-first _))
     (λ c. search needs)
     (λ c. sym (numbers-miss _ _ _ (c .before .before .loop-test .taken) (c .if1 .taken)))
-    (λ c. search needs)
-    (λ c. search needs)
+    (λ c. search needs) (λ c. search needs)
     (λ c. (omega arith, numbers-next (c .before .before .before .before .args .senders .now) (c .before .before .before .loop .j) (c .before .before .before .loop .inv .1) (c .if1 .left)))
     (λ c. let e : c .before .loop .j ≡ c .before .before .args .count = omega (arith, c .before .loop .inv .0, c .loop-test .left) in subst (λ n. true ≡ areNumbers (firstSenders (c .before .before .args .senders .now) n)) e (sym (c .before .loop .inv .1))))

@@ -9,12 +9,5 @@ pub of-fields-spec : {M : Type 1} → statement M
 of-fields-spec =
     tie.close
     (tie.spec
-    (λ c. search needs)
-    (λ c. search needs)
-    (λ c. search needs)
-    (λ c κs. search needs)
-    (λ c κs. search needs)
-    (λ c κs. search needs)
-    (λ c κs. search needs)
-    (λ c κs. search needs)
+    (λ c. search needs) (λ c. search needs) (λ c. search needs) (λ c κs. search needs) (λ c κs. search needs) (λ c κs. search needs) (λ c κs. search needs) (λ c κs. search needs)
     (λ c. record { number = refl; ring = refl; delivered = refl; requested = refl; joining = refl; leaving = refl; shown = refl; top = c .before .before .before .before .of-word .ensures; entered = c .before .before .before .has .ensures; stands = ap (λ b. c .before .before .before .has .result && b) (c .before .none-above .ensures); left = c .has-left .ensures; active = ap (ltb 0) (c .before .before .count .ensures .0) }))

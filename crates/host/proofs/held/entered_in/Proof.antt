@@ -19,14 +19,7 @@ entered-in-spec =
     Inv-loop
     μ-loop
     (λ c. fill-first _ 16 _)
-    (λ c. search needs)
-    (λ c. search needs)
-    (λ c. search needs)
-    (λ c κs. search needs)
-    (λ c. search needs)
-    (λ c. search needs)
-    (λ c. search needs)
-    (λ c. search needs)
+    (λ c. search needs) (λ c. search needs) (λ c. search needs) (λ c κs. search needs) (λ c. search needs) (λ c. search needs) (λ c. search needs) (λ c. search needs)
     (λ c. fill-next _ (c .before .before .before .loop .inv) (omega arith) (c .view-in .ensures))
     (λ c. search needs)
     (λ c. entered-all _ (c .before .before .loop .inv) (omega arith) _ refl))

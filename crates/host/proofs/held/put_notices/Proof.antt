@@ -7,7 +7,5 @@ pub put-notices-spec : {M : Type 1} → statement M
 put-notices-spec =
     tie.close
     (tie.spec
-    (λ c κs. search needs)
-    (λ c κs. search needs)
-    (λ c κs. search needs)
+    (λ c κs. search needs) (λ c κs. search needs) (λ c κs. search needs)
     (λ c. put-all (c .before .before .before .before .put-senders .ensures) (c .before .before .put-sends .ensures) (c .put-bindings .ensures)))

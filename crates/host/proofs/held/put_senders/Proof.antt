@@ -18,12 +18,6 @@ put-senders-spec =
     Inv-loop
     μ-loop
     (λ c. put-first _ (c .pre .0))
-    (λ c. search needs)
-    (λ c κs. search needs)
-    (λ c. search needs)
-    (λ c. search needs)
-    (λ c. search needs)
-    (λ c. search needs)
-    (λ c. search needs)
+    (λ c. search needs) (λ c κs. search needs) (λ c. search needs) (λ c. search needs) (λ c. search needs) (λ c. search needs) (λ c. search needs)
     (λ c. put-sender _ (c .before .before .loop .inv) (c .before .loop-test .taken) (c .wide-number .ensures))
     (λ c. put-last (c .before .loop .inv) (c .loop-test .left) (c .before .before .pre .1)))

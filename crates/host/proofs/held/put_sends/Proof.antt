@@ -19,12 +19,6 @@ put-sends-spec =
     Inv-loop
     μ-loop
     (λ c. put-first _ (c .pre .0))
-    (λ c. search needs)
-    (λ c. search needs)
-    (λ c. search needs)
-    (λ c. search needs)
-    (λ c. search needs)
-    (λ c. search needs)
-    (λ c. search needs)
+    (λ c. search needs) (λ c. search needs) (λ c. search needs) (λ c. search needs) (λ c. search needs) (λ c. search needs) (λ c. search needs)
     (λ c. put-send _ (c .before .loop .inv) (c .loop-test .taken) refl)
     (λ c. put-last (c .before .loop .inv) (c .loop-test .left) (c .before .before .pre .1)))

@@ -28,14 +28,6 @@ tell-spec =
     Inv-loop
     μ-loop
     (λ c. (omega arith, none-written (c .args .out .now) (c .args .from) (wordIn (c .args .views .now) (c .args .n))))
-    (λ c. search needs)
-    (λ c. search needs)
-    (λ c κs. search needs)
-    (λ c κs. search needs)
-    (λ c. search needs)
-    (λ c. search needs)
-    (λ c. search needs)
-    (λ c. search needs)
-    (λ c. search needs)
+    (λ c. search needs) (λ c. search needs) (λ c κs. search needs) (λ c κs. search needs) (λ c. search needs) (λ c. search needs) (λ c. search needs) (λ c. search needs) (λ c. search needs)
     (λ c. (omega arith, one-written (c .before .before .before .before .before .args .out .now) (c .before .before .before .before .before .args .from) (wordIn (c .before .before .before .before .before .args .views .now) (c .before .before .before .before .before .args .n)) _ _ _ (c .before .before .before .before .loop .inv .1) (c .when .ensures ∙ ap (λ v. cond (ltb (c .before .before .before .before .loop .i) (c .before .before .before .before .before .args .n)) v 0) (c .before .told .ensures))))
     (λ c. let e : c .before .loop .i ≡ 16 = omega arith in c .before .loop .inv .1 ∙ ap (λ k. sets (c .before .before .args .out .now) (c .before .before .args .from) (listOf k (wordIn (c .before .before .args .views .now) (c .before .before .args .n)))) e ∙ ap (sets (c .before .before .args .out .now) (c .before .before .args .from)) (told-all _ _)))

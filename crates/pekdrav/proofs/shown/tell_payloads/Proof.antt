@@ -28,14 +28,6 @@ tell-payloads-spec =
     Inv-loop
     μ-loop
     (λ c. (omega arith, none-written (c .args .out .now) 40 (payloadIn (c .args .certified) (c .args .certs .now))))
-    (λ c κs. search needs)
-    (λ c. search needs)
-    (λ c. search needs)
-    (λ c κs. search needs)
-    (λ c. search needs)
-    (λ c. search needs)
-    (λ c. search needs)
-    (λ c. search needs)
-    (λ c. search needs)
+    (λ c κs. search needs) (λ c. search needs) (λ c. search needs) (λ c κs. search needs) (λ c. search needs) (λ c. search needs) (λ c. search needs) (λ c. search needs) (λ c. search needs)
     (λ c. (omega arith, one-written (c .before .before .before .before .before .args .out .now) 40 (payloadIn (c .before .before .before .before .before .args .certified) (c .before .before .before .before .before .args .certs .now)) _ _ _ (c .before .before .before .before .loop .inv .1) (c .when .ensures ∙ ap (λ b. cond b (getD (c .before .before .before .before .before .args .certs .now) (c .before .before .before .before .loop .j) 0) 0) (c .before .before .has .ensures))))
     (λ c. let e : c .before .loop .j ≡ 64 = omega arith in c .before .loop .inv .1 ∙ ap (λ k. sets (c .before .before .args .out .now) 40 (listOf k (payloadIn (c .before .before .args .certified) (c .before .before .args .certs .now)))) e ∙ ap (sets (c .before .before .args .out .now) 40) (payloads-all _ _)))

@@ -23,8 +23,6 @@ get-told-spec =
     μ-loop
     (λ c. (omega arith, groups-none _ _))
     (λ c κs. omega (arith, c .before .before .pre))
-    (λ c κs. search needs)
-    (λ c. search needs)
-    (λ c. search needs)
+    (λ c κs. search needs) (λ c. search needs) (λ c. search needs)
     (λ c. (omega arith, told-next _ _ _ _ _ _ (omega (arith, c .before .before .before .before .before .pre)) (c .tell .ensures) (c .before .before .told .ensures) (c .before .before .before .before .loop .inv .1)))
     (λ c. let e : c .before .loop .j ≡ c .before .before .args .c = omega arith in rw e at (c .before .loop .inv .1)))

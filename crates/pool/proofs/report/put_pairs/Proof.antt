@@ -23,8 +23,7 @@ put-pairs-spec =
     Inv-loop
     μ-loop
     (λ c. (omega arith, no-pair _ _ _))
-    (λ c κs. search needs)
-    (λ c κs. search needs)
+    (λ c κs. search needs) (λ c κs. search needs)
     (λ c. omega (arith, c .before .before .before .before .pre .1, c .before .before .before .before .pre .2))
     (λ c. omega (arith, c .before .before .before .before .pre .1, c .before .before .before .before .pre .2))
     (λ c. omega (arith, c .before .before .before .before .pre .1, c .before .before .before .before .pre .2))
@@ -35,7 +34,6 @@ put-pairs-spec =
     (λ c. omega (arith, c .before .before .before .before .before .pre .1, c .before .before .before .before .before .pre .2))
     (λ c. omega (arith, c .before .before .before .before .before .pre .1, c .before .before .before .before .before .pre .2))
     (λ c. omega (arith, c .before .before .before .before .before .pre .1, c .before .before .before .before .before .pre .2))
-    (λ c. search needs)
-    (λ c. search needs)
+    (λ c. search needs) (λ c. search needs)
     (λ c. (omega arith, one-pair _ _ _ _ _ _ _ (c .before .before .before .before .loop .inv .1) (c .before .bound-payload .ensures ∙ ap (λ g. g .payload) (c .before .before .told-at .ensures)) (c .kept-payload .ensures ∙ ap (λ g. g .kept) (c .before .before .told-at .ensures))))
     (λ c. let e : c .before .loop .j ≡ c .before .before .args .c = omega arith in rw e at (c .before .loop .inv .1)))

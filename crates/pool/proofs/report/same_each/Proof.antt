@@ -27,7 +27,6 @@ same-each-spec =
     (λ c κs. omega (arith, c .before .before .before .pre))
     (λ c κs. search needs)
     (λ c. groups-differ _ _ _ _ (c .before .before .before .before .loop-test .taken) (untested _ (c .before .same-told .ensures) (c .before .before .before .told-at .ensures) (c .before .before .told .ensures) (not-true _ (c .if1 .taken))))
-    (λ c. search needs)
-    (λ c. search needs)
+    (λ c. search needs) (λ c. search needs)
     (λ c. (omega arith, groups-more _ _ _ (c .before .before .before .before .before .loop .inv .1) (tested _ (c .before .same-told .ensures) (c .before .before .before .told-at .ensures) (c .before .before .told .ensures) (not-false _ (c .if1 .left)))))
     (λ c. groups-all _ _ _ (c .before .loop .j) (omega arith) (c .before .loop .inv .1)))

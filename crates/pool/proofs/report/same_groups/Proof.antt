@@ -14,8 +14,7 @@ same-groups-spec =
     (tie.spec
     (λ c κs. search needs)
     (λ c. plain-same _ (c .before .before .args .groups) _ _ _ _ (c .before .before .pre) _ (c .before .if1 .taken) (c .payload .ensures))
-    (λ c κs. search needs)
-    (λ c κs. search needs)
+    (λ c κs. search needs) (λ c κs. search needs)
     (λ c. report-same _ _ _ _ _ _ (c .before .before .before .before .pre) (c .before .before .many .result) _ (c .before .before .before .if1 .left) (c .before .before .many .ensures .0) (groups-short _ _ _ _ (λ q. c .if2 .taken (q ∙ sym (c .before .groups .ensures .0)))))
     (λ c κs. search needs)
     (λ c. report-same _ _ _ _ _ _ (c .before .before .before .before .before .pre) (c .before .before .before .many .result) _ (c .before .before .before .before .if1 .left) (c .before .before .before .many .ensures .0) (c .same-report .ensures ∙ ap (λ k. sameGroups (listOf (c .before .before .before .many .result) (groupAt (c .before .before .before .before .before .args .block .now))) (listOf k (toldAt (c .before .before .before .before .before .args .words .now) (c .before .before .before .before .before .args .n)))) (c .before .if2 .left ∙ c .before .before .groups .ensures .0))))

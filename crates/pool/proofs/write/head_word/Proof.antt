@@ -8,9 +8,7 @@ pub head-word-spec : {M : Type 1} → statement M
 head-word-spec =
     tie.close
     (tie.spec
-    (λ c κs. search needs)
-    (λ c κs. search needs)
-    (λ c κs. search needs)
+    (λ c κs. search needs) (λ c κs. search needs) (λ c κs. search needs)
     (λ c. omega (arith, c .before .before .head-of .ensures .1, c .before .count .ensures .1, c .many .ensures .1))
     (λ c. omega (arith, c .before .before .head-of .ensures .1, c .before .count .ensures .1, c .many .ensures .1))
     (λ c. omega (arith, c .before .before .head-of .ensures .1, c .before .count .ensures .1, c .many .ensures .1))

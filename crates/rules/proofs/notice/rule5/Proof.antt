@@ -13,14 +13,9 @@ rule5-spec =
     tie.close
     (tie.spec
     (λ c. fifth-off _ _ _ _ _ (not-true _ (c .if1 .taken)))
-    (λ c κs. search needs)
-    (λ c κs. search needs)
-    (λ c κs. search needs)
-    (λ c κs. search needs)
+    (λ c κs. search needs) (λ c κs. search needs) (λ c κs. search needs) (λ c κs. search needs)
     (λ c. fifth-rests _ _ _ _ _ (marks-at _ _ _ (c .before .before .before .before .word .ensures) (c .before .before .before .notices-at .ensures)) (c .before .before .acks-due .ensures) (not-false _ (c .before .before .before .before .before .before .before .if1 .left)) (c .before .least .ensures) (omega arith))
-    (λ c κs. search needs)
-    (λ c. search needs)
-    (λ c. search needs)
+    (λ c κs. search needs) (λ c. search needs) (λ c. search needs)
     (λ c. absurd (fifth-never _ _ _ _ (c .before .before .before .before .before .before .before .before .before .before .before .before .args .s) (marks-at _ _ _ (c .before .before .before .before .before .before .before .word .ensures) (c .before .before .before .before .before .before .notices-at .ensures)) (c .before .before .before .before .before .acks-due .ensures) (c .before .before .before .before .least .ensures) (omega arith) (ap payloadIs (sym (c .enum-told .given .1)) ∙ c .before .before .to-ack .ensures)))
     (λ c. search needs)
     (λ c. fifth-acks _ _ _ _ _ (marks-at _ _ _ (c .before .before .before .before .before .before .before .before .word .ensures) (c .before .before .before .before .before .before .before .notices-at .ensures)) (c .before .before .before .before .before .before .acks-due .ensures) (c .before .before .before .before .before .least .ensures) (omega arith) (not-false _ (c .before .before .before .before .before .before .before .before .before .before .before .if1 .left)) _ (ap payloadIs (sym (c .before .m .given .1)) ∙ c .before .before .before .to-ack .ensures)))

@@ -12,11 +12,7 @@ rule6-spec =
     (tie.spec
     (λ c. sixth-none _ _ _ (c .if1 .taken))
     (λ c. sixth-off _ _ _ (not-true _ (c .if2 .taken)))
-    (λ c κs. search needs)
-    (λ c κs. search needs)
-    (λ c κs. search needs)
-    (λ c κs. search needs)
+    (λ c κs. search needs) (λ c κs. search needs) (λ c κs. search needs) (λ c κs. search needs)
     (λ c. sixth-rests _ _ _ (not-false _ (c .before .before .before .before .before .before .before .if2 .left)) (marks-at _ _ _ (c .before .before .before .before .word .ensures) (c .before .before .before .notices-at .ensures)) (c .before .before .except .ensures) (c .before .least .ensures) (omega arith))
-    (λ c. search needs)
-    (λ c κs. search needs)
+    (λ c. search needs) (λ c κs. search needs)
     (λ c. sixth-stores _ _ _ (not-false _ (c .before .before .before .before .before .before .before .before .if2 .left)) (marks-at _ _ _ (c .before .before .before .before .before .word .ensures) (c .before .before .before .before .notices-at .ensures)) (c .before .before .before .except .ensures) (c .before .before .least .ensures) _ (omega arith) (c .kept .ensures)))

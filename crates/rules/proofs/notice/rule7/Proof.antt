@@ -11,10 +11,7 @@ rule7-spec =
     (tie.spec
     (λ c. seventh-idle _ _ (not-true _ (c .if1 .taken)))
     (λ c. seventh-left _ _ (not-false _ (c .before .if1 .left)) (c .if2 .taken))
-    (λ c κs. search needs)
-    (λ c κs. search needs)
-    (λ c κs. search needs)
+    (λ c κs. search needs) (λ c κs. search needs) (λ c κs. search needs)
     (λ c. seventh-rests _ _ (not-false _ (c .before .before .before .before .before .before .before .if1 .left)) (c .before .before .before .before .before .before .if2 .left) (c .before .before .before .common .ensures) (c .before .before .except .ensures) (c .before .least .ensures) (omega arith))
-    (λ c. search needs)
-    (λ c κs. search needs)
+    (λ c. search needs) (λ c κs. search needs)
     (λ c. seventh-delivers _ _ (not-false _ (c .before .before .before .before .before .before .before .before .if1 .left)) (c .before .before .before .before .before .before .before .if2 .left) (c .before .before .before .before .common .ensures) (c .before .before .before .except .ensures) (c .before .before .least .ensures) _ (omega arith) (c .kept .ensures)))

@@ -20,10 +20,6 @@ senders-at-spec =
     Inv-loop
     μ-loop
     (λ c. (omega arith, senders-first _ _ _ _))
-    (λ c κs. search needs)
-    (λ c. search needs)
-    (λ c κs. search needs)
-    (λ c. search needs)
-    (λ c. search needs)
+    (λ c κs. search needs) (λ c. search needs) (λ c κs. search needs) (λ c. search needs) (λ c. search needs)
     (λ c. (omega arith, senders-next _ _ _ _ _ _ _ (c .before .before .before .before .before .loop .inv .1) _ _ (c .before .before .before .before .loop-test .taken) (c .before .before .before .number-at .ensures) (c .put-sender .ensures)))
     (λ c. senders-all _ _ _ _ _ _ _ (c .before .loop .inv .1) _ (c .loop-test .left) (c .before .loop .inv .0) refl refl))
