@@ -119,55 +119,63 @@ store-last h F₀ {F} {i} s e k m = record {
   back = listed-all (storedAt F) (h .views) heldNoView 16 k (λ p l. s .are p (omega arith));
 }
 
+-- ---- an array of which only the places in a set are visited
+
+module _ {A : Type 0} where
+  -- The elements of l before j are those of f, and all from j on are d.
+  pub record Visits (d : A) (f : ℕ → A) (l : List A) (j : ℕ) : Type 0 where
+    pub long : length l ≡ 64
+    pub are : (i : ℕ) → i < j → i < 64 → getD l i d ≡ f i
+    pub none : (i : ℕ) → j ≤ i → getD l i d ≡ d
+
+  same-all : (d : A) (n i : ℕ) → getD (replicate n d) i d ≡ d
+  same-all d zero i = refl
+  same-all d (suc n) zero = refl
+  same-all d (suc n) (suc i) = same-all d n i
+
+  -- outside the set s all of f are d
+  module _ {d : A} {f : ℕ → A} {s : ℕ} (u : (i : ℕ) → bit s i ≡ false → d ≡ f i) where
+    pub visit-first : {j : ℕ} → Next s 0 j → Visits d f (replicate 64 d) j
+    visit-first {j} n = record {
+      long = length-replicate 64 d;
+      are = λ i l m. same-all d 64 i ∙ u i (n .none i (omega arith) l);
+      none = λ i l. same-all d 64 i;
+    }
+
+    pub visit-next : {l : List A} {j k : ℕ} (v : A) → Visits d f l j → j < 64 → v ≡ f j → Next s (j + 1) k → Visits d f (set l j v) k
+    visit-next {l} {j} {k} v h m q n = record {
+      long = length-set l j v ∙ h .long;
+      are = λ i o p. elim (decLt i j) [
+        | yes b ↦ getD-set-other l j i v d (λ e. omega arith) ∙ h .are i b p
+        | no b ↦ elim (decLt j i) [
+          | yes a ↦ getD-set-other l j i v d (λ e. omega arith) ∙ h .none i (omega arith) ∙ u i (n .none i (omega arith) o)
+          | no a ↦ (let e : j ≡ i = omega arith in subst (λ x. getD (set l j v) x d ≡ f x) e (getD-set-same l j v d (omega (arith, h .long)) ∙ q))
+        ]
+      ];
+      none = λ i o. getD-set-other l j i v d (λ e. omega (arith, further n m)) ∙ h .none i (omega (arith, further n m));
+    }
+
+  pub visit-last : {d : A} {f : ℕ → A} {l : List A} {j : ℕ} → Visits d f l j → 64 ≤ j → l ≡ listOf 64 f
+  visit-last {d} {f} {l} {j} h m = sym (listed-all f l d 64 (h .long) (λ i o. sym (h .are i (omega arith) o)))
+
 -- ---- notices that are loaded
 
 abbrev pub heldNotice : Notice
 heldNotice = record { binding = Unbound }
 
--- it is in neither set
-in-neither : (F : List ℕ) (s i : ℕ) → Union (getD F 8 0) (getD F 9 0) s → bit s i ≡ false → heldNotice ≡ noticeIn F i
+pub notice-is : (F : List ℕ) (j : ℕ) {b : Binding} → b ≡ bindingIn (bit (getD F 8 0) j) (bit (getD F 9 0) j) (getD F (96 + j) 0) → record { binding = b } ≡ noticeIn F j
 unfolding noticeIn
-in-neither F s i u e = go (bit (getD F 8 0) i) (bit (getD F 9 0) i) (sym (u .bits i) ∙ e)
+notice-is F j e = ap (λ b. record { binding = b }) e
+
+-- it is in neither set
+pub in-neither : (F : List ℕ) (s : ℕ) → Union (getD F 8 0) (getD F 9 0) s → (i : ℕ) → bit s i ≡ false → heldNotice ≡ noticeIn F i
+unfolding noticeIn
+in-neither F s u i e = go (bit (getD F 8 0) i) (bit (getD F 9 0) i) (sym (u .bits i) ∙ e)
   where
     go : (a b : Bool) → (a || b) ≡ false → heldNotice ≡ record { binding = bindingIn a b (getD F (96 + i) 0) }
     go false false q = refl
     go false true q = absurd (true≢false q)
     go true b q = absurd (true≢false q)
-
-same-all : (n i : ℕ) → getD (replicate n heldNotice) i heldNotice ≡ heldNotice
-same-all zero i = refl
-same-all (suc n) zero = refl
-same-all (suc n) (suc i) = same-all n i
-
--- The notices of the words F before j stand in l, and none from j on.
-pub record Visits (F : List ℕ) (l : List Notice) (j : ℕ) : Type 0 where
-  pub long : length l ≡ 64
-  pub are : (i : ℕ) → i < j → i < 64 → getD l i heldNotice ≡ noticeIn F i
-  pub none : (i : ℕ) → j ≤ i → getD l i heldNotice ≡ heldNotice
-
-module _ {F : List ℕ} {s : ℕ} (u : Union (getD F 8 0) (getD F 9 0) s) where
-  pub visit-first : {j : ℕ} → Next s 0 j → Visits F (replicate 64 heldNotice) j
-  visit-first {j} n = record {
-    long = length-replicate 64 heldNotice;
-    are = λ i l m. same-all 64 i ∙ in-neither F s i u (n .none i (omega arith) l);
-    none = λ i l. same-all 64 i;
-  }
-
-  pub visit-next : {l : List Notice} {j k : ℕ} (v : Notice) → Visits F l j → j < 64 → v ≡ noticeIn F j → Next s (j + 1) k → Visits F (set l j v) k
-  visit-next {l} {j} {k} v h m q n = record {
-    long = length-set l j v ∙ h .long;
-    are = λ i o p. elim (decLt i j) [
-      | yes b ↦ getD-set-other l j i v heldNotice (λ e. omega arith) ∙ h .are i b p
-      | no b ↦ elim (decLt j i) [
-        | yes a ↦ getD-set-other l j i v heldNotice (λ e. omega arith) ∙ h .none i (omega arith) ∙ in-neither F s i u (n .none i (omega arith) o)
-        | no a ↦ (let e : j ≡ i = omega arith in subst (λ x. getD (set l j v) x heldNotice ≡ noticeIn F x) e (getD-set-same l j v heldNotice (omega (arith, h .long)) ∙ q))
-      ]
-    ];
-    none = λ i o. getD-set-other l j i v heldNotice (λ e. omega (arith, further n m)) ∙ h .none i (omega (arith, further n m));
-  }
-
-pub visit-last : {F : List ℕ} {l : List Notice} {j : ℕ} → Visits F l j → 64 ≤ j → l ≡ listOf 64 (noticeIn F)
-visit-last {F} {l} {j} h m = sym (listed-all (noticeIn F) l heldNotice 64 (h .long) (λ i o. sym (h .are i (omega arith) o)))
 
 -- ---- notices that are stored
 

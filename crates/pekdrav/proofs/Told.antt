@@ -56,6 +56,14 @@ sixteen-long l = listOf-length 16 (λ i. getD (map wordOf l) i 0)
 abbrev pub payloadIn : ℕ → List ℕ → ℕ → ℕ
 payloadIn certified P i = cond (bit certified i) (getD P i 0) 0
 
+-- it is that where the set has i, and 0 elsewhere
+
+pub payload-there : (certified : ℕ) (P : List ℕ) (i : ℕ) → bit certified i ≡ true → getD P i 0 ≡ payloadIn certified P i
+payload-there certified P i e = ap (λ b. cond b (getD P i 0) 0) (sym e)
+
+pub payload-none : (certified : ℕ) (P : List ℕ) (i : ℕ) → bit certified i ≡ false → 0 ≡ payloadIn certified P i
+payload-none certified P i e = ap (λ b. cond b (getD P i 0) 0) (sym e)
+
 same-choice : (b : Bool) (m : ℕ) → cond b m 0 ≡ (if b then m else 0)
 same-choice true m = refl
 same-choice false m = refl
@@ -63,6 +71,9 @@ same-choice false m = refl
 pub payloads-all : (certified : ℕ) (P : List ℕ) → listOf 64 (payloadIn certified P) ≡ payloadsIn certified P
 unfolding payloadsIn
 payloads-all certified P = listOf-cong 64 _ _ (λ i l. same-choice (bit certified i) (getD P i 0))
+
+pub payload-at : (certified : ℕ) (P l : List ℕ) → l ≡ payloadsIn certified P → (i : ℕ) → i < 64 → getD l i 0 ≡ payloadIn certified P i
+payload-at certified P l e i h = ap (λ k. getD k i 0) (e ∙ sym (payloads-all certified P)) ∙ listOf-at 64 (payloadIn certified P) i 0 h
 
 payloads-long : (certified : ℕ) (P : List ℕ) → length (payloadsIn certified P) ≡ 64
 unfolding payloadsIn

@@ -76,13 +76,27 @@ fn tell(out: &mut [u64; TOLD_WORDS], from: usize, views: &[u64; View::LIMIT], n:
     }
 }
 
-// The payloads of the certificates of the notices in the set, and 0 for the others, in sixty-four words.
+// The payloads of the certificates of the notices in the set, and 0 for the others. Only those in the set are visited: a ring of few notices takes few steps.
+fn payloads_of(certified: u64, certs: &[u64; NOTICES]) -> [u64; NOTICES]
+    ensures { λ r. ⌜ r ≡ payloadsIn certified (now (certs .entry)) ⌝ }
+{
+    let mut payloads = [0u64; NOTICES];
+    let mut j = statements::next_in(certified, 0);
+    while j < NOTICES {
+        payloads[j] = certs[j];
+        j = statements::next_in(certified, j + 1);
+    }
+    payloads
+}
+
+// The same in sixty-four words.
 fn tell_payloads(out: &mut [u64; TOLD_WORDS], certified: u64, certs: &[u64; NOTICES])
     ensures { λ _. ⌜ now (out .exit) ≡ sets (now (out .entry)) 40 (payloadsIn certified (now (certs .entry))) ⌝ }
 {
+    let payloads = payloads_of(certified, certs);
     let mut j = 0usize;
     while j < NOTICES {
-        out[PAYLOADS + j] = when(statements::has(certified, j), certs[j]);
+        out[PAYLOADS + j] = payloads[j];
         j += 1;
     }
 }

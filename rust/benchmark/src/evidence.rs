@@ -15,11 +15,14 @@ fn honest(style: &str, count: usize) -> Vec<Case> {
     pools.map(|case| case.first(count)).filter(|case| case.statements.len() == count).collect()
 }
 
-fn mine(cases: &[(Case, Lent)]) {
+/// The memory that is lent is kept from record to record.
+fn mine() -> impl FnMut(&[(Case, Lent)]) {
     let mut out = EvidenceWords::default();
-    for (_, lent) in cases {
-        black_box(&lent.record).evidence_into(&lent.pool, &lent.ring, &mut out);
-        black_box(&out);
+    move |cases| {
+        for (_, lent) in cases {
+            black_box(&lent.record).evidence_into(&lent.pool, &lent.ring, &mut out);
+            black_box(&out);
+        }
     }
 }
 
@@ -36,7 +39,7 @@ fn lent(cases: Vec<Case>) -> Vec<(Case, Lent)> {
 fn compared(name: &str, cases: Vec<Case>) {
     let lent = lent(cases);
     if !lent.is_empty() {
-        row(name, &measure(&lent, 1, mine, theirs));
+        row(name, &measure(&lent, 1, mine(), theirs));
     }
 }
 
@@ -62,7 +65,7 @@ pub fn repeat(record: &str, side: &str, rounds: usize) {
     let cases = cases(kind, count);
     // One record, so that a round is a record.
     let lent = lent(cases.into_iter().take(1).collect());
-    measure::repeat(rounds, side, &lent, mine, theirs);
+    measure::repeat(rounds, side, &lent, mine(), theirs);
 }
 
 pub fn print() {
