@@ -1,6 +1,6 @@
 -- What a controller holds by notice: senders, sets, bindings and payloads.
 -- Assumes nothing.
-use mathlib.Core.Path.{_≡_, refl, sym, ap, ap₂, _∙_}
+use mathlib.Core.Path.{_≡_, refl, sym, ap, ap₂, subst, _∙_}
 use mathlib.Core.Bool.{Bool, true, false, _&&_, and-true, and-false}
 use mathlib.Core.List.{List, [], _∷_}
 use mathlib.Core.Option.{Option, some, none}
@@ -19,8 +19,8 @@ use Rattle.protocol.proofs.Bits.{bit-zero}
 use Rattle.protocol.proofs.Numbered.{listOf-length, listOf-at, from-parts, set-put, put-at}
 use Rattle.views.proofs.Sets.{bit-far}
 use Rattle.views.proofs.Tables.{all-append}
+use Rattle.statements.specs.declared.Binding as held
 use Rattle.statements.specs.declared.Binding.the-variants.{Unbound, Bound}
-use Rattle.statements.specs.declared.Told.{Told}
 use Rattle.statements.specs.Block.{bindingIs, toldIs, groupAt, TellsGroup}
 use Rattle.statements.specs.Sets.{PutBit}
 use Rattle.statements.proofs.NoticeSets.{put-other}
@@ -30,7 +30,7 @@ use Rattle.evidence.specs.Evidence.{certificateAt}
 use Rattle.evidence.specs.Notices.{sendersOf, bindingHeld}
 use Rattle.engine.specs.Meaning.{firstSenders}
 use Rattle.engine.specs.Steps.{areNumbers}
-use Rattle.engine.specs.Situation.{ToldTo}
+use Rattle.engine.specs.Situation.{noticeTold, ToldTo}
 
 -- ---- senders
 
@@ -132,17 +132,22 @@ none-asked P x i = ap (λ b. when b (getD P i 0)) (bit-zero i) x
 pub told-first : (H : List Notice) (e : Evidence) (P B : List ℕ) → ToldTo H e P 0 B
 told-first H e P B = record { at = λ i l. absurd (omega arith) }
 
-pub told-next : {H : List Notice} {e : Evidence} {P B B′ : List ℕ} {j : ℕ} (t : Told) → ToldTo H e P j B → TellsGroup B j t B′ → j < 64
-    → bindingIs (t .binding) ≡ bindingHeld H j → t .stored ≡ bit (e .certified) j → t .kept ≡ getD P j 0 → (k : ℕ) → k ≤ j + 1 → ToldTo H e P k B′
-told-next {H} {e} {P} {B} {B′} {j} t h p l b s k n m = record {
+pub told-next : {H : List Notice} {e : Evidence} {P B B′ : List ℕ} {j : ℕ} (b : held.Binding) → ToldTo H e P j B → TellsGroup B j (noticeTold b (e .certified) P j) B′ → j < 64
+    → bindingIs b ≡ bindingHeld H j → (k : ℕ) → k ≤ j + 1 → ToldTo H e P k B′
+told-next {H} {e} {P} {B} {B′} {j} b h p l q n m = record {
   at = λ i o. elim (decLt i j) [
-    | yes q ↦ p .groups i (omega arith) ∙ put-other j (toldIs t) (groupAt B) i (λ z. omega arith) ∙ h .at i q
-    | no q ↦ (let z : j ≡ i = omega arith in
+    | yes x ↦ p .groups i (omega arith) ∙ put-other j (toldIs (noticeTold b (e .certified) P j)) (groupAt B) i (λ z. omega arith) ∙ h .at i x
+    | no x ↦ (let z : j ≡ i = omega arith in
         (let y : groupAt B′ j ≡ tells (bindingHeld H j) (certificateAt e P j) =
-        p .groups j l ∙ put-at j (toldIs t) (groupAt B) ∙ ap₂ tells b (ap₂ when s k) in
+        p .groups j l ∙ put-at j (toldIs (noticeTold b (e .certified) P j)) (groupAt B) ∙ ap (λ a. tells a (certificateAt e P j)) q in
         rw z at y))
   ];
 }
+
+-- what was told, by the set
+pub told-by : (B : List ℕ) (j : ℕ) (b : held.Binding) (certified : ℕ) (P B′ : List ℕ) {s : Bool} → s ≡ bit certified j → TellsGroup B j (record { binding = b; stored = s; kept = getD P j 0 }) B′
+    → TellsGroup B j (noticeTold b certified P j) B′
+told-by B j b certified P B′ e t = subst (λ s. TellsGroup B j (record { binding = b; stored = s; kept = getD P j 0 }) B′) e t
 
 -- none of the first n is left out
 pub told-all : {H : List Notice} {e : Evidence} {P B : List ℕ} {j n : ℕ} → ToldTo H e P j B → n ≤ j → ToldTo H e P n B

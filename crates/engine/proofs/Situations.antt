@@ -81,7 +81,7 @@ module _ (X : List Stmt) (C G P : List ℕ) (c : Controller) (r : declared.Ring)
   unfolding turn.certificate
   the-certificate i l = sym (shown .certificate (k .agree) i l)
 
-  module _ (narrow : Narrow G (e .length)) (whole : viewIn (e .wished) ≡ viewOf (e .wished)) (s : Situation) (l : Situated (c .number) r (c .delivered) (c .requested) (c .joining) (c .leaving) (c .entered) G e s) where
+  module _ (narrow : Narrow G (e .length)) (whole : viewIn (e .wished) ≡ viewOf (e .wished)) (s : Situation) (l : Situated c r G e s) where
     the-greatest : turn.G d X ≡ viewsOf G (e .length)
     unfolding turn.G
     the-greatest = sym (shown .greatest (k .agree))

@@ -128,14 +128,14 @@ ack-known d X k t j m (leaves e f) = absurd (let z : _≡_ {A = ℕ} 7 2 = ap (�
 ack-known d X k t j m (sends i n l e f g) = absurd (let z : _≡_ {A = ℕ} 7 6 = ap (λ s. s .kind) e in omega arith)
 
 module _ (W R : List ℕ) (c : Controller) (r : Ring) (q : RingOf c r) (C G P : List ℕ) (e : Evidence) (k : Settled (ringIs r) (sendersOf (c .senders) (r .notices)) (recordIn W R) C G P e) where
-  -- what `of_fields` asks
+  -- what `of_controller` asks
   pub looking : (0 < e .length) × (e .length ≤ 16)
   looking = (some-view _ _ _ _ _ _ e k, length-most _ _ _ _ _ _ e k)
 
   narrow-greatest : Narrow G (e .length)
   narrow-greatest = greatest-narrow (r .init) (sendersOf (c .senders) (r .notices)) W R C G P e (init-fits q) k
 
-  module _ (s : Situation) (l : Situated (c .number) r (c .delivered) (c .requested) (c .joining) (c .leaving) (c .entered) G e s) where
+  module _ (s : Situation) (l : Situated c r G e s) where
     situated : SituationOf (controllerIs c) (recordIn W R) s
     situated = situation (recordIn W R) C G P c r q e k narrow-greatest (wished-narrow (r .init) (sendersOf (c .senders) (r .notices)) W R C G P e (k .of)) s l
 

@@ -18,6 +18,8 @@ use Rattle.views.specs.Held.{viewIs, viewsIs}
 use Rattle.views.specs.declared.View as views
 use Rattle.views.specs.declared.History.{History}
 use Rattle.statements.specs.Block.{groupAt}
+use Rattle.statements.specs.declared.Binding.{Binding}
+use Rattle.statements.specs.declared.Told.{Told}
 use Rattle.evidence.specs.declared.Evidence.{Evidence}
 use Rattle.evidence.specs.declared.Notice.{Notice}
 use Rattle.evidence.specs.declared.Ring.{Ring}
@@ -40,20 +42,24 @@ pub record RingOf (c : held.Controller) (r : Ring) : Type 0 where
   pub is : ringIs r ≡ controllerIs c .ring
   pub notices : r .notices ≡ c .notices
 
--- s is the situation of a controller with these fields, that entered the views h, with a record whose evidence is e and whose greatest history is in G.
-pub record Situated (k : ℕ) (r : Ring) (done asked : ℕ) (join leave : Bool) (h : History) (G : List ℕ) (e : Evidence) (s : Situation) : Type 0 where
-  pub number : s .number ≡ k
+-- s is the situation of the controller c in its ring r, with a record whose evidence is e and whose greatest history is in G.
+pub record Situated (c : held.Controller) (r : Ring) (G : List ℕ) (e : Evidence) (s : Situation) : Type 0 where
+  pub number : s .number ≡ c .number
   pub ring : s .ring ≡ r
-  pub delivered : s .delivered ≡ done
-  pub requested : s .requested ≡ asked
-  pub joining : s .joining ≡ join
-  pub leaving : s .leaving ≡ leave
+  pub delivered : s .delivered ≡ c .delivered
+  pub requested : s .requested ≡ c .requested
+  pub joining : s .joining ≡ c .joining
+  pub leaving : s .leaving ≡ c .leaving
   pub shown : s .shown ≡ e
   pub top : viewIs (s .top) ≡ viewIn (getD G (e .length - 1) 0)
-  pub entered : s .entered ≡ any (sameView (viewIs (s .top))) (viewsIs h)
-  pub stands : s .stands ≡ (s .entered && all (notAbove (viewIs (s .top))) (viewsIs h))
-  pub left : s .left ≡ bit (viewIs (s .top) .left) k
-  pub active : s .active ≡ ltb 0 (min (h .len) 16)
+  pub entered : s .entered ≡ any (sameView (viewIs (s .top))) (viewsIs (c .entered))
+  pub stands : s .stands ≡ (s .entered && all (notAbove (viewIs (s .top))) (viewsIs (c .entered)))
+  pub left : s .left ≡ bit (viewIs (s .top) .left) (c .number)
+  pub active : s .active ≡ ltb 0 (min (c .entered .len) 16)
+
+-- What is told of notice j with the binding b, by the set of the notices that have a certificate and the words P of their payloads.
+abbrev pub noticeTold : Binding → ℕ → List ℕ → ℕ → Told
+noticeTold b certified P j = record { binding = b; stored = bit certified j; kept = getD P j 0 }
 
 -- The block B tells of the first n notices their bindings in H and the payloads of their certificates, by the evidence e and its words P.
 pub record ToldTo (H : List Notice) (e : Evidence) (P : List ℕ) (n : ℕ) (B : List ℕ) : Type 0 where

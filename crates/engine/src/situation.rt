@@ -4,6 +4,7 @@ ghost use Prim.Native.Nat.{_≤_, _<_};
 ghost use Rattle.protocol.specs.Lists.{all};
 ghost use Rattle.views.specs.Held.{viewIs, viewsIs};
 ghost use Rattle.engine.specs.Situation.{notAbove, Situated};
+use crate::Controller;
 use evidence::Evidence;
 use evidence::Ring;
 use rules::Situation;
@@ -27,34 +28,30 @@ fn none_above(h: History, t: View) -> bool
     true
 }
 
-// The situation of the controller with these fields, that entered the views h, in its ring, with the evidence e of its record.
-pub fn of_fields(
-    number: u8,
+// The situation of the controller c in its ring, with the evidence e of its record. It reads a few fields alone, so that a compiler copies no whole controller for it.
+pub fn of_controller(
+    c: Controller,
     ring: Ring,
-    delivered: u64,
-    requested: u64,
-    joining: bool,
-    leaving: bool,
-    h: History,
     e: Evidence,
     greatest: &[u64; View::LIMIT],
 ) -> Situation
     requires { ⌜ (0 < e .length) × (e .length ≤ 16) ⌝ }
-    ensures { λ r. ⌜ Situated number ring delivered requested joining leaving h (now (greatest .entry)) e r ⌝ }
+    ensures { λ r. ⌜ Situated c ring (now (greatest .entry)) e r ⌝ }
 {
     let t = View::of_word(greatest[e.length - 1]);
+    let h = c.entered;
     let entered = h.has(t);
     Situation {
-        number: number,
+        number: c.number,
         ring: ring,
-        delivered: delivered,
-        joining: joining,
-        leaving: leaving,
-        requested: requested,
+        delivered: c.delivered,
+        joining: c.joining,
+        leaving: c.leaving,
+        requested: c.requested,
         active: h.count() > 0,
         entered: entered,
         stands: entered & none_above(h, t),
-        left: t.has_left(number),
+        left: t.has_left(c.number),
         top: t,
         shown: e,
     }
