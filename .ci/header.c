@@ -15,79 +15,93 @@ static void check(int holds, int line) {
 
 #define CHECK(claim) check(claim, __LINE__)
 
-/* A ring of controller 3 alone, who is the sender too. */
+/* A ring of controller 3 alone, who is the sender of notice 1; notice 0 is sent by 1. */
 static struct pekdrav_controller controller, joiner;
 static struct pekdrav_pool pool;
-static const char join_line[] = "1,1,00000000,00000000,0,0,0,0,0";
+static const char join_line[] = "1,1,00000000,00000000,0,0,0,0,0,0";
+static const uint8_t senders[PEKDRAV_NOTICES] = {1, 3};
 
 static const uint8_t *bytes(const char *text) { return (const uint8_t *)text; }
 
 static void check_setup(void) {
     const struct pekdrav_fields *fields = &controller.fields;
-    uint64_t value;
+    struct pekdrav_value value;
     pekdrav_pool_clear(&pool);
     pekdrav_controller_init(&controller);
-    CHECK(pekdrav_controller_turn(&controller, &pool, &value) == PEKDRAV_ANSWER_REFUSED && value == PEKDRAV_REFUSAL_OUT_OF_PLACE);
-    CHECK(pekdrav_controller_setup(&controller, 16, 8, 3, &value) == PEKDRAV_ANSWER_REFUSED && value == PEKDRAV_REFUSAL_BAD_SETUP);
+    CHECK(pekdrav_controller_turn(&controller, &pool, &value) == PEKDRAV_ANSWER_REFUSED && value.number == PEKDRAV_REFUSAL_OUT_OF_PLACE);
+    CHECK(pekdrav_controller_setup(&controller, 16, 8, 2, senders, &value) == PEKDRAV_ANSWER_REFUSED && value.number == PEKDRAV_REFUSAL_BAD_SETUP);
+    CHECK(pekdrav_controller_setup(&controller, 3, 8, 0, senders, &value) == PEKDRAV_ANSWER_REFUSED && value.number == PEKDRAV_REFUSAL_BAD_SETUP);
+    CHECK(pekdrav_controller_setup(&controller, 3, 8, 65, senders, &value) == PEKDRAV_ANSWER_REFUSED && value.number == PEKDRAV_REFUSAL_BAD_SETUP);
     CHECK(!fields->ready);
-    CHECK(pekdrav_controller_setup(&controller, 3, 8, 3, &value) == PEKDRAV_ANSWER_TAKEN && value == 0);
-    CHECK(fields->ready && fields->number == 3 && fields->initial == pekdrav_view(8, 0) && fields->sender == 3);
+    CHECK(pekdrav_controller_setup(&controller, 3, 8, 2, senders, &value) == PEKDRAV_ANSWER_TAKEN && value.number == 0);
+    CHECK(fields->ready && fields->number == 3 && fields->initial == pekdrav_view(8, 0) && fields->notice_count == 2);
+    CHECK(fields->senders[0] == 1 && fields->senders[1] == 3);
     CHECK(fields->entered_count == 1 && fields->entered[0] == pekdrav_view(8, 0));
-    CHECK(fields->binding == PEKDRAV_BINDING_UNBOUND && !fields->delivered && controller.record.count == 0);
+    CHECK(pekdrav_controller_binding(&controller, 1) == PEKDRAV_BINDING_UNBOUND && !pekdrav_controller_delivered(&controller, 1));
+    CHECK(controller.record.count == 0);
 }
 
 static void check_requests(void) {
-    uint64_t value;
+    struct pekdrav_value value;
     pekdrav_controller_init(&joiner);
-    pekdrav_controller_setup(&joiner, 1, 8, 3, &value);
-    CHECK(pekdrav_controller_leave(&joiner, &value) == PEKDRAV_ANSWER_REFUSED && value == PEKDRAV_REFUSAL_BAD_REQUEST);
+    pekdrav_controller_setup(&joiner, 1, 8, 2, senders, &value);
+    CHECK(pekdrav_controller_leave(&joiner, &value) == PEKDRAV_ANSWER_REFUSED && value.number == PEKDRAV_REFUSAL_BAD_REQUEST);
     CHECK(pekdrav_controller_join(&joiner, &value) == PEKDRAV_ANSWER_TAKEN);
-    CHECK(joiner.fields.join_requested && !joiner.fields.leave_requested && !joiner.fields.send_requested);
-    CHECK(pekdrav_controller_send(&controller, 7, &value) == PEKDRAV_ANSWER_TAKEN);
-    CHECK(controller.fields.send_requested && controller.fields.send_payload == 7 && !controller.fields.join_requested);
+    CHECK(joiner.fields.join_requested && !joiner.fields.leave_requested && !pekdrav_controller_send_requested(&joiner, 0));
+    CHECK(pekdrav_controller_send(&controller, 2, 7, &value) == PEKDRAV_ANSWER_REFUSED && value.number == PEKDRAV_REFUSAL_UNKNOWN_NOTICE);
+    CHECK(pekdrav_controller_send(&controller, 0, 7, &value) == PEKDRAV_ANSWER_REFUSED && value.number == PEKDRAV_REFUSAL_BAD_REQUEST);
+    CHECK(pekdrav_controller_send(&controller, 1, 7, &value) == PEKDRAV_ANSWER_TAKEN);
+    CHECK(pekdrav_controller_send_requested(&controller, 1) && controller.fields.send_payloads[1] == 7);
+    CHECK(!pekdrav_controller_send_requested(&controller, 0) && !controller.fields.join_requested);
 }
 
 static void check_turns(void) {
     uint8_t text[PEKDRAV_TEXT_MAX];
-    uint64_t value;
+    struct pekdrav_value value;
     for (uint64_t number = 0; number < 3; number++) {
-        CHECK(pekdrav_controller_turn(&controller, &pool, &value) == PEKDRAV_ANSWER_SIGNED && value == number);
+        CHECK(pekdrav_controller_turn(&controller, &pool, &value) == PEKDRAV_ANSWER_SIGNED && value.number == number);
     }
-    CHECK(pekdrav_pool_text(&pool, 0, text, sizeof text) == 31 && memcmp(text, "6,3,00000000,00000000,0,7,0,0,0", 31) == 0);
-    CHECK(controller.fields.binding == PEKDRAV_BINDING_BOUND && controller.fields.bound == 7);
-    CHECK(pekdrav_controller_turn(&controller, &pool, &value) == PEKDRAV_ANSWER_DELIVERED && value == 7);
-    CHECK(controller.fields.delivered && controller.record.count == 3 && controller.record.ids[2] == 2);
+    CHECK(pekdrav_pool_text(&pool, 0, text, sizeof text) == 33 && memcmp(text, "6,3,00000000,00000000,1,0,7,0,0,0", 33) == 0);
+    CHECK(controller.fields.bound == 2 && controller.fields.barred == 0 && controller.fields.payloads[1] == 7);
+    CHECK(pekdrav_controller_binding(&controller, 1) == PEKDRAV_BINDING_BOUND && pekdrav_controller_binding(&controller, 0) == PEKDRAV_BINDING_UNBOUND);
+    CHECK(pekdrav_controller_turn(&controller, &pool, &value) == PEKDRAV_ANSWER_DELIVERED && value.number == 7 && value.notice == 1);
+    CHECK(pekdrav_controller_delivered(&controller, 1) && !pekdrav_controller_delivered(&controller, 0));
+    CHECK(controller.record.count == 3 && controller.record.ids[2] == 2);
     CHECK(pekdrav_controller_turn(&controller, &pool, &value) == PEKDRAV_ANSWER_QUIET);
     CHECK(pekdrav_controller_leave(&controller, &value) == PEKDRAV_ANSWER_TAKEN && controller.fields.leave_requested);
 }
 
 static void check_record(void) {
-    static const char screen[] = "wished,000a0000\ncandidates,1,00080000\ngreatest,1,00080000\ncertificate,7,stored\n";
+    static const char screen[] = "wished,000a0000\ncandidates,1,00080000\ngreatest,1,00080000\ncertificate,1,7,stored\n";
     struct pekdrav_evidence told;
     uint8_t text[PEKDRAV_SCREEN_MAX];
-    uint64_t value, initial = pekdrav_view(8, 0);
+    struct pekdrav_value value;
+    uint64_t initial = pekdrav_view(8, 0);
     CHECK(pekdrav_controller_add(&controller, &pool, bytes(join_line), strlen(join_line), &value) == PEKDRAV_ANSWER_TAKEN);
     pekdrav_controller_evidence(&controller, &pool, &told);
     CHECK(!told.conflict && !told.many && pekdrav_view_joined(told.wished) == 10 && pekdrav_view_left(told.wished) == 0);
     CHECK(told.candidate_count == 1 && told.candidates[0] == initial && told.candidates[1] == 0);
     CHECK(told.greatest_count == 1 && told.greatest[0] == initial);
-    CHECK(told.certified && told.payload == 7 && told.stored);
+    CHECK(told.certified == 2 && told.payloads[1] == 7 && told.payloads[0] == 0 && told.stored == 2);
     CHECK(pekdrav_controller_signers(&controller, &pool, PEKDRAV_KIND_ACK, initial) == 8);
     CHECK(pekdrav_controller_signers(&controller, &pool, PEKDRAV_KIND_REPORT, initial) == 0);
     CHECK(pekdrav_controller_screen(&controller, &pool, text, sizeof text) == strlen(screen) && memcmp(text, screen, strlen(screen)) == 0);
 }
 
 static void check_pool(void) {
+    static const char report_line[] = "5,3,00080000,00080000,0,0,0,0,0,1,7,1,7,1,00080000";
     char line[64];
     uint8_t rows[64];
-    CHECK(pekdrav_pool_append(&pool, bytes(join_line), strlen(join_line)) == 3);
-    CHECK(pekdrav_pool_append(&pool, bytes("1,1"), 3) == PEKDRAV_NO_STATEMENT);
-    for (int payload = 0; payload < PEKDRAV_STATEMENTS - 4; payload++) {
-        int length = snprintf(line, sizeof line, "6,4,00000000,00000000,0,%d,0,0,0", payload);
-        CHECK(pekdrav_pool_append(&pool, bytes(line), (size_t)length) == payload + 4);
+    CHECK(pekdrav_pool_append(&pool, bytes(join_line), strlen(join_line), 2) == 3);
+    CHECK(pekdrav_pool_append(&pool, bytes("1,1"), 3, 2) == PEKDRAV_NO_STATEMENT);
+    CHECK(pekdrav_pool_append(&pool, bytes(report_line), strlen(report_line), 1) == PEKDRAV_NO_STATEMENT);
+    CHECK(pekdrav_pool_append(&pool, bytes(report_line), strlen(report_line), 2) == 4);
+    for (int payload = 0; payload < PEKDRAV_STATEMENTS - 5; payload++) {
+        int length = snprintf(line, sizeof line, "6,4,00000000,00000000,0,0,%d,0,0,0", payload);
+        CHECK(pekdrav_pool_append(&pool, bytes(line), (size_t)length, 2) == payload + 5);
     }
-    CHECK(pekdrav_pool_append(&pool, bytes("2,1,00000000,00000000,0,0,0,0,0"), 31) == PEKDRAV_POOL_FULL);
-    CHECK(pekdrav_statement_rewrite(bytes(join_line), strlen(join_line), rows, sizeof rows) == strlen(join_line));
+    CHECK(pekdrav_pool_append(&pool, bytes("2,1,00000000,00000000,0,0,0,0,0,0"), 33, 2) == PEKDRAV_POOL_FULL);
+    CHECK(pekdrav_statement_rewrite(bytes(join_line), strlen(join_line), 2, rows, sizeof rows) == strlen(join_line));
     CHECK(pekdrav_schedule_rows(bytes(""), 0, rows, sizeof rows) == strlen("line,who,answer,value\n0,16,refused,8\n"));
 }
 

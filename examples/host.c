@@ -1,4 +1,4 @@
-/* Two controllers in one program: what one signs, the other is given. Both deliver the payload 7. `host.rs` is the same host in Rust.
+/* Two controllers in one program: what one signs, the other is given. Each sends one notice, and both deliver both. `host.rs` is the same host in Rust.
  *
  *     rt staticlib pekdrav
  *     cc -Iinclude examples/host.c target/staticlib/libpekdrav.a -o target/host && target/host
@@ -19,7 +19,7 @@ static struct seat ring[2];
 /* A host would sign this text and send it; here it goes straight to the other controller. */
 static void pass_on(int from, uint64_t number) {
     uint8_t text[PEKDRAV_TEXT_MAX];
-    uint64_t value;
+    struct pekdrav_value value;
     size_t length = pekdrav_pool_text(&ring[from].pool, (uint16_t)number, text, sizeof text);
     struct seat *to = &ring[1 - from];
     printf("%d signed %.*s\n", from, (int)length, (const char *)text);
@@ -28,19 +28,19 @@ static void pass_on(int from, uint64_t number) {
 
 /* One turn. Answers 0 where there was nothing to do. */
 static int turn(int k) {
-    uint64_t value;
+    struct pekdrav_value value;
     switch (pekdrav_controller_turn(&ring[k].controller, &ring[k].pool, &value)) {
     case PEKDRAV_ANSWER_SIGNED:
-        pass_on(k, value);
+        pass_on(k, value.number);
         return 1;
     case PEKDRAV_ANSWER_ENTERED:
-        printf("%d entered %04" PRIx32 "%04" PRIx32 "\n", k, pekdrav_view_joined(value), pekdrav_view_left(value));
+        printf("%d entered %04" PRIx32 "%04" PRIx32 "\n", k, pekdrav_view_joined(value.number), pekdrav_view_left(value.number));
         return 1;
     case PEKDRAV_ANSWER_DELIVERED:
-        printf("%d delivered %" PRIu64 "\n", k, value);
+        printf("%d delivered %" PRIu64 ", notice %" PRIu64 "\n", k, value.number, value.notice);
         return 1;
     case PEKDRAV_ANSWER_REFUSED:
-        printf("%d refused %" PRIu64 "\n", k, value);
+        printf("%d refused %" PRIu64 "\n", k, value.number);
         return 0;
     default:
         return 0;
@@ -48,13 +48,16 @@ static int turn(int k) {
 }
 
 int main(void) {
-    uint64_t value;
+    /* Notice 0 is sent by controller 0, notice 1 by controller 1. */
+    static const uint8_t senders[PEKDRAV_NOTICES] = {0, 1};
+    struct pekdrav_value value;
     for (int k = 0; k < 2; k++) {
         pekdrav_pool_clear(&ring[k].pool);
         pekdrav_controller_init(&ring[k].controller);
-        pekdrav_controller_setup(&ring[k].controller, (uint8_t)k, 0x0003, 0, &value);
+        pekdrav_controller_setup(&ring[k].controller, (uint8_t)k, 0x0003, 2, senders, &value);
     }
-    pekdrav_controller_send(&ring[0].controller, 7, &value);
+    pekdrav_controller_send(&ring[0].controller, 0, 7, &value);
+    pekdrav_controller_send(&ring[1].controller, 1, 8, &value);
     while (turn(0) | turn(1)) {
     }
     return 0;

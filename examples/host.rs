@@ -1,4 +1,4 @@
-//! Two controllers in one program: what one signs, the other is given. Both deliver the payload 7. `host.c` is the same host in C.
+//! Two controllers in one program: what one signs, the other is given. Each sends one notice, and both deliver both. `host.c` is the same host in C.
 //!
 //!     rt staticlib pekdrav
 //!     cargo run --release --offline --manifest-path rust/Cargo.toml -p pekdrav --example host
@@ -26,7 +26,7 @@ fn turn(ring: &mut [Seat; 2], k: usize) -> bool {
     match controller.turn(pool) {
         Answer::Signed(number) => pass_on(ring, k, number),
         Answer::Entered(view) => println!("{k} entered {view}"),
-        Answer::Delivered(payload) => println!("{k} delivered {payload}"),
+        Answer::Delivered { notice, payload } => println!("{k} delivered {payload}, notice {notice}"),
         Answer::Refused(refusal) => {
             println!("{k} refused {}", refusal.number());
             return false;
@@ -39,8 +39,10 @@ fn turn(ring: &mut [Seat; 2], k: usize) -> bool {
 fn main() {
     let mut ring: [Seat; 2] = Default::default();
     for (number, seat) in (0..).zip(&mut ring) {
-        seat.controller.setup(number, 0x0003, 0);
+        // Notice 0 is sent by controller 0, notice 1 by controller 1.
+        seat.controller.setup(number, 0x0003, &[0, 1]);
     }
-    ring[0].controller.send(7);
+    ring[0].controller.send(0, 7);
+    ring[1].controller.send(1, 8);
     while turn(&mut ring, 0) | turn(&mut ring, 1) {}
 }

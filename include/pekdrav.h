@@ -20,14 +20,16 @@ extern "C" {
 #define PEKDRAV_CONTROLLERS 16
 /* A history has no more views, and no more candidates are told. */
 #define PEKDRAV_VIEWS 16
+/* A setup names no more notices; they are numbered from 0. */
+#define PEKDRAV_NOTICES 64
 /* A pool has no more statements, and so has a record. */
 #define PEKDRAV_STATEMENTS 512
-/* The words of a pool: 21 for each statement, and their number. */
-#define PEKDRAV_POOL_WORDS (21 * PEKDRAV_STATEMENTS + 1)
+/* The words of a pool: 151 for each statement, and their number. */
+#define PEKDRAV_POOL_WORDS (151 * PEKDRAV_STATEMENTS + 1)
 /* No statement's text has more bytes. */
-#define PEKDRAV_TEXT_MAX 256
+#define PEKDRAV_TEXT_MAX 3120
 /* No text of what a record shows has more bytes. */
-#define PEKDRAV_SCREEN_MAX 512
+#define PEKDRAV_SCREEN_MAX 4096
 /* No schedule that is run has more bytes. */
 #define PEKDRAV_SCHEDULE_MAX 65536
 /* No schedule's rows have more bytes. */
@@ -37,27 +39,34 @@ extern "C" {
 #define PEKDRAV_POOL_FULL 512
 #define PEKDRAV_NO_STATEMENT 513
 
-/* What a call answers, and the value that comes with it. */
+/* What a call answers, and the number that comes with it. */
 enum pekdrav_answer {
     PEKDRAV_ANSWER_TAKEN = 0,     /* 0 */
     PEKDRAV_ANSWER_SIGNED = 1,    /* the statement's number in the pool: send its text to the others */
     PEKDRAV_ANSWER_ENTERED = 2,   /* the view */
-    PEKDRAV_ANSWER_DELIVERED = 3, /* the payload */
+    PEKDRAV_ANSWER_DELIVERED = 3, /* the payload, and with it the notice */
     PEKDRAV_ANSWER_LEFT = 4,      /* 0 */
     PEKDRAV_ANSWER_QUIET = 5,     /* 0 */
     PEKDRAV_ANSWER_REFUSED = 6    /* an enum pekdrav_refusal; all is as before */
 };
 
+/* What comes with an answer. */
+struct pekdrav_value {
+    uint64_t number;
+    uint64_t notice; /* the notice that was delivered, else 0 */
+};
+
 /* Why a call is refused, by the number in the table of refusals. */
 enum pekdrav_refusal {
-    PEKDRAV_REFUSAL_BAD_SETUP = 1,       /* no initial member, a number above 15, or a second setup */
-    PEKDRAV_REFUSAL_BAD_STATEMENT = 2,   /* the statement breaks a field rule, or the line is none */
+    PEKDRAV_REFUSAL_BAD_SETUP = 1,       /* no initial member, no notice or more than 64, a number above 15, or a second setup */
+    PEKDRAV_REFUSAL_BAD_STATEMENT = 2,   /* the statement breaks a field rule, or the line is none; a report has a group for each notice */
     PEKDRAV_REFUSAL_REPEATED = 3,        /* the statement is in the record */
     PEKDRAV_REFUSAL_FULL = 4,            /* record or pool is full, and one more must go in */
-    PEKDRAV_REFUSAL_BAD_REQUEST = 5,     /* join by an initial member, leave before entering, send by another than the sender; any of them repeated */
+    PEKDRAV_REFUSAL_BAD_REQUEST = 5,     /* join by an initial member, leave before entering, send by another than the notice's sender; any of them repeated */
     PEKDRAV_REFUSAL_MANY_CANDIDATES = 6, /* on a turn, more than sixteen candidates */
     PEKDRAV_REFUSAL_CONFLICT = 7,        /* on a turn, the record contradicts itself: too many members lied */
-    PEKDRAV_REFUSAL_OUT_OF_PLACE = 8     /* any call before setup */
+    PEKDRAV_REFUSAL_OUT_OF_PLACE = 8,    /* any call before setup */
+    PEKDRAV_REFUSAL_UNKNOWN_NOTICE = 9   /* a statement or a send about a notice that the setup lacks */
 };
 
 /* The kinds of statements: the first field of their text. */
@@ -72,7 +81,7 @@ enum pekdrav_kind {
     PEKDRAV_KIND_STORE = 8
 };
 
-/* What a controller is bound to. */
+/* What a controller is bound to in a notice. */
 enum pekdrav_binding {
     PEKDRAV_BINDING_UNBOUND = 0,
     PEKDRAV_BINDING_BOUND = 1, /* to one payload */
@@ -91,23 +100,26 @@ struct pekdrav_record {
     uint16_t count;
 };
 
-/* What a controller has beside its record. Nothing is promised of what is reserved and of views after those entered, which stand for nothing. */
+/* What a controller has beside its record. Nothing is promised of what is reserved, of views after those entered, of notices after those of the setup and
+ * of payloads of notices that are not bound, which stand for nothing. */
 struct pekdrav_fields {
     uint64_t ready; /* whether it is set up */
     uint64_t number;
     uint64_t initial; /* the initial view */
-    uint64_t sender;
-    uint64_t binding; /* an enum pekdrav_binding */
-    uint64_t bound;   /* the payload that it is bound to */
-    uint64_t delivered;
+    uint64_t notice_count;
+    uint64_t delivered;      /* the notices that it delivered, bit j for notice j */
+    uint64_t send_requested; /* those whose send was requested */
     uint64_t join_requested;
     uint64_t leave_requested;
-    uint64_t send_requested;
-    uint64_t send_payload;
-    uint64_t reserved_1;
+    uint64_t bound;  /* the notices that it is bound in, each to one payload */
+    uint64_t barred; /* those that it is barred in; what is in both sets is barred */
+    uint64_t reserved_1[2];
     uint64_t entered_count;
     uint64_t reserved_2[3];
     uint64_t entered[PEKDRAV_VIEWS]; /* the views that it entered */
+    uint64_t senders[PEKDRAV_NOTICES];  /* by the number of the notice, as all that follows; the low eight bits count */
+    uint64_t payloads[PEKDRAV_NOTICES]; /* those that it is bound to */
+    uint64_t send_payloads[PEKDRAV_NOTICES];
 };
 
 /* A refused call leaves fields and record as they were. After any other the fields stand for the controller that the call leaves, and the record is as it
@@ -118,66 +130,70 @@ struct pekdrav_controller {
 };
 
 /* What a record shows. What is not told is 0: after a conflict all but `conflict` and `wished`, with more than sixteen candidates their count and the
- * candidates, without a certificate `payload` and `stored`, and the places after the last view of each list. */
+ * candidates, the payload of a notice without a certificate, and the places after the last view of each list. */
 struct pekdrav_evidence {
     uint64_t conflict; /* whether the record contradicts itself */
     uint64_t many;     /* whether there are more than sixteen candidates */
     uint64_t wished;   /* the wished view */
     uint64_t candidate_count;
     uint64_t greatest_count;
-    uint64_t certified; /* whether a payload has a certificate */
-    uint64_t payload;   /* that payload */
-    uint64_t stored;    /* whether it is stored */
+    uint64_t certified; /* the notices that have a certificate, bit j for notice j */
+    uint64_t stored;    /* those of them whose payload is stored */
+    uint64_t reserved;
     uint64_t candidates[PEKDRAV_VIEWS];
-    uint64_t greatest[PEKDRAV_VIEWS]; /* the views of the greatest history */
+    uint64_t greatest[PEKDRAV_VIEWS];   /* the views of the greatest history */
+    uint64_t payloads[PEKDRAV_NOTICES]; /* of the certificates, by the number of the notice */
 };
 
 /* Compiles only where the structs lie in memory as the library has them. */
 typedef char pekdrav_layout[sizeof(struct pekdrav_pool) == PEKDRAV_POOL_WORDS * sizeof(uint64_t) &&
                                     sizeof(struct pekdrav_record) == (PEKDRAV_STATEMENTS + 1) * sizeof(uint16_t) &&
-                                    sizeof(struct pekdrav_fields) == 32 * sizeof(uint64_t) && sizeof(struct pekdrav_evidence) == 40 * sizeof(uint64_t)
+                                    sizeof(struct pekdrav_fields) == 224 * sizeof(uint64_t) &&
+                                    sizeof(struct pekdrav_evidence) == 104 * sizeof(uint64_t)
                                 ? 1
                                 : -1];
 
 /* An empty pool. */
 void pekdrav_pool_clear(struct pekdrav_pool *pool);
-/* The number of the statement that `line` is, which goes to the end of the pool if it is not in it; PEKDRAV_POOL_FULL or PEKDRAV_NO_STATEMENT, with the pool
- * as it was, if it cannot. Only the words of a new statement and the number of statements are written. */
-uint16_t pekdrav_pool_append(struct pekdrav_pool *pool, const uint8_t *line, size_t line_len);
+/* The number of the statement that `line` is in a ring of that many notices, which goes to the end of the pool if it is not in it; PEKDRAV_POOL_FULL or
+ * PEKDRAV_NO_STATEMENT, with the pool as it was, if it cannot. Only the words of a new statement and the number of statements are written. */
+uint16_t pekdrav_pool_append(struct pekdrav_pool *pool, const uint8_t *line, size_t line_len, size_t notices);
 /* Writes the text of statement `number` and answers its length; 0, with `out` as it was, if there is none or `out` is too short. */
 size_t pekdrav_pool_text(const struct pekdrav_pool *pool, uint16_t number, uint8_t *out, size_t out_len);
 
-/* Writes the statement that `line` is and answers its length; 0, with `out` as it was, if `line` is the text of no statement that keeps the field
- * rules or `out` is too short. */
-size_t pekdrav_statement_rewrite(const uint8_t *line, size_t line_len, uint8_t *out, size_t out_len);
+/* Writes the statement that `line` is in a ring of that many notices and answers its length; 0, with `out` as it was, if `line` is the text of no
+ * statement that keeps the field rules or `out` is too short. */
+size_t pekdrav_statement_rewrite(const uint8_t *line, size_t line_len, size_t notices, uint8_t *out, size_t out_len);
 
 /* Writes the rows of a schedule and answers their length; 0, with `rows` as they were, if they are too short. With PEKDRAV_ROWS_MAX bytes the schedule is
  * run once, with fewer it is run twice. */
 size_t pekdrav_schedule_rows(const uint8_t *schedule, size_t schedule_len, uint8_t *rows, size_t rows_len);
 
-/* What any record shows in a ring of this initial view and sender; pekdrav_controller_signers, _evidence and _screen ask it of a controller. */
+/* What any record shows in a ring of this initial view and of `count` notices with these senders; pekdrav_controller_signers, _evidence and _screen ask it
+ * of a controller. A count above 64 counts as 64. */
 
 /* Who signed a statement of this kind, an enum pekdrav_kind, at this view: bit k for controller k. */
 uint32_t pekdrav_record_signers(const struct pekdrav_record *record, const struct pekdrav_pool *pool, uint8_t kind, uint64_t at);
 /* Writes all of `out`. */
-void pekdrav_record_evidence(const struct pekdrav_record *record, const struct pekdrav_pool *pool, uint64_t initial, uint8_t sender,
-                             struct pekdrav_evidence *out);
+void pekdrav_record_evidence(const struct pekdrav_record *record, const struct pekdrav_pool *pool, uint64_t initial, uint8_t count,
+                             const uint8_t senders[PEKDRAV_NOTICES], struct pekdrav_evidence *out);
 /* Writes what the record shows in lines, for a service screen, and answers the text's length; 0, with `out` as it was, if `out` has fewer than
  * PEKDRAV_SCREEN_MAX bytes. The lines: `wished,VIEW`; then `conflict` and nothing more, or `candidates,COUNT,VIEW,..` (`candidates,many` for more than
- * sixteen), `greatest,COUNT,VIEW,..` and `certificate,PAYLOAD,stored` (`kept` if it is not stored, `certificate,none` if no payload has one). */
-size_t pekdrav_record_screen(const struct pekdrav_record *record, const struct pekdrav_pool *pool, uint64_t initial, uint8_t sender, uint8_t *out,
-                             size_t out_len);
+ * sixteen), `greatest,COUNT,VIEW,..` and for each notice that has a certificate `certificate,NOTICE,PAYLOAD,stored` (without the notice in a ring of one;
+ * `kept` if it is not stored; `certificate,none` if no notice has one). */
+size_t pekdrav_record_screen(const struct pekdrav_record *record, const struct pekdrav_pool *pool, uint64_t initial, uint8_t count,
+                             const uint8_t senders[PEKDRAV_NOTICES], uint8_t *out, size_t out_len);
 
 /* The calls of a controller as the library has them: fields and record are two pointers, and the answer is a byte. Use the functions below. */
 void pekdrav_raw_controller_init(struct pekdrav_fields *fields, struct pekdrav_record *record);
-uint8_t pekdrav_raw_controller_setup(struct pekdrav_fields *fields, struct pekdrav_record *record, uint8_t number, uint16_t members, uint8_t sender,
-                                     uint64_t *value);
-uint8_t pekdrav_raw_controller_join(struct pekdrav_fields *fields, uint64_t *value);
-uint8_t pekdrav_raw_controller_leave(struct pekdrav_fields *fields, uint64_t *value);
-uint8_t pekdrav_raw_controller_send(struct pekdrav_fields *fields, uint64_t payload, uint64_t *value);
-uint8_t pekdrav_raw_controller_add(struct pekdrav_fields *fields, struct pekdrav_record *record, struct pekdrav_pool *pool, const uint8_t *line,
-                                   size_t line_len, uint64_t *value);
-uint8_t pekdrav_raw_controller_turn(struct pekdrav_fields *fields, struct pekdrav_record *record, struct pekdrav_pool *pool, uint64_t *value);
+uint8_t pekdrav_raw_controller_setup(struct pekdrav_fields *fields, struct pekdrav_record *record, uint8_t number, uint16_t members, uint8_t count,
+                                     const uint8_t senders[PEKDRAV_NOTICES], struct pekdrav_value *value);
+uint8_t pekdrav_raw_controller_join(struct pekdrav_fields *fields, struct pekdrav_value *value);
+uint8_t pekdrav_raw_controller_leave(struct pekdrav_fields *fields, struct pekdrav_value *value);
+uint8_t pekdrav_raw_controller_send(struct pekdrav_fields *fields, uint8_t notice, uint64_t payload, struct pekdrav_value *value);
+uint8_t pekdrav_raw_controller_add(const struct pekdrav_fields *fields, struct pekdrav_record *record, struct pekdrav_pool *pool, const uint8_t *line,
+                                   size_t line_len, struct pekdrav_value *value);
+uint8_t pekdrav_raw_controller_turn(struct pekdrav_fields *fields, struct pekdrav_record *record, struct pekdrav_pool *pool, struct pekdrav_value *value);
 
 #ifdef __cplusplus
 }
@@ -193,34 +209,55 @@ static inline void pekdrav_controller_init(struct pekdrav_controller *controller
     pekdrav_raw_controller_init(&controller->fields, &controller->record);
 }
 
-/* Starts controller `number` in the ring of these initial members, bit k for controller k. */
-static inline enum pekdrav_answer pekdrav_controller_setup(struct pekdrav_controller *controller, uint8_t number, uint16_t members, uint8_t sender,
-                                                           uint64_t *value) {
-    return (enum pekdrav_answer)pekdrav_raw_controller_setup(&controller->fields, &controller->record, number, members, sender, value);
+/* Starts controller `number` in the ring of these initial members, bit k for controller k, and of `count` notices with these senders. */
+static inline enum pekdrav_answer pekdrav_controller_setup(struct pekdrav_controller *controller, uint8_t number, uint16_t members, uint8_t count,
+                                                           const uint8_t senders[PEKDRAV_NOTICES], struct pekdrav_value *value) {
+    return (enum pekdrav_answer)pekdrav_raw_controller_setup(&controller->fields, &controller->record, number, members, count, senders, value);
 }
 
 /* Note a request, which a later turn acts on; the record has no part in it. */
-static inline enum pekdrav_answer pekdrav_controller_join(struct pekdrav_controller *controller, uint64_t *value) {
+static inline enum pekdrav_answer pekdrav_controller_join(struct pekdrav_controller *controller, struct pekdrav_value *value) {
     return (enum pekdrav_answer)pekdrav_raw_controller_join(&controller->fields, value);
 }
 
-static inline enum pekdrav_answer pekdrav_controller_leave(struct pekdrav_controller *controller, uint64_t *value) {
+static inline enum pekdrav_answer pekdrav_controller_leave(struct pekdrav_controller *controller, struct pekdrav_value *value) {
     return (enum pekdrav_answer)pekdrav_raw_controller_leave(&controller->fields, value);
 }
 
-static inline enum pekdrav_answer pekdrav_controller_send(struct pekdrav_controller *controller, uint64_t payload, uint64_t *value) {
-    return (enum pekdrav_answer)pekdrav_raw_controller_send(&controller->fields, payload, value);
+static inline enum pekdrav_answer pekdrav_controller_send(struct pekdrav_controller *controller, uint8_t notice, uint64_t payload,
+                                                          struct pekdrav_value *value) {
+    return (enum pekdrav_answer)pekdrav_raw_controller_send(&controller->fields, notice, payload, value);
 }
 
-/* Adds the statement that the line is, once the host has checked its signature. */
+/* Adds the statement that the line is in the controller's ring, once the host has checked its signature. */
 static inline enum pekdrav_answer pekdrav_controller_add(struct pekdrav_controller *controller, struct pekdrav_pool *pool, const uint8_t *line,
-                                                         size_t line_len, uint64_t *value) {
+                                                         size_t line_len, struct pekdrav_value *value) {
     return (enum pekdrav_answer)pekdrav_raw_controller_add(&controller->fields, &controller->record, pool, line, line_len, value);
 }
 
 /* Does the first step that the rules allow. */
-static inline enum pekdrav_answer pekdrav_controller_turn(struct pekdrav_controller *controller, struct pekdrav_pool *pool, uint64_t *value) {
+static inline enum pekdrav_answer pekdrav_controller_turn(struct pekdrav_controller *controller, struct pekdrav_pool *pool, struct pekdrav_value *value) {
     return (enum pekdrav_answer)pekdrav_raw_controller_turn(&controller->fields, &controller->record, pool, value);
+}
+
+/* Whether it delivered this notice, and whether a send of it was requested; no for a notice that the setup lacks. */
+static inline int pekdrav_controller_delivered(const struct pekdrav_controller *controller, uint8_t notice) {
+    return notice < PEKDRAV_NOTICES && (controller->fields.delivered >> notice & 1);
+}
+
+static inline int pekdrav_controller_send_requested(const struct pekdrav_controller *controller, uint8_t notice) {
+    return notice < PEKDRAV_NOTICES && (controller->fields.send_requested >> notice & 1);
+}
+
+/* What it is bound to in this notice; `payloads` has the payload. It is unbound in a notice above 63. */
+static inline enum pekdrav_binding pekdrav_controller_binding(const struct pekdrav_controller *controller, uint8_t notice) {
+    if (notice >= PEKDRAV_NOTICES) {
+        return PEKDRAV_BINDING_UNBOUND;
+    }
+    if (controller->fields.barred >> notice & 1) {
+        return PEKDRAV_BINDING_BARRED;
+    }
+    return controller->fields.bound >> notice & 1 ? PEKDRAV_BINDING_BOUND : PEKDRAV_BINDING_UNBOUND;
 }
 
 /* What the controller's record shows in its ring, as the functions of a record tell it. */
@@ -229,14 +266,26 @@ static inline uint32_t pekdrav_controller_signers(const struct pekdrav_controlle
     return pekdrav_record_signers(&controller->record, pool, (uint8_t)kind, at);
 }
 
+/* The senders of the controller's notices, and how many they are. */
+static inline uint8_t pekdrav_controller_senders(const struct pekdrav_controller *controller, uint8_t senders[PEKDRAV_NOTICES]) {
+    for (int j = 0; j < PEKDRAV_NOTICES; j++) {
+        senders[j] = (uint8_t)controller->fields.senders[j];
+    }
+    return controller->fields.notice_count < PEKDRAV_NOTICES ? (uint8_t)controller->fields.notice_count : PEKDRAV_NOTICES;
+}
+
 static inline void pekdrav_controller_evidence(const struct pekdrav_controller *controller, const struct pekdrav_pool *pool,
                                                struct pekdrav_evidence *out) {
-    pekdrav_record_evidence(&controller->record, pool, controller->fields.initial, (uint8_t)controller->fields.sender, out);
+    uint8_t senders[PEKDRAV_NOTICES];
+    uint8_t count = pekdrav_controller_senders(controller, senders);
+    pekdrav_record_evidence(&controller->record, pool, controller->fields.initial, count, senders, out);
 }
 
 static inline size_t pekdrav_controller_screen(const struct pekdrav_controller *controller, const struct pekdrav_pool *pool, uint8_t *out,
                                                size_t out_len) {
-    return pekdrav_record_screen(&controller->record, pool, controller->fields.initial, (uint8_t)controller->fields.sender, out, out_len);
+    uint8_t senders[PEKDRAV_NOTICES];
+    uint8_t count = pekdrav_controller_senders(controller, senders);
+    return pekdrav_record_screen(&controller->record, pool, controller->fields.initial, count, senders, out, out_len);
 }
 
 #endif

@@ -2,6 +2,7 @@ pub mod Rows
 pub mod Unchanged
 pub mod Records
 pub mod Seats
+pub mod Verdicts
 pub mod States
 pub mod Starts
 pub mod Runs

@@ -12,12 +12,12 @@ use lib.Dec.{T, eqb}
 use lib.ListN.{length, getD, set, replicate, length-replicate, getD-replicate, length-append, length-set}
 use lib.Seq.{getD-set-same, getD-set-other}
 use borrow.Author.Tests.{eq-eqb, ne-eqb}
-use Rattle.protocol.specs.Lists.{if_then_else_, any, filter}
-use Rattle.views.specs.Table.{table}
-use Rattle.views.proofs.Tables.{table-length, table-cong, any-append, any-zero, any-suc, any-at, any-more}
+use Rattle.protocol.specs.Lists.{if_then_else_, any, filter, listOf}
+use Rattle.protocol.proofs.Numbered.{listOf-length, listOf-cong}
+use Rattle.views.proofs.Tables.{any-append, any-zero, any-suc, any-at, any-more}
 use Rattle.pool.specs.Pool.{poolLen, recordLen, AllIn}
 use Rattle.pool.specs.Changes.{PushedTo}
-use Rattle.bench.specs.Seats.{numbersIn, hasNumber, Full, Keeps, NumbersBelow, Marks, Marked, FirstFree, unmarked, RecordFilled}
+use Rattle.bench.specs.Seats.{numbersIn, hasNumber, Full, Keeps, NumbersBelow, NumberMarks, Marked, FirstFree, unmarked, RecordFilled}
 
 -- ---- which numbers a record has
 
@@ -25,19 +25,19 @@ abbrev pub ids : List ℕ → ℕ → ℕ
 ids R i = getD R i 0
 
 module _ (f : ℕ → ℕ) (n : ℕ) where
-  pub number-next : (i : ℕ) → any (eqb n) (table i f) ≡ false → (f i ≡ n → ⊥) → any (eqb n) (table (i + 1) f) ≡ false
+  pub number-next : (i : ℕ) → any (eqb n) (listOf i f) ≡ false → (f i ≡ n → ⊥) → any (eqb n) (listOf (i + 1) f) ≡ false
   number-next i e h = any-more (eqb n) f i e (ne-eqb n (f i) (λ q. h (sym q)))
 
-  pub number-at : (m i : ℕ) → i < m → f i ≡ n → any (eqb n) (table m f) ≡ true
+  pub number-at : (m i : ℕ) → i < m → f i ≡ n → any (eqb n) (listOf m f) ≡ true
   number-at m i l e = any-at (eqb n) f m l (eq-eqb n (f i) (sym e))
 
 pub listed-yes : (R : List ℕ) (n i : ℕ) → i < recordLen R → getD R i 0 ≡ n → true ≡ hasNumber R n
 unfolding hasNumber numbersIn
 listed-yes R n i l e = sym (number-at (ids R) n (recordLen R) i l e)
 
-pub listed-no : (R : List ℕ) (n i : ℕ) → i ≡ recordLen R → any (eqb n) (table i (ids R)) ≡ false → false ≡ hasNumber R n
+pub listed-no : (R : List ℕ) (n i : ℕ) → i ≡ recordLen R → any (eqb n) (listOf i (ids R)) ≡ false → false ≡ hasNumber R n
 unfolding hasNumber numbersIn
-listed-no R n i l e = sym (subst (λ m. any (eqb n) (table m (ids R)) ≡ false) l e)
+listed-no R n i l e = sym (subst (λ m. any (eqb n) (listOf m (ids R)) ≡ false) l e)
 
 -- a record that has what another has
 pub keeps-same : (R : List ℕ) → Keeps R R
@@ -54,10 +54,10 @@ full-none R i l = absurd (omega arith)
 
 -- its numbers once one more is at its end
 pub numbers-pushed : (R R′ : List ℕ) (id : ℕ) → PushedTo R id R′ → recordLen R < 512 → numbersIn R′ ≡ numbersIn R ++ (id ∷ [])
-unfolding numbersIn table
+unfolding numbersIn listOf
 numbers-pushed R R′ id p l =
-    (let e : recordLen R′ ≡ suc (recordLen R) = omega (arith, p .len) in ap (λ m. table m (ids R′)) e)
-    ∙ ap₂ (λ t x. t ++ (x ∷ [])) (table-cong (recordLen R) (ids R′) (ids R) (p .first)) (p .last l)
+    (let e : recordLen R′ ≡ suc (recordLen R) = omega (arith, p .len) in ap (λ m. listOf m (ids R′)) e)
+    ∙ ap₂ (λ t x. t ++ (x ∷ [])) (listOf-cong (recordLen R) (ids R′) (ids R) (p .first)) (p .last l)
 
 listed-by : (R R′ : List ℕ) (L : List ℕ) (i : ℕ) → numbersIn R′ ≡ numbersIn R ++ L → hasNumber R i ≡ true → hasNumber R′ i ≡ true
 unfolding hasNumber
@@ -66,8 +66,8 @@ listed-by R R′ L i q e = ap (any (eqb i)) q ∙ any-append (eqb i) (numbersIn 
 numbers-full : (R R′ : List ℕ) (id : ℕ) → PushedTo R id R′ → (recordLen R < 512 → ⊥) → numbersIn R′ ≡ numbersIn R ++ []
 unfolding numbersIn
 numbers-full R R′ id p l =
-    (let e : recordLen R′ ≡ recordLen R = omega (arith, p .len) in ap (λ m. table m (ids R′)) e)
-    ∙ table-cong (recordLen R) (ids R′) (ids R) (p .first) ∙ sym (append-nil (table (recordLen R) (ids R)))
+    (let e : recordLen R′ ≡ recordLen R = omega (arith, p .len) in ap (λ m. listOf m (ids R′)) e)
+    ∙ listOf-cong (recordLen R) (ids R′) (ids R) (p .first) ∙ sym (append-nil (listOf (recordLen R) (ids R)))
 
 pub keeps-pushed : (R R′ : List ℕ) (id : ℕ) → PushedTo R id R′ → Keeps R R′
 unfolding Keeps
@@ -104,7 +104,7 @@ in-pool-below W R w i h = let a = w i h in omega (arith, pool-most W)
 -- marks of the first i numbers
 pub record MarksTo (f : ℕ → ℕ) (i : ℕ) (marks : List Bool) : Type 0 where
   pub long : length marks ≡ 512
-  pub tells : (n : ℕ) → n < 512 → getD marks n false ≡ any (eqb n) (table i f)
+  pub tells : (n : ℕ) → n < 512 → getD marks n false ≡ any (eqb n) (listOf i f)
 
 or-true : (b : Bool) → (b || true) ≡ true
 or-true true = refl
@@ -114,16 +114,16 @@ or-false : (b : Bool) → (b || false) ≡ b
 or-false true = refl
 or-false false = refl
 
-any-next : (f : ℕ → ℕ) (n i : ℕ) → any (eqb n) (table (i + 1) f) ≡ (any (eqb n) (table i f) || eqb n (f i))
-any-next f n i = ap (λ m. any (eqb n) (table m f)) (add-one i) ∙ any-suc (eqb n) f i
+any-next : (f : ℕ → ℕ) (n i : ℕ) → any (eqb n) (listOf (i + 1) f) ≡ (any (eqb n) (listOf i f) || eqb n (f i))
+any-next f n i = ap (λ m. any (eqb n) (listOf m f)) (add-one i) ∙ any-suc (eqb n) f i
 
 module _ (f : ℕ → ℕ) where
   marks-next : (i : ℕ) (marks : List Bool) → f i < 512 → MarksTo f i marks → MarksTo f (i + 1) (set marks (f i) true)
   marks-next i marks l m = record {
     long = length-set marks (f i) true ∙ m .long;
     tells = λ n h. elim (ℕ-discrete n (f i)) [
-      | yes e ↦ ap (λ j. getD (set marks (f i) true) j false) e ∙ getD-set-same marks (f i) true false (omega (arith, m .long)) ∙ sym (any-next f n i ∙ ap (λ b. any (eqb n) (table i f) || b) (eq-eqb n (f i) e) ∙ or-true (any (eqb n) (table i f)))
-      | no e ↦ getD-set-other marks (f i) n true false e ∙ m .tells n h ∙ sym (any-next f n i ∙ ap (λ b. any (eqb n) (table i f) || b) (ne-eqb n (f i) e) ∙ or-false (any (eqb n) (table i f)))
+      | yes e ↦ ap (λ j. getD (set marks (f i) true) j false) e ∙ getD-set-same marks (f i) true false (omega (arith, m .long)) ∙ sym (any-next f n i ∙ ap (λ b. any (eqb n) (listOf i f) || b) (eq-eqb n (f i) e) ∙ or-true (any (eqb n) (listOf i f)))
+      | no e ↦ getD-set-other marks (f i) n true false e ∙ m .tells n h ∙ sym (any-next f n i ∙ ap (λ b. any (eqb n) (listOf i f) || b) (ne-eqb n (f i) e) ∙ or-false (any (eqb n) (listOf i f)))
     ];
   }
 
@@ -133,9 +133,9 @@ module _ (f : ℕ → ℕ) where
   pub marks-stored : (i id : ℕ) (marks : List Bool) → id ≡ f i → id < 512 → MarksTo f i marks → MarksTo f (i + 1) (set marks id true)
   marks-stored i id marks e l m = subst (λ x. MarksTo f (i + 1) (set marks x true)) (sym e) (marks-next i marks (omega arith) m)
 
-pub marks-are : (R : List ℕ) (i : ℕ) (marks : List Bool) → i ≡ recordLen R → MarksTo (ids R) i marks → Marks R marks
+pub marks-are : (R : List ℕ) (i : ℕ) (marks : List Bool) → i ≡ recordLen R → MarksTo (ids R) i marks → NumberMarks R marks
 unfolding hasNumber numbersIn
-marks-are R i marks e m = record { tells = λ n h. m .tells n h ∙ ap (λ j. any (eqb n) (table j (ids R))) e }
+marks-are R i marks e m = record { tells = λ n h. m .tells n h ∙ ap (λ j. any (eqb n) (listOf j (ids R))) e }
 
 pub number-below : (R : List ℕ) (m i : ℕ) → NumbersBelow R m → i < recordLen R → getD R i 0 < m
 unfolding NumbersBelow
@@ -217,15 +217,15 @@ filter-one p a b e = rw e
 
 module _ (marks : List Bool) where
   pub unmarked-none : unmarked marks 0 ≡ []
-  unfolding unmarked table filter
+  unfolding unmarked listOf filter
   unmarked-none = refl
 
   unmarked-next : (i : ℕ) (b : Bool) → getD marks i false ≡ b → unmarked marks (i + 1) ≡ unmarked marks i ++ (if not b then i ∷ [] else [])
-  unfolding unmarked table
+  unfolding unmarked listOf
   unmarked-next i b e =
-      ap (λ m. filter (λ j. not (getD marks j false)) (table m (λ j. j))) (add-one i)
-      ∙ filter-append (λ j. not (getD marks j false)) (table i (λ j. j)) (i ∷ [])
-      ∙ ap (λ t. filter (λ j. not (getD marks j false)) (table i (λ j. j)) ++ t) (filter-one (λ j. not (getD marks j false)) i (not b) (ap not e))
+      ap (λ m. filter (λ j. not (getD marks j false)) (listOf m (λ j. j))) (add-one i)
+      ∙ filter-append (λ j. not (getD marks j false)) (listOf i (λ j. j)) (i ∷ [])
+      ∙ ap (λ t. filter (λ j. not (getD marks j false)) (listOf i (λ j. j)) ++ t) (filter-one (λ j. not (getD marks j false)) i (not b) (ap not e))
 
   unmarked-skip : (i : ℕ) → getD marks i false ≡ true → unmarked marks (i + 1) ≡ unmarked marks i
   unmarked-skip i e = unmarked-next i true e ∙ append-nil (unmarked marks i)
@@ -262,7 +262,7 @@ module _ (marks : List Bool) where
 
   numbers-length : (R : List ℕ) → length (numbersIn R) ≡ recordLen R
   unfolding numbersIn
-  numbers-length R = table-length (recordLen R) (ids R)
+  numbers-length R = listOf-length (recordLen R) (ids R)
 
   pub fill-next : (R R′ R″ : List ℕ) (i j n : ℕ) → getD marks i false ≡ false → FirstFree marks (i + 1) n j → RecordFilled R marks i R′ → PushedTo R′ i R″ → RecordFilled R marks j R″
   fill-next R R′ R″ i j n e f m p =
@@ -302,7 +302,7 @@ module _ (marks : List Bool) where
         ∙ or-true (any (eqb i) (unmarked marks n)))
   ])
 
-  module _ (R R′ : List ℕ) (n : ℕ) (t : Marks R marks) (f : RecordFilled R marks n R′) (room : recordLen R + length (unmarked marks n) ≤ 512) where
+  module _ (R R′ : List ℕ) (n : ℕ) (t : NumberMarks R marks) (f : RecordFilled R marks n R′) (room : recordLen R + length (unmarked marks n) ≤ 512) where
     listed-filled : (i : ℕ) → hasNumber R′ i ≡ (hasNumber R i || any (eqb i) (unmarked marks n))
     unfolding hasNumber
     listed-filled i = ap (any (eqb i)) (f .numbers room) ∙ any-append (eqb i) (numbersIn R) (unmarked marks n)

@@ -2,10 +2,10 @@
 -- Assumes nothing.
 use mathlib.Core.Path.{_≡_, refl, sym, ap, ap₂, subst, _∙_}
 use mathlib.Core.Logic.{_⊎_, inl, inr}
-use mathlib.Core.Bool.{Bool, true, false, _||_}
+use mathlib.Core.Bool.{Bool, true, false, _||_, true≢false}
 use mathlib.Core.List.{List, [], _∷_, _++_, append-assoc, append-nil}
 use mathlib.Core.Option.{Option, some, none}
-use Prim.Native.Nat.{ℕ, zero, suc, _+_, _-_, _≤_, _<_}
+use Prim.Native.Nat.{ℕ, zero, suc, _+_, _-_, _≤_, _<_, min}
 use native.Mathlib.Decide.{decLt, ℕ-discrete}
 use native.Mathlib.Numerals.{add-one}
 use native.Mathlib.Omega.{arith}
@@ -13,40 +13,43 @@ use lib.Dec.{eqb, ltb}
 use lib.ListN.{length, getD, set, take, drop, replicate, length-replicate, getD-replicate, length-set, length-take, length-drop, length-append, drop-of-length-le}
 use lib.Seq.{sets, length-sets, getD-set-same, getD-set-other, set-getD, ext-getD, drop-drop, take-all}
 use borrow.Author.Tests.{lt-ltb, le-ltb, eq-eqb, ne-eqb}
+use Rattle.protocol.specs.Lists.{listOf}
 use Rattle.protocol.specs.View.{controllers}
 use Rattle.protocol.specs.Controller as controller
 use Rattle.protocol.specs.Call.{setupAllowed, started}
+use Rattle.protocol.specs.Turn.{turn as turnOf}
 use Rattle.text.specs.Written.{Wrote}
 use Rattle.text.proofs.Stores.{both}
-use Rattle.views.specs.Table.{table}
-use Rattle.views.proofs.Tables.{table-length, table-at, table-cong}
 use Rattle.pool.specs.Pool.{stmtAt, poolLen, recordUpTo, recordLen, recordIn, AllIn, Grows}
 use Rattle.engine.specs.declared.Controller.{Controller}
 use Rattle.engine.specs.declared.Outcome.{Outcome}
 use Rattle.engine.specs.declared.Answer.{Answer}
 use Rattle.engine.specs.declared.Answer.the-variants.{Taken, Signed, Entered, Delivered, Left, Quiet, Refused}
-use Rattle.engine.specs.Meaning.{controllerIs, answerIs}
+use Rattle.engine.specs.Meaning.{controllerIs, signedNumber, answerIs}
 use Rattle.schedule.specs.declared.line.Line.{Line as Held}
 use Rattle.schedule.specs.declared.line.Parsed.the-variants.{Readable, Unreadable}
 use Rattle.schedule.specs.declared.line.ReadLine.{ReadLine}
 use Rattle.protocol.proofs.Found.{if-true, if-false}
+use Rattle.protocol.proofs.Numbered.{listOf-length, listOf-at, listOf-cong}
 use Rattle.bench.specs.declared.row.Word.the-variants as word
 use Rattle.bench.specs.declared.row.Value.the-variants as value
 use Rattle.bench.specs.declared.state.Setting.{Setting}
 use Rattle.bench.specs.declared.state.Effect.{Effect}
+use Rattle.bench.specs.declared.state.Verdict.{Verdict}
+use Rattle.bench.specs.declared.state.Verdict.the-variants.{Idle, Open}
 use Rattle.bench.specs.declared.row.Word.{Word}
 use Rattle.bench.specs.declared.row.Value.{Value}
 use Rattle.bench.specs.declared.lines.Place.{Place}
 use Rattle.bench.specs.declared.lines.Moved.{Moved}
-use Rattle.schedule.specs.Line.{Line, ended, lines, Reads, ReadAll}
+use Rattle.schedule.specs.Line.{Line, ended, lines, Reads}
 use Rattle.schedule.specs.Reading.{meant, Tells, ReadAs, LineOf}
 use Rattle.schedule.proofs.Lines.{line-ended, line-tells}
 use Rattle.bench.specs.Bench as bench
 use Rattle.bench.specs.Bench.{Seat, emptySeat, Bench, Reply, newBench, step}
-use Rattle.bench.specs.Rows.{rowText, headerText, rowsFrom, refusedRow, Printed}
+use Rattle.bench.specs.Rows.{rowText, headerText, rowsFrom, ReadAll, refusedRow, Printed}
 use Rattle.bench.specs.Writing.{wordFor, valueIs, rowOf}
-use Rattle.bench.specs.Seats.{blank, seatIs, benchOf, Sound, Full, Keeps, ReadFrom, seatOf, seatsAfter, replyIs, numberIs, changesIs, CalledAtSeat, CalledByLine, LacksNothing, Advanced, SteppedBy, wordOfAnswer, valueOfAnswer}
-use Rattle.bench.specs.Running.{rowIs, seatsIs, benchIs, BenchKept, Fulls, Started, Reading, RunSoFar, AtStart, HasRoom, RowWritten, RowPut, fullAfter, LineRun, Ran, PrintedInto}
+use Rattle.bench.specs.Seats.{blank, seatIs, termsOf, benchOf, Sound, Full, Keeps, ReadFrom, seatOf, sendersIn, seatsAfter, replyIs, changesIs, CalledAtSeat, IfIdle, Rests, CalledByLine, nextTurn, Judged, LacksNothing, Advanced, SteppedBy, wordOfAnswer, valueOfAnswer}
+use Rattle.bench.specs.Running.{rowIs, seatsIs, benchIs, BenchKept, Fulls, Turnings, Started, Reading, RunSoFar, AtStart, HasRoom, RowWritten, RowPut, fullAfter, LineRun, Ran, PrintedInto}
 use Rattle.bench.proofs.Rows.{shown}
 use Rattle.bench.proofs.Records.{full-none, full-kept}
 use Rattle.bench.proofs.States.{fit-seat, record-kept, whole-kept, no-pool}
@@ -58,7 +61,7 @@ unfolding answerIs
 shows W Taken n = (refl, refl)
 shows W (Signed i) n = (refl, refl)
 shows W (Entered v) n = (refl, refl)
-shows W (Delivered m) n = (refl, refl)
+shows W (Delivered i m) n = (refl, refl)
 shows W Left n = (refl, refl)
 shows W Quiet n = (refl, refl)
 shows W (Refused r) n = (refl, refl)
@@ -91,11 +94,11 @@ put-answer R place next who a number on R′ e f p = subst (λ t. RowPut R place
 
 seat-there : (W : List ℕ) (cs : List Controller) (Rs : List (List ℕ)) (k : ℕ) → k < 16 → getD (seatsIs W cs Rs) k emptySeat ≡ seatIs W (getD cs k blank) (getD Rs k [])
 unfolding seatsIs
-seat-there W cs Rs k l = table-at 16 (λ j. seatIs W (getD cs j blank) (getD Rs j [])) emptySeat k l
+seat-there W cs Rs k l = listOf-at 16 (λ j. seatIs W (getD cs j blank) (getD Rs j [])) k emptySeat l
 
 seats-long : (W : List ℕ) (cs : List Controller) (Rs : List (List ℕ)) → length (seatsIs W cs Rs) ≡ 16
 unfolding seatsIs
-seats-long W cs Rs = table-length 16 (λ j. seatIs W (getD cs j blank) (getD Rs j []))
+seats-long W cs Rs = listOf-length 16 (λ j. seatIs W (getD cs j blank) (getD Rs j []))
 
 -- the controllers after a line that starts none: only the one that it names may have changed
 pub record Others (cs : List Controller) (k : ℕ) (cs′ : List Controller) : Type 0 where
@@ -158,6 +161,44 @@ fulls-none Rs m e = record {
   each = λ k l. subst (Full (getD Rs k [])) (sym (getD-replicate m k 0 0 (omega arith))) (full-none (getD Rs k []));
 }
 
+-- a turn that is known to do nothing, over a pool that grew and in the place of the same controller
+idle-same : (W W′ : List ℕ) (a : Answer) → changesIs a ≡ false → answerIs W a ≡ answerIs W′ a
+unfolding answerIs
+idle-same W W′ Taken e = refl
+idle-same W W′ (Signed n) e = absurd (true≢false e)
+idle-same W W′ (Entered v) e = refl
+idle-same W W′ (Delivered i m) e = refl
+idle-same W W′ Left e = refl
+idle-same W W′ Quiet e = refl
+idle-same W W′ (Refused r) e = refl
+
+rests-as : (W W′ R R′ : List ℕ) (c d : Controller) (v : Verdict) → controllerIs d ≡ controllerIs c → recordIn W′ R′ ≡ recordIn W R → IfIdle v (Rests W R c) → IfIdle v (Rests W′ R′ d)
+rests-as W W′ R R′ c d (Idle a) e f r = record {
+  idle = r .idle;
+  turns = λ room. ap₂ (λ x X. turnOf x X room) e f ∙ r .turns room
+      ∙ ap₂ (λ b (o : controller.Outcome). record { answer = b; controller = o .controller; statements = o .statements }) (idle-same W W′ a (r .idle)) (ap₂ (λ x X. record { answer = controller.quiet; controller = x; statements = X }) (sym e) (sym f));
+}
+rests-as W W′ R R′ c d Open e f r = tt
+
+module _ (W W′ : List ℕ) (cs cs′ : List Controller) (Rs : List (List ℕ)) (vs : List Verdict) (R′ : List ℕ) (k : ℕ) (h : k < 16) (m : BenchKept W cs Rs) (g : Grows W W′) (o : Others cs k cs′) (y : Turnings W cs Rs vs) where
+  turnings-set : (v : Verdict) → IfIdle v (Rests W′ R′ (getD cs′ k blank)) → Turnings W′ cs′ (set Rs k R′) (set vs k v)
+  turnings-set v r = record {
+    long = length-set vs k v ∙ y .long;
+    each = λ i l. elim (ℕ-discrete i k) [
+      | yes e ↦ subst (λ j. IfIdle (getD (set vs k v) j Open) (Rests W′ (getD (set Rs k R′) j []) (getD cs′ j blank))) (sym e)
+          (subst (λ t. IfIdle t (Rests W′ (getD (set Rs k R′) k []) (getD cs′ k blank))) (sym (getD-set-same vs k v Open (omega (arith, y .long))))
+          (subst (λ t. IfIdle v (Rests W′ t (getD cs′ k blank))) (sym (getD-set-same Rs k R′ [] (omega (arith, m .records)))) r))
+      | no e ↦ subst (λ t. IfIdle t (Rests W′ (getD (set Rs k R′) i []) (getD cs′ i blank))) (sym (getD-set-other vs k i v Open e))
+          (rests-as W W′ (getD Rs i []) (getD (set Rs k R′) i []) (getD cs i blank) (getD cs′ i blank) (getD vs i Open) (ap controllerIs (o .same i e)) (ap (recordIn W′) (getD-set-other Rs k i R′ [] e) ∙ record-kept g (getD Rs i []) (m .whole i l)) (y .each i l))
+    ];
+  }
+
+pub turnings-none : (W : List ℕ) (cs : List Controller) (Rs : List (List ℕ)) (m : ℕ) → m ≡ 16 → Turnings W cs Rs (replicate m Open)
+turnings-none W cs Rs m e = record {
+  long = length-replicate m Open ∙ e;
+  each = λ k l. subst (λ t. IfIdle t (Rests W (getD Rs k []) (getD cs k blank))) (sym (getD-replicate m k Open Open (omega arith))) tt;
+}
+
 -- ---- a line that calls a controller
 
 -- the controller is stored where it changed
@@ -180,29 +221,33 @@ module _ (g : Setting) (W W′ : List ℕ) (cs cs′ : List Controller) (Rs : Li
       go (inl (q, z)) = ap controllerIs (sym (ap (λ u. getD u k blank) z ∙ getD-set-same cs k (o .controller) blank (omega (arith, m .long))))
       go (inr (q, z)) = a .same q ∙ ap (λ u. controllerIs (getD u k blank)) (sym z)
 
-  call-left : step (benchIs g W cs Rs) (some l) ≡ record { reply = replyIs W′ k (o .answer) (numberIs (o .answer)); bench = benchIs g W′ cs′ (set Rs k R′) }
-  call-left = a .steps (g .ready) (g .faulty) (seatsIs W cs Rs) (seat-there W cs Rs k h)
-      ∙ ap (λ X. record { reply = replyIs W′ k (o .answer) (numberIs (o .answer)); bench = benchOf (g .ready) (g .faulty) X W′ })
+  call-left : step (benchIs g W cs Rs) (some l) ≡ record { reply = replyIs W′ k (o .answer) (signedNumber (o .answer)); bench = benchIs g W′ cs′ (set Rs k R′) }
+  call-left = a .steps (g .ready) (termsOf g) (seatsIs W cs Rs) (seat-there W cs Rs k h)
+      ∙ ap (λ X. record { reply = replyIs W′ k (o .answer) (signedNumber (o .answer)); bench = benchOf (g .ready) (termsOf g) X W′ })
       (ap (λ c. set (seatsIs W cs Rs) k (record { controller = c; statements = recordIn W′ R′ })) controller-after ∙ seats-set W W′ cs cs′ Rs R′ k h m (a .grows) call-others)
+
+  -- what is known of its next turn
+  call-turnings : (vs : List Verdict) (v : Verdict) → Turnings W cs Rs vs → IfIdle v (Rests W′ R′ (o .controller)) → Turnings W′ cs′ (set Rs k R′) (set vs k v)
+  call-turnings vs v y r = turnings-set W W′ cs cs′ Rs vs R′ k h m (a .grows) call-others y v (rests-as W′ W′ R′ R′ (o .controller) (getD cs′ k blank) v (sym controller-after) refl r)
 
   call-kept : BenchKept W′ cs′ (set Rs k R′)
   call-kept = kept-set W W′ cs cs′ Rs R′ k h m (a .grows) call-others (a .sound)
 
 -- ---- a line that calls none
 
-module _ (g : Setting) (W W′ : List ℕ) (cs : List Controller) (Rs : List (List ℕ)) (R′ : List ℕ) (k : ℕ) (l : Line) (y : Reply) (n : Setting) (fresh : Bool) (h : k < 16) (m : BenchKept W cs Rs)
-    (a : Advanced W (getD Rs k []) g k l y n fresh W′ R′) where
+module _ (g : Setting) (W W′ : List ℕ) (cs : List Controller) (Rs : List (List ℕ)) (R′ : List ℕ) (k : ℕ) (l : Line) (y : Reply) (n : Setting) (fresh : Bool) (S : List ℕ) (h : k < 16) (m : BenchKept W cs Rs)
+    (a : Advanced W (getD Rs k []) g k l y n fresh W′ R′ S) where
   abbrev X₀ : List Seat
   X₀ = seatsIs W cs Rs
 
   abbrev begins : List Seat
-  begins = table controllers (λ j. record { controller = started j (n .members) (n .sender); statements = [] })
+  begins = listOf controllers (λ j. record { controller = started j (n .members) (sendersIn n S); statements = [] })
 
-  went : step (benchIs g W cs Rs) (some l) ≡ record { reply = y; bench = benchOf (n .ready) (n .faulty) (seatsAfter fresh n W′ R′ k X₀) W′ }
+  went : step (benchIs g W cs Rs) (some l) ≡ record { reply = y; bench = benchOf (n .ready) (termsOf n) (seatsAfter fresh n S W′ R′ k X₀) W′ }
   went = a .steps X₀ (ap (λ (s : Seat). s .statements) (seat-there W cs Rs k h))
 
   line-left : fresh ≡ false → step (benchIs g W cs Rs) (some l) ≡ record { reply = y; bench = benchIs n W′ cs (set Rs k R′) }
-  line-left e = went ∙ ap (λ X. record { reply = y; bench = benchOf (n .ready) (n .faulty) X W′ })
+  line-left e = went ∙ ap (λ X. record { reply = y; bench = benchOf (n .ready) (termsOf n) X W′ })
       (if-false fresh begins (set X₀ k (record { controller = getD X₀ k emptySeat .controller; statements = recordIn W′ R′ })) e
       ∙ ap (λ (s : Seat). set X₀ k (record { controller = s .controller; statements = recordIn W′ R′ })) (seat-there W cs Rs k h)
       ∙ seats-set W W′ cs cs Rs R′ k h m (a .grows e) (others-none cs k))
@@ -210,16 +255,16 @@ module _ (g : Setting) (W W′ : List ℕ) (cs : List Controller) (Rs : List (Li
   line-kept : fresh ≡ false → BenchKept W′ cs (set Rs k R′)
   line-kept e = kept-set W W′ cs cs Rs R′ k h m (a .grows e) (others-none cs k) (a .sound e)
 
-  module _ (cs″ : List Controller) (Rs″ : List (List ℕ)) (s : Started (n .members) (n .sender) cs″ Rs″) where
+  module _ (cs″ : List Controller) (Rs″ : List (List ℕ)) (s : Started (n .members) (sendersIn n S) cs″ Rs″) where
     empty-record : (j : ℕ) → j < 16 → recordIn W′ (getD Rs″ j []) ≡ []
-    unfolding recordUpTo table
-    empty-record j b = ap (λ i. table i (λ i. stmtAt W′ (getD (getD Rs″ j []) i 0))) (s .each j b .1)
+    unfolding recordUpTo listOf
+    empty-record j b = ap (λ i. listOf i (λ i. stmtAt W′ (getD (getD Rs″ j []) i 0))) (s .each j b .1)
 
     fresh-left : fresh ≡ true → step (benchIs g W cs Rs) (some l) ≡ record { reply = y; bench = benchIs n W′ cs″ Rs″ }
     unfolding seatsIs
-    fresh-left e = went ∙ ap (λ X. record { reply = y; bench = benchOf (n .ready) (n .faulty) X W′ })
+    fresh-left e = went ∙ ap (λ X. record { reply = y; bench = benchOf (n .ready) (termsOf n) X W′ })
         (if-true fresh begins (set X₀ k (record { controller = getD X₀ k emptySeat .controller; statements = recordIn W′ R′ })) e
-        ∙ table-cong 16 (λ j. record { controller = started j (n .members) (n .sender); statements = [] }) (λ j. seatIs W′ (getD cs″ j blank) (getD Rs″ j []))
+        ∙ listOf-cong 16 (λ j. record { controller = started j (n .members) (sendersIn n S); statements = [] }) (λ j. seatIs W′ (getD cs″ j blank) (getD Rs″ j []))
         (λ j b. ap₂ (λ x z. record { controller = x; statements = z }) (sym (s .each j b .0)) (sym (empty-record j b))))
 
     fresh-kept : fresh ≡ true → BenchKept W′ cs″ Rs″
@@ -234,7 +279,7 @@ module _ (g : Setting) (W W′ : List ℕ) (cs : List Controller) (Rs : List (Li
 -- ---- one line more
 
 module _ (S : List ℕ) (place on : Place) (b b′ : Bench) (R R′ R″ : List ℕ) (going : RunSoFar S place b R R′) (r : ReadLine) (of : LineOf (drop (place .at) S) r) (more : place .at < length S)
-    (this : Option Line) (is-this : Reads (take (r .next) (drop (place .at) S)) this) (reply : Reply) (left : step b this ≡ record { reply = reply; bench = b′ })
+    (this : Option Line) (is-this : Reads (b .notices) (take (r .next) (drop (place .at) S)) this) (reply : Reply) (left : step b this ≡ record { reply = reply; bench = b′ })
     (p : RowWritten R′ place (r .next) (rowText (place .n) reply) on R″) where
   abbrev row : List ℕ
   row = rowText (place .n) reply
@@ -242,11 +287,12 @@ module _ (S : List ℕ) (place on : Place) (b b′ : Bench) (R R′ R″ : List 
   some-left : 0 < length (drop (place .at) S)
   some-left = omega (arith, length-drop (place .at) S)
 
-  rest-of : (L : List (Option Line)) → ReadAll (lines (drop (on .at) S)) L → Reading S (going .printed ++ row) (rowsFrom (on .n) b′ L)
+  rest-of : (L : List (Option Line)) → ReadAll b′ (lines (drop (on .at) S)) L → Reading S (going .printed ++ row) (rowsFrom (on .n) b′ L)
   unfolding rowsFrom
   rest-of L q =
-      let q′ : ReadAll (lines (drop (r .next) (drop (place .at) S))) L = subst (λ t. ReadAll (lines t) L) (ap (λ i. drop i S) (p .at) ∙ sym (drop-drop (r .next) (place .at) S)) q in
-      let all : ReadAll (lines (drop (place .at) S)) (this ∷ L) = subst (λ t. ReadAll t (this ∷ L)) (sym (of .first some-left)) (is-this, q′) in
+      let q′ : ReadAll b′ (lines (drop (r .next) (drop (place .at) S))) L = subst (λ t. ReadAll b′ (lines t) L) (ap (λ i. drop i S) (p .at) ∙ sym (drop-drop (r .next) (place .at) S)) q in
+      let q″ : ReadAll (step b this .bench) (lines (drop (r .next) (drop (place .at) S))) L = subst (λ (t : bench.Stepped). ReadAll (t .bench) (lines (drop (r .next) (drop (place .at) S))) L) (sym left) q′ in
+      let all : ReadAll b (lines (drop (place .at) S)) (this ∷ L) = subst (λ t. ReadAll b t (this ∷ L)) (sym (of .first some-left)) (is-this, q″) in
       let whole : Reading S (going .printed) (rowsFrom (place .n) b (this ∷ L)) = going .rest (this ∷ L) all in
       record {
         reading = whole .reading;
@@ -299,8 +345,8 @@ module _ (S : List ℕ) (place : Place) (r : ReadLine) (of : LineOf (take (lengt
     pub body-long : place .at < length S → length body + 1 ≡ r .next
     body-long m = omega (arith, ap length body-is, length-take (r .next - 1) (drop (place .at) S), part-read S (place .at) r of .within, next-moves m)
 
-    line-reads : (this : Line) → Reads (ended body) (some this) → Reads (take (r .next) (drop (place .at) S)) (some this)
-    line-reads this t = subst (λ s. Reads s (some this)) (sym body-ended) t
+    line-reads : (n : ℕ) (this : Line) → Reads n (ended body) (some this) → Reads n (take (r .next) (drop (place .at) S)) (some this)
+    line-reads n this t = subst (λ s. Reads n s (some this)) (sym body-ended) t
 
     pub line-fits : ReadFrom l body
     line-fits = record { tells = subst (λ t. Tells (meant l) (ended t)) (sym body-is) (line-tells (drop (place .at) S) r (part-read S (place .at) r of) l e) }
@@ -312,29 +358,50 @@ module _ (S : List ℕ) (place : Place) (r : ReadLine) (of : LineOf (take (lengt
     room-body g s m = subst (HasRoom place) (sym (body-long m)) (room g s m)
 
     -- one that calls
-    module _ (W W′ : List ℕ) (cs cs′ : List Controller) (Rs : List (List ℕ)) (fs R′ : List ℕ) (k : ℕ) (q : k ≡ seatOf (Readable l)) (m : BenchKept W cs Rs) (w : Fulls Rs fs) (o : Outcome)
+    module _ (W W′ : List ℕ) (cs cs′ : List Controller) (Rs : List (List ℕ)) (fs : List ℕ) (vs : List Verdict) (R′ : List ℕ) (k : ℕ) (q : k ≡ seatOf (Readable l)) (m : BenchKept W cs Rs) (w : Fulls Rs fs) (y : Turnings W cs Rs vs) (o : Outcome)
         (a : CalledByLine W (getD Rs k []) (getD cs k blank) l o W′ R′) (t : Stored cs k o cs′) where
       at-seat : CalledAtSeat W (getD Rs k []) (getD cs k blank) k (a .line) o W′ R′
       at-seat = subst (λ j. CalledAtSeat W (getD Rs k []) (getD cs k blank) j (a .line) o W′ R′) (sym q) (a .called)
 
-      call-reads : Reads (ended body) (some (a .line))
+      call-reads : (n : ℕ) → Reads n (ended body) (some (a .line))
       call-reads = subst (λ u. Tells u (ended body)) (a .means) (line-fits .tells)
 
-      pub call-on : {R₀ rows rows′ : List ℕ} {on : Place} {number : ℕ} → RunSoFar S place (benchIs (place .setting) W cs Rs) R₀ rows → place .at < length S → number ≡ numberIs (o .answer)
+      pub call-on : {R₀ rows rows′ : List ℕ} {on : Place} {number : ℕ} {v : Verdict} → RunSoFar S place (benchIs (place .setting) W cs Rs) R₀ rows → place .at < length S → number ≡ signedNumber (o .answer) → v ≡ nextTurn l (o .answer)
           → RowPut rows place (r .next) (rowIs (place .n) k (o .answer) number) on rows′
-          → BenchKept W′ cs′ (set Rs k R′) × RunSoFar S on (benchIs (on .setting) W′ cs′ (set Rs k R′)) R₀ rows′ × Fulls (set Rs k R′) fs
-      call-on {R₀} {rows} {rows′} {on} {number} going more z p = (
+          → BenchKept W′ cs′ (set Rs k R′) × RunSoFar S on (benchIs (on .setting) W′ cs′ (set Rs k R′)) R₀ rows′ × Fulls (set Rs k R′) fs × Turnings W′ cs′ (set Rs k R′) (set vs k v)
+      call-on {R₀} {rows} {rows′} {on} {number} {v} going more z x p = (
         call-kept (place .setting) W W′ cs cs′ Rs R′ k (a .line) o (line-seat q) m at-seat t,
         subst (λ g. RunSoFar S on (benchIs g W′ cs′ (set Rs k R′)) R₀ rows′) (sym (p .setting))
-            (goes-on S place on (benchIs (place .setting) W cs Rs) (benchIs (place .setting) W′ cs′ (set Rs k R′)) R₀ rows rows′ going r (part-read S (place .at) r of) more (some (a .line)) (line-reads (a .line) call-reads)
-            (replyIs W′ k (o .answer) (numberIs (o .answer))) (call-left (place .setting) W W′ cs cs′ Rs R′ k (a .line) o (line-seat q) m at-seat t)
-            (passed-as (ap (rowIs (place .n) k (o .answer)) z ∙ row-is W′ (place .n) k (o .answer) (numberIs (o .answer))) (p .passed))),
+            (goes-on S place on (benchIs (place .setting) W cs Rs) (benchIs (place .setting) W′ cs′ (set Rs k R′)) R₀ rows rows′ going r (part-read S (place .at) r of) more (some (a .line)) (line-reads (termsOf (place .setting) .notices) (a .line) (call-reads (termsOf (place .setting) .notices)))
+            (replyIs W′ k (o .answer) (signedNumber (o .answer))) (call-left (place .setting) W W′ cs cs′ Rs R′ k (a .line) o (line-seat q) m at-seat t)
+            (passed-as (ap (rowIs (place .n) k (o .answer)) z ∙ row-is W′ (place .n) k (o .answer) (signedNumber (o .answer))) (p .passed))),
         fulls-kept Rs fs k (line-seat q) (m .records) w R′ (at-seat .keeps),
+        call-turnings (place .setting) W W′ cs cs′ Rs R′ k (a .line) o (line-seat q) m at-seat t vs v y (subst (λ u. IfIdle u (Rests W′ R′ (o .controller))) (sym x) (a .rests)),
       )
 
+    -- one whose call is known to change nothing
+    module _ (W : List ℕ) (cs : List Controller) (Rs : List (List ℕ)) (fs : List ℕ) (vs : List Verdict) (k : ℕ) (q : k ≡ seatOf (Readable l)) (m : BenchKept W cs Rs) (w : Fulls Rs fs) (y : Turnings W cs Rs vs)
+        (v : Verdict) (j : Judged (getD cs k blank) l (getD vs k Open) v) (x : Answer) (z : v ≡ Idle x) where
+      judged-call : CalledByLine W (getD Rs k []) (getD cs k blank) l (record { answer = x; controller = getD cs k blank }) W (getD Rs k [])
+      judged-call = subst (λ u. IfIdle u (λ r. CalledByLine W (getD Rs k []) (getD cs k blank) l (record { answer = r; controller = getD cs k blank }) W (getD Rs k []))) z
+          (j .answers W (getD Rs k []) (record { distinct = m .distinct; whole = m .whole k (line-seat q) }) (y .each k (line-seat q)))
+
+      stays-stored : Stored cs k (record { answer = x; controller = getD cs k blank }) cs
+      stays-stored = go (changesIs x) refl
+        where
+          go : (b : Bool) → changesIs x ≡ b → Stored cs k (record { answer = x; controller = getD cs k blank }) cs
+          go true e′ = inl (e′, sym (set-getD cs k blank))
+          go false e′ = inr (e′, refl)
+
+      pub judged-on : {R₀ rows rows′ : List ℕ} {on : Place} {number : ℕ} → RunSoFar S place (benchIs (place .setting) W cs Rs) R₀ rows → place .at < length S → number ≡ signedNumber x → RowPut rows place (r .next) (rowIs (place .n) k x number) on rows′
+          → BenchKept W cs Rs × RunSoFar S on (benchIs (on .setting) W cs Rs) R₀ rows′ × Fulls Rs fs × Turnings W cs Rs vs
+      judged-on {R₀} {rows} {rows′} {on} going more n p =
+          let c = call-on W W cs cs Rs fs vs (getD Rs k []) k q m w y (record { answer = x; controller = getD cs k blank }) judged-call stays-stored going more n refl p in
+          (m, subst (λ Us. RunSoFar S on (benchIs (on .setting) W cs Us) R₀ rows′) (set-getD Rs k []) (c .1), w, y)
+
     -- one that finds nothing to do
-    module _ (W : List ℕ) (cs : List Controller) (Rs : List (List ℕ)) (fs : List ℕ) (k : ℕ) (q : k ≡ seatOf (Readable l)) (m : BenchKept W cs Rs) (w : Fulls Rs fs) (idle : LacksNothing W (place .setting) (getD fs k 0) l) where
-      idle-reads : Reads (ended body) (some (idle .line))
+    module _ (W : List ℕ) (cs : List Controller) (Rs : List (List ℕ)) (fs : List ℕ) (k : ℕ) (q : k ≡ seatOf (Readable l)) (m : BenchKept W cs Rs) (w : Fulls Rs fs) {vs : List Verdict} (y : Turnings W cs Rs vs) (idle : LacksNothing W (place .setting) (getD fs k 0) l) where
+      idle-reads : (n : ℕ) → Reads n (ended body) (some (idle .line))
       idle-reads = subst (λ u. Tells u (ended body)) (idle .means) (line-fits .tells)
 
       idle-left : step (benchIs (place .setting) W cs Rs) (some (idle .line)) ≡ record { reply = record { who = seatOf (Readable l); answer = controller.taken; number = 0 }; bench = benchIs (place .setting) W cs Rs }
@@ -342,21 +409,22 @@ module _ (S : List ℕ) (place : Place) (r : ReadLine) (of : LineOf (take (lengt
           (ap (λ j. getD (seatsIs W cs Rs) j emptySeat .statements) (sym q) ∙ ap (λ (s : Seat). s .statements) (seat-there W cs Rs k (line-seat q)))
 
       pub idle-on : {R₀ rows rows′ : List ℕ} {on : Place} → RunSoFar S place (benchIs (place .setting) W cs Rs) R₀ rows → place .at < length S → RowPut rows place (r .next) (rowOf (place .n) k word.Taken (value.Number 0)) on rows′
-          → BenchKept W cs Rs × RunSoFar S on (benchIs (on .setting) W cs Rs) R₀ rows′ × Fulls Rs fs
+          → BenchKept W cs Rs × RunSoFar S on (benchIs (on .setting) W cs Rs) R₀ rows′ × Fulls Rs fs × Turnings W cs Rs vs
       idle-on {R₀} {rows} {rows′} {on} going more p = (
         m,
         subst (λ g. RunSoFar S on (benchIs g W cs Rs) R₀ rows′) (sym (p .setting))
-            (goes-on S place on (benchIs (place .setting) W cs Rs) (benchIs (place .setting) W cs Rs) R₀ rows rows′ going r (part-read S (place .at) r of) more (some (idle .line)) (line-reads (idle .line) idle-reads)
+            (goes-on S place on (benchIs (place .setting) W cs Rs) (benchIs (place .setting) W cs Rs) R₀ rows rows′ going r (part-read S (place .at) r of) more (some (idle .line)) (line-reads (termsOf (place .setting) .notices) (idle .line) (idle-reads (termsOf (place .setting) .notices)))
             (record { who = seatOf (Readable l); answer = controller.taken; number = 0 }) idle-left
             (passed-as (taken-row (place .n) k ∙ ap (λ j. rowText (place .n) (record { who = j; answer = controller.taken; number = 0 })) q) (p .passed))),
         w,
+        y,
       )
 
     -- one that calls no controller
-    module _ (W W′ : List ℕ) (cs : List Controller) (Rs : List (List ℕ)) (fs R′ : List ℕ) (k : ℕ) (q : k ≡ seatOf (Readable l)) (m : BenchKept W cs Rs) (w : Fulls Rs fs) (s : Moved) (rows rows′ : List ℕ) (more : place .at < length S)
-        (a : LineRun W (getD Rs k []) place (seatOf (Readable l)) body rows s W′ R′ rows′) where
-      run-at : Advanced W (getD Rs k []) (place .setting) k (a .line) (a .reply) (s .place .setting) (s .fresh) W′ R′
-      run-at = subst (λ j. Advanced W (getD Rs k []) (place .setting) j (a .line) (a .reply) (s .place .setting) (s .fresh) W′ R′) (sym q) (a .advanced)
+    module _ (W W′ : List ℕ) (cs : List Controller) (Rs : List (List ℕ)) (fs R′ : List ℕ) (k : ℕ) (q : k ≡ seatOf (Readable l)) (m : BenchKept W cs Rs) (w : Fulls Rs fs) {vs : List Verdict} (y : Turnings W cs Rs vs) (s : Moved) (rows rows′ senders : List ℕ) (more : place .at < length S)
+        (a : LineRun W (getD Rs k []) place (seatOf (Readable l)) body rows s W′ R′ rows′ senders) where
+      run-at : Advanced W (getD Rs k []) (place .setting) k (a .line) (a .reply) (s .place .setting) (s .fresh) W′ R′ senders
+      run-at = subst (λ j. Advanced W (getD Rs k []) (place .setting) j (a .line) (a .reply) (s .place .setting) (s .fresh) W′ R′ senders) (sym q) (a .advanced)
 
       run-passed : RowWritten rows place (r .next) (rowText (place .n) (a .reply)) (s .place) rows′
       run-passed = subst (λ n. RowWritten rows place n (rowText (place .n) (a .reply)) (s .place) rows′) (body-long more) (a .passed)
@@ -365,24 +433,26 @@ module _ (S : List ℕ) (place : Place) (r : ReadLine) (of : LineOf (take (lengt
       run-less = less more run-passed
 
       pub run-on : {R₀ : List ℕ} → s .fresh ≡ false → RunSoFar S place (benchIs (place .setting) W cs Rs) R₀ rows
-          → BenchKept W′ cs (set Rs k R′) × RunSoFar S (s .place) (benchIs (s .place .setting) W′ cs (set Rs k R′)) R₀ rows′ × Fulls (set Rs k R′) (set fs k (s .full))
+          → BenchKept W′ cs (set Rs k R′) × RunSoFar S (s .place) (benchIs (s .place .setting) W′ cs (set Rs k R′)) R₀ rows′ × Fulls (set Rs k R′) (set fs k (s .full)) × Turnings W′ cs (set Rs k R′) (set vs k Open)
       run-on {R₀} e′ going = (
-        line-kept (place .setting) W W′ cs Rs R′ k (a .line) (a .reply) (s .place .setting) (s .fresh) (line-seat q) m run-at e′,
-        goes-on S place (s .place) (benchIs (place .setting) W cs Rs) (benchIs (s .place .setting) W′ cs (set Rs k R′)) R₀ rows rows′ going r (part-read S (place .at) r of) more (some (a .line)) (line-reads (a .line) (a .reads)) (a .reply)
-            (line-left (place .setting) W W′ cs Rs R′ k (a .line) (a .reply) (s .place .setting) (s .fresh) (line-seat q) m run-at e′) run-passed,
+        line-kept (place .setting) W W′ cs Rs R′ k (a .line) (a .reply) (s .place .setting) (s .fresh) senders (line-seat q) m run-at e′,
+        goes-on S place (s .place) (benchIs (place .setting) W cs Rs) (benchIs (s .place .setting) W′ cs (set Rs k R′)) R₀ rows rows′ going r (part-read S (place .at) r of) more (some (a .line)) (line-reads (termsOf (place .setting) .notices) (a .line) (a .reads)) (a .reply)
+            (line-left (place .setting) W W′ cs Rs R′ k (a .line) (a .reply) (s .place .setting) (s .fresh) senders (line-seat q) m run-at e′) run-passed,
         fulls-set Rs fs k (line-seat q) (m .records) w R′ (s .full) (a .full-is e′),
+        turnings-set W W′ cs cs Rs vs R′ k (line-seat q) m (run-at .grows e′) (others-none cs k) y Open tt,
       )
 
-      pub run-allowed : s .fresh ≡ true → setupAllowed 0 (s .place .setting .members) (s .place .setting .sender) ≡ true
+      pub run-allowed : s .fresh ≡ true → setupAllowed 0 (s .place .setting .members) (sendersIn (s .place .setting) senders) ≡ true
       run-allowed e′ = run-at .begun e′ .1
 
-      pub run-fresh : {R₀ : List ℕ} (cs″ : List Controller) (Rs″ : List (List ℕ)) (f : ℕ) → f ≡ 16 → s .fresh ≡ true → Started (s .place .setting .members) (s .place .setting .sender) cs″ Rs″ → RunSoFar S place (benchIs (place .setting) W cs Rs) R₀ rows
-          → BenchKept W′ cs″ Rs″ × RunSoFar S (s .place) (benchIs (s .place .setting) W′ cs″ Rs″) R₀ rows′ × Fulls Rs″ (replicate f 0)
+      pub run-fresh : {R₀ : List ℕ} (cs″ : List Controller) (Rs″ : List (List ℕ)) (f : ℕ) → f ≡ 16 → s .fresh ≡ true → Started (s .place .setting .members) (sendersIn (s .place .setting) senders) cs″ Rs″ → RunSoFar S place (benchIs (place .setting) W cs Rs) R₀ rows
+          → BenchKept W′ cs″ Rs″ × RunSoFar S (s .place) (benchIs (s .place .setting) W′ cs″ Rs″) R₀ rows′ × Fulls Rs″ (replicate f 0) × Turnings W′ cs″ Rs″ (replicate f Open)
       run-fresh {R₀} cs″ Rs″ f z e′ d going = (
-        fresh-kept (place .setting) W W′ cs Rs R′ k (a .line) (a .reply) (s .place .setting) (s .fresh) (line-seat q) m run-at cs″ Rs″ d e′,
-        goes-on S place (s .place) (benchIs (place .setting) W cs Rs) (benchIs (s .place .setting) W′ cs″ Rs″) R₀ rows rows′ going r (part-read S (place .at) r of) more (some (a .line)) (line-reads (a .line) (a .reads)) (a .reply)
-            (fresh-left (place .setting) W W′ cs Rs R′ k (a .line) (a .reply) (s .place .setting) (s .fresh) (line-seat q) m run-at cs″ Rs″ d e′) run-passed,
+        fresh-kept (place .setting) W W′ cs Rs R′ k (a .line) (a .reply) (s .place .setting) (s .fresh) senders (line-seat q) m run-at cs″ Rs″ d e′,
+        goes-on S place (s .place) (benchIs (place .setting) W cs Rs) (benchIs (s .place .setting) W′ cs″ Rs″) R₀ rows rows′ going r (part-read S (place .at) r of) more (some (a .line)) (line-reads (termsOf (place .setting) .notices) (a .line) (a .reads)) (a .reply)
+            (fresh-left (place .setting) W W′ cs Rs R′ k (a .line) (a .reply) (s .place .setting) (s .fresh) senders (line-seat q) m run-at cs″ Rs″ d e′) run-passed,
         fulls-none Rs″ f z,
+        turnings-none W′ cs″ Rs″ f z,
       )
 
   -- one that does not
@@ -391,7 +461,7 @@ module _ (S : List ℕ) (place : Place) (r : ReadLine) (of : LineOf (take (lengt
   unfolding step
   unread-on e {W} {cs} {Rs} {R} {R′} {R″} {on} m going more p =
       subst (λ g. RunSoFar S on (benchIs g W cs Rs) R R″) (sym (p .setting))
-      (goes-on S place on (benchIs (place .setting) W cs Rs) (benchIs (place .setting) W cs Rs) R R′ R″ going r (part-read S (place .at) r of) more none (subst (λ t. ReadAs t (take (r .next) (drop (place .at) S))) e (part-read S (place .at) r of .reads))
+      (goes-on S place on (benchIs (place .setting) W cs Rs) (benchIs (place .setting) W cs Rs) R R′ R″ going r (part-read S (place .at) r of) more none (subst (λ t. ReadAs t (take (r .next) (drop (place .at) S))) e (part-read S (place .at) r of .reads) (termsOf (place .setting) .notices))
       (record { who = 16; answer = controller.refused controller.outOfPlace; number = 0 }) refl (passed-as (refused-row (place .n)) (p .passed)))
 
 pub going-long : {S : List ℕ} {place : Place} {b : Bench} {R R′ : List ℕ} → RunSoFar S place b R R′ → length R′ ≡ length R
@@ -410,10 +480,10 @@ module _ (W R : List ℕ) (place : Place) (l : Held) (T : List ℕ) (full : ℕ)
   full-after R′ n true k h = h refl
   full-after R′ n false k h = full-kept R R′ k full f
 
-  pub run-stepped : {W′ R′ : List ℕ} {st : Effect} {on : Place} {rows′ : List ℕ} {known : ℕ} → SteppedBy W R (place .setting) (seatOf (Readable l)) T st W′ R′ → RowPut rows place (length T + 1) (rowIs (place .n) (st .who) (st .answer) (st .number)) on rows′
+  pub run-stepped : {W′ R′ : List ℕ} {st : Effect} {on : Place} {rows′ : List ℕ} {known : ℕ} {S : List ℕ} → SteppedBy W R (place .setting) (seatOf (Readable l)) T st W′ R′ S → RowPut rows place (length T + 1) (rowIs (place .n) (st .who) (st .answer) (st .number)) on rows′
       → known ≡ fullAfter (st .whole) (poolLen W′) full
-      → LineRun W R place (seatOf (Readable l)) T rows (record { place = record { setting = st .setting; at = on .at; n = on .n; out = on .out }; fresh = st .fresh; full = known }) W′ R′ rows′
-  run-stepped {W′} {R′} {st} {on} {rows′} {known} a p z = record {
+      → LineRun W R place (seatOf (Readable l)) T rows (record { place = record { setting = st .setting; at = on .at; n = on .n; out = on .out }; fresh = st .fresh; full = known }) W′ R′ rows′ S
+  run-stepped {W′} {R′} {st} {on} {rows′} {known} {S} a p z = record {
     line = a .line;
     reads = a .reads;
     reply = replyIs W′ (st .who) (st .answer) (st .number);
@@ -430,7 +500,7 @@ going-end {S} {place} {b} {R} {R′} g e l = record {
   printed = g .printed;
   wrote = g .wrote;
   small = omega (arith, g .small, g .within);
-  ran = g .rest [] (subst (λ t. ReadAll (lines t) []) (sym (drop-of-length-le S e)) tt);
+  ran = g .rest [] (subst (λ t. ReadAll b (lines t) []) (sym (drop-of-length-le S e)) tt);
 }
 
 zero-at : (n i : ℕ) → _≡_ {A = ℕ} (getD (replicate n 0) i 0) 0
@@ -458,8 +528,8 @@ module _ (c : Controller) (fresh : controllerIs c ≡ controller.notSetUp) (m n 
   controller-is k l = getD-replicate m k c blank (omega arith)
 
   no-record : recordIn W₀ R₀ ≡ []
-  unfolding recordUpTo table
-  no-record = ap (λ i. table i (λ i. stmtAt W₀ (getD R₀ i 0))) empty-length
+  unfolding recordUpTo listOf
+  no-record = ap (λ i. listOf i (λ i. stmtAt W₀ (getD R₀ i 0))) empty-length
 
   no-numbers : AllIn W₀ R₀
   unfolding AllIn
@@ -473,10 +543,10 @@ module _ (c : Controller) (fresh : controllerIs c ≡ controller.notSetUp) (m n 
     whole = λ k l. subst (AllIn W₀) (sym (record-is k l)) no-numbers;
   }
 
-  bench-first : benchOf false 0 (seatsIs W₀ (replicate m c) (replicate m R₀)) W₀ ≡ newBench
+  bench-first : benchOf false (record { faulty = 0; notices = 1 }) (seatsIs W₀ (replicate m c) (replicate m R₀)) W₀ ≡ newBench
   unfolding seatsIs
-  bench-first = ap₂ (λ X P. record { isSetUp = false; faulty = 0; seats = X; pool = P })
-      (table-cong 16 (λ k. seatIs W₀ (getD (replicate m c) k blank) (getD (replicate m R₀) k [])) (λ k. emptySeat)
+  bench-first = ap₂ (λ X P. record { isSetUp = false; faulty = 0; notices = 1; seats = X; pool = P })
+      (listOf-cong 16 (λ k. seatIs W₀ (getD (replicate m c) k blank) (getD (replicate m R₀) k [])) (λ k. emptySeat)
       (λ k l. ap₂ (λ x y. record { controller = controllerIs x; statements = recordIn W₀ y }) (controller-is k l) (record-is k l) ∙ ap₂ (λ x y. record { controller = x; statements = y }) fresh no-record))
       (sym (no-pool W₀ empty-pool))
 
@@ -489,17 +559,23 @@ module _ (c : Controller) (fresh : controllerIs c ≡ controller.notSetUp) (m n 
     within = omega (arith, b .at);
     rest = λ L q. record {
       reading = L;
-      reads = subst (λ i. ReadAll (lines (drop i S)) L) (b .at) q;
-      rows = ap₂ (λ n t. rowsFrom n t L) (sym (b .number)) (sym (ap₂ (λ x y. benchOf x y (seatsIs W₀ (replicate m c) (replicate m R₀)) W₀) (b .ready) (b .faulty) ∙ bench-first));
+      reads = subst (λ i. ReadAll newBench (lines (drop i S)) L) (b .at) (subst (λ t. ReadAll t (lines (drop (place .at) S)) L) first-is q);
+      rows = ap₂ (λ n t. rowsFrom n t L) (sym (b .number)) (sym first-is);
     };
   }
+    where
+      terms-are : termsOf (place .setting) ≡ record { faulty = 0; notices = 1 }
+      terms-are = ap₂ (λ x y. record { faulty = x; notices = min y 64 }) (b .faulty) (b .notices)
+
+      first-is : benchIs (place .setting) W₀ (replicate m c) (replicate m R₀) ≡ newBench
+      first-is = ap₂ (λ x y. benchOf x y (seatsIs W₀ (replicate m c) (replicate m R₀)) W₀) (b .ready) terms-are ∙ bench-first
 
 -- ---- the header and what stands after it
 
 headed : (S R R′ R″ xs : List ℕ) (r : ℕ) → Printed S (headerText ++ xs) → R′ ≡ sets R 0 headerText → Wrote R′ 22 xs r R″ → length xs ≤ 2621440 → PrintedInto S R r R″
 headed S R R′ R″ xs r p e w m = record { text = headerText ++ xs; printed = p; wrote = both {s = headerText} (record { next = refl; is = e }) w; small = omega (arith, length-append headerText xs) }
 
-empty-reads : (S : List ℕ) → length S ≡ 0 → ReadAll (lines S) []
+empty-reads : (S : List ℕ) → length S ≡ 0 → ReadAll newBench (lines S) []
 unfolding lines
 empty-reads [] e = tt
 empty-reads (x ∷ S) e = absurd (omega arith)

@@ -11,15 +11,16 @@ use lib.Dec.{T, eqb, leb, ltb}
 use lib.ListN.{length, getD, set, length-append, List·getD-append}
 use lib.Seq.{set-getD}
 use borrow.Author.Tests.{eq-eqb, ne-eqb, lt-ltb, le-ltb, le-leb, lt-leb}
-use Rattle.protocol.specs.Lists.{if_then_else_, any, filter}
+use Rattle.protocol.specs.Lists.{if_then_else_, any, filter, listOf}
 use Rattle.protocol.specs.Statement.{Stmt, sameStmt, noStmt}
 use Rattle.protocol.specs.Controller as controller
 use Rattle.protocol.specs.Call.{requestJoin, requestLeave, requestSend}
 use Rattle.protocol.specs.Pool.{numberOf, pooled, hasRoom}
 use Rattle.protocol.specs.Turn.{turn as turnOf}
+use Rattle.protocol.proofs.Numbered.{listOf-at}
 use Rattle.protocol.proofs.Asked.{says-same-stmt}
-use Rattle.views.specs.Table.{table}
-use Rattle.views.proofs.Tables.{table-at, any-zero, any-suc, any-at, map-table}
+use Rattle.protocol.proofs.Unchanged.{Idle, Stays, join-stays, leave-stays, send-stays, turn-stays}
+use Rattle.views.proofs.Tables.{any-zero, any-suc, any-at, map-listOf}
 use Rattle.views.proofs.Views.{passes}
 use Rattle.pool.specs.Pool.{stmtAt, poolLen, recordUpTo, recordLen, recordIn, poolOf, AllIn, Grows}
 use Rattle.pool.specs.Changes.{PushedTo}
@@ -29,7 +30,7 @@ use Rattle.engine.specs.declared.Refusal.{Refusal}
 use Rattle.engine.specs.declared.Refusal.the-variants as refusal
 use Rattle.engine.specs.declared.Answer.{Answer}
 use Rattle.engine.specs.declared.Answer.the-variants.{Taken, Signed, Entered, Delivered, Left, Quiet, Refused}
-use Rattle.engine.specs.Meaning.{controllerIs, answerIs, refusalIs}
+use Rattle.engine.specs.Meaning.{controllerIs, signedNumber, answerIs, refusalIs}
 use Rattle.engine.specs.Promise.{Change, unchanged, Meets, Calls, Turns, PoolAfter, NumbersAfter, signedOf}
 use Rattle.schedule.specs.Line.{Line, join, leave, send, give, all, turn}
 use Rattle.schedule.specs.declared.line.Line.{Line as Held}
@@ -38,13 +39,13 @@ use Rattle.pool.proofs.Records.{pool-length, record-length}
 use Rattle.bench.specs.declared.seat.Given.{Given}
 use Rattle.bench.specs.Bench as bench
 use Rattle.bench.specs.Bench.{Seat, emptySeat, Bench, Stepped, step}
-use Rattle.bench.specs.Seats.{seatIs, benchOf, Distinct, Sound, numbersIn, hasNumber, Full, Keeps, Marks, unmarked, RecordFilled, refusedFor, takenAs, GivenAtSeat, Gives, GivesAll, numberIs, changesIs, CalledAtSeat, CalledByLine}
-use Rattle.bench.proofs.Unchanged.{Idle, idle-answer, Stays, Unsigned, join-stays, leave-stays, send-stays, turn-stays, join-unsigned, leave-unsigned, send-unsigned}
+use Rattle.bench.specs.Seats.{seatIs, Terms, benchOf, Distinct, Sound, numbersIn, hasNumber, Full, Keeps, NumberMarks, unmarked, RecordFilled, refusedFor, takenAs, GivenAtSeat, Gives, GivesAll, changesIs, CalledAtSeat, IfIdle, Rests, turnAfter, CalledByLine}
+use Rattle.bench.proofs.Unchanged.{idle-answer, Unsigned, join-unsigned, leave-unsigned, send-unsigned, Resting, turn-rests}
 use Rattle.bench.proofs.Records.{ids, keeps-same, keeps-pushed, below-pushed, within-pool, pool-within, pool-most, keeps-filled, full-filled, filter-append, filter-one, numbers-pushed}
 
 -- ---- a statement is in a record just where its number is
 
-any-alike : {A B : Type 0} (p : A → Bool) (q : B → Bool) (f : ℕ → A) (g : ℕ → B) (m : ℕ) → ((i : ℕ) → i < m → p (f i) ≡ q (g i)) → any p (table m f) ≡ any q (table m g)
+any-alike : {A B : Type 0} (p : A → Bool) (q : B → Bool) (f : ℕ → A) (g : ℕ → B) (m : ℕ) → ((i : ℕ) → i < m → p (f i) ≡ q (g i)) → any p (listOf m f) ≡ any q (listOf m g)
 any-alike p q f g zero h = any-zero p f ∙ sym (any-zero q g)
 any-alike p q f g (suc m) h = any-suc p f m ∙ ap₂ _||_ (any-alike p q f g m (λ i l. h i (omega arith))) (h m (omega arith)) ∙ sym (any-suc q g m)
 
@@ -55,19 +56,19 @@ module _ (W : List ℕ) (d : Distinct W) (R : List ℕ) (w : AllIn W R) where
 
 by-numbers : (W R : List ℕ) → recordIn W R ≡ map (stmtAt W) (numbersIn R)
 unfolding recordUpTo numbersIn
-by-numbers W R = sym (map-table (stmtAt W) (recordLen R) (ids R))
+by-numbers W R = sym (map-listOf (stmtAt W) (recordLen R) (ids R))
 
 record-more : (W R R′ L : List ℕ) → numbersIn R′ ≡ numbersIn R ++ L → recordIn W R′ ≡ recordIn W R ++ map (stmtAt W) L
 record-more W R R′ L e = by-numbers W R′ ∙ ap (map (stmtAt W)) e ∙ map-append (stmtAt W) (numbersIn R) L ∙ ap (λ t. t ++ map (stmtAt W) L) (sym (by-numbers W R))
 
 -- what passes a test, by number
-filter-numbers : {A : Type 0} (p : A → Bool) (q : ℕ → Bool) (f : ℕ → A) (n : ℕ) → ((i : ℕ) → i < n → p (f i) ≡ q i) → filter p (table n f) ≡ map f (filter q (table n (λ i. i)))
-unfolding table filter
+filter-numbers : {A : Type 0} (p : A → Bool) (q : ℕ → Bool) (f : ℕ → A) (n : ℕ) → ((i : ℕ) → i < n → p (f i) ≡ q i) → filter p (listOf n f) ≡ map f (filter q (listOf n (λ i. i)))
+unfolding listOf filter
 filter-numbers p q f zero h = refl
 filter-numbers {A} p q f (suc n) h =
-    filter-append p (table n f) (f n ∷ [])
+    filter-append p (listOf n f) (f n ∷ [])
     ∙ ap₂ _++_ (filter-numbers p q f n (λ i l. h i (omega arith))) (filter-one p (f n) (q n) (h n (omega arith)) ∙ go (q n))
-    ∙ sym (ap (map f) (filter-append q (table n (λ i. i)) (n ∷ []) ∙ ap (λ t. filter q (table n (λ i. i)) ++ t) (filter-one q n (q n) refl)) ∙ map-append f (filter q (table n (λ i. i))) (if q n then n ∷ [] else []))
+    ∙ sym (ap (map f) (filter-append q (listOf n (λ i. i)) (n ∷ []) ∙ ap (λ t. filter q (listOf n (λ i. i)) ++ t) (filter-one q n (q n) refl)) ∙ map-append f (filter q (listOf n (λ i. i))) (if q n then n ∷ [] else []))
   where
     go : (b : Bool) → _≡_ {A = List A} (if b then f n ∷ [] else []) (map f (if b then n ∷ [] else []))
     go true = refl
@@ -81,14 +82,14 @@ length-map f (x ∷ l) = ap suc (length-map f l)
 
 pool-at : (W : List ℕ) (n : ℕ) → n < poolLen W → getD (poolOf W) n noStmt ≡ stmtAt W n
 unfolding poolOf
-pool-at W n l = table-at (poolLen W) (stmtAt W) noStmt n l
+pool-at W n l = listOf-at (poolLen W) (stmtAt W) n noStmt l
 
 -- ---- the ways in which a line on one record ends
 
-replied : (k : ℕ) (ready : Bool) (faulty : ℕ) {a a′ : controller.Answer} {n n′ : ℕ} {X X′ : List Seat} {P P′ : List Stmt} → a ≡ a′ → n ≡ n′ → X ≡ X′ → P ≡ P′
-    → _≡_ {A = Stepped} (record { reply = record { who = k; answer = a; number = n }; bench = record { isSetUp = ready; faulty = faulty; seats = X; pool = P } })
-    (record { reply = record { who = k; answer = a′; number = n′ }; bench = record { isSetUp = ready; faulty = faulty; seats = X′; pool = P′ } })
-replied k ready faulty e f g h = cc
+replied : (k : ℕ) (ready : Bool) (terms : Terms) {a a′ : controller.Answer} {n n′ : ℕ} {X X′ : List Seat} {P P′ : List Stmt} → a ≡ a′ → n ≡ n′ → X ≡ X′ → P ≡ P′
+    → _≡_ {A = Stepped} (record { reply = record { who = k; answer = a; number = n }; bench = record { isSetUp = ready; faulty = terms .faulty; notices = terms .notices; seats = X; pool = P } })
+    (record { reply = record { who = k; answer = a′; number = n′ }; bench = record { isSetUp = ready; faulty = terms .faulty; notices = terms .notices; seats = X′; pool = P′ } })
+replied k ready terms e f g h = cc
 
 pub grows-same : (W : List ℕ) → Grows W W
 grows-same W = record { more = omega arith; same = λ n l. refl }
@@ -99,20 +100,20 @@ seat-same X k e = ap (λ t. set X k (record { controller = getD X k emptySeat .c
 
 module _ (W R : List ℕ) (ready : Bool) (k : ℕ) (l : Line) (r : Given) where
   seat-refused : (q : Refusal) → r ≡ refusedFor q → AllIn W R
-      → ((faulty : ℕ) (X : List Seat) → getD X k emptySeat .statements ≡ recordIn W R → step (benchOf ready faulty X W) (some l) ≡ bench.refuseLine (benchOf ready faulty X W) k (refusalIs q))
+      → ((terms : Terms) (X : List Seat) → getD X k emptySeat .statements ≡ recordIn W R → step (benchOf ready terms X W) (some l) ≡ bench.refuseLine (benchOf ready terms X W) k (refusalIs q))
       → GivenAtSeat W R ready k l r R
   unfolding answerIs
   seat-refused q e w h = subst (λ t. GivenAtSeat W R ready k l t R) (sym e) (record {
-    steps = λ faulty X x. h faulty X x ∙ replied k ready faulty refl refl (sym (seat-same X k x)) refl;
+    steps = λ terms X x. h terms X x ∙ replied k ready terms refl refl (sym (seat-same X k x)) refl;
     whole = w;
     keeps = keeps-same R;
     full = λ t. absurd (true≢false (sym t));
   })
 
   seat-taken : (n : ℕ) (b : Bool) (R′ : List ℕ) → r ≡ takenAs n b → AllIn W R′ → Keeps R R′ → (b ≡ true → Full R′ (poolLen W))
-      → ((faulty : ℕ) (X : List Seat) → getD X k emptySeat .statements ≡ recordIn W R
-      → step (benchOf ready faulty X W) (some l)
-      ≡ record { reply = record { who = k; answer = controller.taken; number = n }; bench = benchOf ready faulty (set X k (record { controller = getD X k emptySeat .controller; statements = recordIn W R′ })) W })
+      → ((terms : Terms) (X : List Seat) → getD X k emptySeat .statements ≡ recordIn W R
+      → step (benchOf ready terms X W) (some l)
+      ≡ record { reply = record { who = k; answer = controller.taken; number = n }; bench = benchOf ready terms (set X k (record { controller = getD X k emptySeat .controller; statements = recordIn W R′ })) W })
       → GivenAtSeat W R ready k l r R′
   unfolding answerIs
   seat-taken n b R′ e w p f h = subst (λ t. GivenAtSeat W R ready k l t R′) (sym e) (record { steps = h; whole = w; keeps = p; full = f })
@@ -142,18 +143,18 @@ module _ (W R : List ℕ) (ready : Bool) (n : ℕ) (r : Given) (s : Sound W R) w
 
   pub give-unready : r ≡ refusedFor refusal.OutOfPlace → ready ≡ false → Gives W R ready n r R
   give-unready e q = record {
-    to = λ k. seat-refused W R ready k (give k n) r refusal.OutOfPlace e (s .whole) (λ faulty X x.
-        give-is (benchOf ready faulty X W) k n X₀ x ∙ ap (λ t. gift (benchOf ready faulty X W) k X₀ t (leb (length (poolOf W)) n) (any (sameStmt x₀) X₀) (leb 512 (length X₀)) x₀) q);
+    to = λ k. seat-refused W R ready k (give k n) r refusal.OutOfPlace e (s .whole) (λ terms X x.
+        give-is (benchOf ready terms X W) k n X₀ x ∙ ap (λ t. gift (benchOf ready terms X W) k X₀ t (leb (length (poolOf W)) n) (any (sameStmt x₀) X₀) (leb 512 (length X₀)) x₀) q);
   }
 
   module _ (q : ready ≡ true) where
-    opened : (k faulty : ℕ) (X : List Seat) → getD X k emptySeat .statements ≡ X₀ → {u a f : Bool} → leb (length (poolOf W)) n ≡ u → any (sameStmt x₀) X₀ ≡ a → leb 512 (length X₀) ≡ f
-        → step (benchOf ready faulty X W) (some (give k n)) ≡ gift (benchOf ready faulty X W) k X₀ true u a f x₀
-    opened k faulty X x {u} {a} {f} eu ea ef = give-is (benchOf ready faulty X W) k n X₀ x
-        ∙ ap (λ t. gift (benchOf ready faulty X W) k X₀ t (leb (length (poolOf W)) n) (any (sameStmt x₀) X₀) (leb 512 (length X₀)) x₀) q
-        ∙ ap (λ t. gift (benchOf ready faulty X W) k X₀ true t (any (sameStmt x₀) X₀) (leb 512 (length X₀)) x₀) eu
-        ∙ ap (λ t. gift (benchOf ready faulty X W) k X₀ true u t (leb 512 (length X₀)) x₀) ea
-        ∙ ap (λ t. gift (benchOf ready faulty X W) k X₀ true u a t x₀) ef
+    opened : (k : ℕ) (terms : Terms) (X : List Seat) → getD X k emptySeat .statements ≡ X₀ → {u a f : Bool} → leb (length (poolOf W)) n ≡ u → any (sameStmt x₀) X₀ ≡ a → leb 512 (length X₀) ≡ f
+        → step (benchOf ready terms X W) (some (give k n)) ≡ gift (benchOf ready terms X W) k X₀ true u a f x₀
+    opened k terms X x {u} {a} {f} eu ea ef = give-is (benchOf ready terms X W) k n X₀ x
+        ∙ ap (λ t. gift (benchOf ready terms X W) k X₀ t (leb (length (poolOf W)) n) (any (sameStmt x₀) X₀) (leb 512 (length X₀)) x₀) q
+        ∙ ap (λ t. gift (benchOf ready terms X W) k X₀ true t (any (sameStmt x₀) X₀) (leb 512 (length X₀)) x₀) eu
+        ∙ ap (λ t. gift (benchOf ready terms X W) k X₀ true u t (leb 512 (length X₀)) x₀) ea
+        ∙ ap (λ t. gift (benchOf ready terms X W) k X₀ true u a t x₀) ef
 
     known : n < poolLen W → leb (length (poolOf W)) n ≡ false
     known l = lt-leb (length (poolOf W)) n (omega (arith, pool-length W))
@@ -162,19 +163,19 @@ module _ (W R : List ℕ) (ready : Bool) (n : ℕ) (r : Given) (s : Sound W R) w
     in-record b l e = ap (λ x. any (sameStmt x) X₀) (pool-at W n l) ∙ by-number W (s .distinct) R (s .whole) n l ∙ e
 
     pub give-unknown : r ≡ refusedFor refusal.OutOfPlace → poolLen W ≤ n → Gives W R ready n r R
-    give-unknown e l = record { to = λ k. seat-refused W R ready k (give k n) r refusal.OutOfPlace e (s .whole) (λ faulty X x. opened k faulty X x (le-leb (length (poolOf W)) n (omega (arith, pool-length W))) refl refl) }
+    give-unknown e l = record { to = λ k. seat-refused W R ready k (give k n) r refusal.OutOfPlace e (s .whole) (λ terms X x. opened k terms X x (le-leb (length (poolOf W)) n (omega (arith, pool-length W))) refl refl) }
 
     pub give-again : r ≡ refusedFor refusal.Repeated → n < poolLen W → hasNumber R n ≡ true → Gives W R ready n r R
-    give-again e l h = record { to = λ k. seat-refused W R ready k (give k n) r refusal.Repeated e (s .whole) (λ faulty X x. opened k faulty X x (known l) (in-record true l h) refl) }
+    give-again e l h = record { to = λ k. seat-refused W R ready k (give k n) r refusal.Repeated e (s .whole) (λ terms X x. opened k terms X x (known l) (in-record true l h) refl) }
 
     pub give-full : r ≡ refusedFor refusal.Full → n < poolLen W → hasNumber R n ≡ false → 512 ≤ recordLen R → Gives W R ready n r R
-    give-full e l h f = record { to = λ k. seat-refused W R ready k (give k n) r refusal.Full e (s .whole) (λ faulty X x. opened k faulty X x (known l) (in-record false l h) (le-leb 512 (length X₀) (omega (arith, record-length W R)))) }
+    give-full e l h f = record { to = λ k. seat-refused W R ready k (give k n) r refusal.Full e (s .whole) (λ terms X x. opened k terms X x (known l) (in-record false l h) (le-leb 512 (length X₀) (omega (arith, record-length W R)))) }
 
     pub give-taken : (R′ : List ℕ) → r ≡ takenAs 0 false → n < poolLen W → hasNumber R n ≡ false → recordLen R < 512 → PushedTo R n R′ → Gives W R ready n r R′
     give-taken R′ e l h f p = record {
       to = λ k. seat-taken W R ready k (give k n) r 0 false R′ e (pool-within W R′ (below-pushed R R′ n (poolLen W) p l (within-pool W R (s .whole)))) (keeps-pushed R R′ n p) (λ t. absurd (true≢false (sym t)))
-          (λ faulty X x. opened k faulty X x (known l) (in-record false l h) (lt-leb 512 (length X₀) (omega (arith, record-length W R)))
-          ∙ replied k ready faulty refl refl (ap (λ t. set X k (record { controller = getD X k emptySeat .controller; statements = t }))
+          (λ terms X x. opened k terms X x (known l) (in-record false l h) (lt-leb 512 (length X₀) (omega (arith, record-length W R)))
+          ∙ replied k ready terms refl refl (ap (λ t. set X k (record { controller = getD X k emptySeat .controller; statements = t }))
           (ap (λ t. X₀ ++ (t ∷ [])) (pool-at W n l) ∙ sym (record-more W R R′ (n ∷ []) (numbers-pushed R R′ n p f)))) refl);
     }
 
@@ -199,55 +200,55 @@ module _ (W R : List ℕ) (ready : Bool) (r : Given) (s : Sound W R) where
 
   pub all-unready : r ≡ refusedFor refusal.OutOfPlace → ready ≡ false → GivesAll W R ready r R
   all-unready e q = record {
-    to = λ k. seat-refused W R ready k (all k) r refusal.OutOfPlace e (s .whole) (λ faulty X x.
-        all-is (benchOf ready faulty X W) k Y₀ x ∙ ap (λ t. spread (benchOf ready faulty X W) k Y₀ t (ltb 512 (length Y₀ + length (lack (poolOf W) Y₀))) (lack (poolOf W) Y₀)) q);
+    to = λ k. seat-refused W R ready k (all k) r refusal.OutOfPlace e (s .whole) (λ terms X x.
+        all-is (benchOf ready terms X W) k Y₀ x ∙ ap (λ t. spread (benchOf ready terms X W) k Y₀ t (ltb 512 (length Y₀ + length (lack (poolOf W) Y₀))) (lack (poolOf W) Y₀)) q);
   }
 
   -- the numbers that have no mark are those of the statements that the record lacks
-  module _ (q : ready ≡ true) (n : ℕ) (z : n ≡ poolLen W) (marks : List Bool) (t : Marks R marks) where
+  module _ (q : ready ≡ true) (n : ℕ) (z : n ≡ poolLen W) (marks : List Bool) (t : NumberMarks R marks) where
     lack-is : lack (poolOf W) Y₀ ≡ map (stmtAt W) (unmarked marks n)
     unfolding poolOf unmarked
     lack-is = filter-numbers (λ x. not (any (sameStmt x) Y₀)) (λ i. not (getD marks i false)) (stmtAt W) (poolLen W)
         (λ i l. ap not (by-number W (s .distinct) R (s .whole) i l ∙ sym (t .tells i (omega (arith, pool-most W)))))
-        ∙ ap (λ m. map (stmtAt W) (filter (λ i. not (getD marks i false)) (table m (λ i. i)))) (sym z)
+        ∙ ap (λ m. map (stmtAt W) (filter (λ i. not (getD marks i false)) (listOf m (λ i. i)))) (sym z)
 
     lack-long : length (lack (poolOf W) Y₀) ≡ length (unmarked marks n)
     lack-long = ap length lack-is ∙ length-map (stmtAt W) (unmarked marks n)
 
-    spreads : (k faulty : ℕ) (X : List Seat) → getD X k emptySeat .statements ≡ Y₀ → {o : Bool} → ltb 512 (recordLen R + length (unmarked marks n)) ≡ o
-        → step (benchOf ready faulty X W) (some (all k)) ≡ spread (benchOf ready faulty X W) k Y₀ true o (lack (poolOf W) Y₀)
-    spreads k faulty X x {o} eo = all-is (benchOf ready faulty X W) k Y₀ x
-        ∙ ap (λ u. spread (benchOf ready faulty X W) k Y₀ u (ltb 512 (length Y₀ + length (lack (poolOf W) Y₀))) (lack (poolOf W) Y₀)) q
-        ∙ ap (λ u. spread (benchOf ready faulty X W) k Y₀ true u (lack (poolOf W) Y₀)) (ap₂ (λ i j. ltb 512 (i + j)) (record-length W R) lack-long ∙ eo)
+    spreads : (k : ℕ) (terms : Terms) (X : List Seat) → getD X k emptySeat .statements ≡ Y₀ → {o : Bool} → ltb 512 (recordLen R + length (unmarked marks n)) ≡ o
+        → step (benchOf ready terms X W) (some (all k)) ≡ spread (benchOf ready terms X W) k Y₀ true o (lack (poolOf W) Y₀)
+    spreads k terms X x {o} eo = all-is (benchOf ready terms X W) k Y₀ x
+        ∙ ap (λ u. spread (benchOf ready terms X W) k Y₀ u (ltb 512 (length Y₀ + length (lack (poolOf W) Y₀))) (lack (poolOf W) Y₀)) q
+        ∙ ap (λ u. spread (benchOf ready terms X W) k Y₀ true u (lack (poolOf W) Y₀)) (ap₂ (λ i j. ltb 512 (i + j)) (record-length W R) lack-long ∙ eo)
 
     pub all-full : r ≡ refusedFor refusal.Full → 512 < recordLen R + length (unmarked marks n) → GivesAll W R ready r R
-    all-full e l = record { to = λ k. seat-refused W R ready k (all k) r refusal.Full e (s .whole) (λ faulty X x. spreads k faulty X x (lt-ltb 512 (recordLen R + length (unmarked marks n)) l)) }
+    all-full e l = record { to = λ k. seat-refused W R ready k (all k) r refusal.Full e (s .whole) (λ terms X x. spreads k terms X x (lt-ltb 512 (recordLen R + length (unmarked marks n)) l)) }
 
     pub all-taken : (R′ : List ℕ) (m : ℕ) → m ≡ length (unmarked marks n) → r ≡ takenAs m true → RecordFilled R marks n R′ → recordLen R + length (unmarked marks n) ≤ 512 → GivesAll W R ready r R′
     all-taken R′ m c e f l = record {
       to = λ k. seat-taken W R ready k (all k) r m true R′ e (pool-within W R′ (f .below (poolLen W) (omega arith) (within-pool W R (s .whole)))) (keeps-filled marks R R′ n t f l)
           (λ h. subst (Full R′) z (full-filled marks R R′ n t f l (omega (arith, pool-most W))))
-          (λ faulty X x. spreads k faulty X x (le-ltb 512 (recordLen R + length (unmarked marks n)) l)
-          ∙ replied k ready faulty refl (lack-long ∙ sym c) (ap (λ u. set X k (record { controller = getD X k emptySeat .controller; statements = u })) (ap (λ u. Y₀ ++ u) lack-is ∙ sym (record-more W R R′ (unmarked marks n) (f .numbers l)))) refl);
+          (λ terms X x. spreads k terms X x (le-ltb 512 (recordLen R + length (unmarked marks n)) l)
+          ∙ replied k ready terms refl (lack-long ∙ sym c) (ap (λ u. set X k (record { controller = getD X k emptySeat .controller; statements = u })) (ap (λ u. Y₀ ++ u) lack-is ∙ sym (record-more W R R′ (unmarked marks n) (f .numbers l)))) refl);
     }
 
 -- a record that has every number lacks nothing
 module _ (W R : List ℕ) (ready : Bool) (s : Sound W R) (q : ready ≡ true) (f : Full R (poolLen W)) where
-  nothing : (n : ℕ) → n ≤ poolLen W → filter (λ x. not (any (sameStmt x) (recordIn W R))) (table n (stmtAt W)) ≡ []
-  unfolding table filter Full
+  nothing : (n : ℕ) → n ≤ poolLen W → filter (λ x. not (any (sameStmt x) (recordIn W R))) (listOf n (stmtAt W)) ≡ []
+  unfolding listOf filter Full
   nothing zero l = refl
   nothing (suc n) l =
-      filter-append (λ x. not (any (sameStmt x) (recordIn W R))) (table n (stmtAt W)) (stmtAt W n ∷ [])
+      filter-append (λ x. not (any (sameStmt x) (recordIn W R))) (listOf n (stmtAt W)) (stmtAt W n ∷ [])
       ∙ ap₂ _++_ (nothing n (omega arith)) (filter-one (λ x. not (any (sameStmt x) (recordIn W R))) (stmtAt W n) false (ap not (by-number W (s .distinct) R (s .whole) n (omega arith) ∙ f n (omega arith))))
 
-  pub all-needless : (k faulty : ℕ) (X : List Seat) → getD X k emptySeat .statements ≡ recordIn W R
-      → step (benchOf ready faulty X W) (some (all k)) ≡ record { reply = record { who = k; answer = controller.taken; number = 0 }; bench = benchOf ready faulty X W }
+  pub all-needless : (k : ℕ) (terms : Terms) (X : List Seat) → getD X k emptySeat .statements ≡ recordIn W R
+      → step (benchOf ready terms X W) (some (all k)) ≡ record { reply = record { who = k; answer = controller.taken; number = 0 }; bench = benchOf ready terms X W }
   unfolding poolOf
-  all-needless k faulty X x = all-is (benchOf ready faulty X W) k (recordIn W R) x
-      ∙ ap (λ u. spread (benchOf ready faulty X W) k (recordIn W R) u (ltb 512 (length (recordIn W R) + length (lack (poolOf W) (recordIn W R)))) (lack (poolOf W) (recordIn W R))) q
-      ∙ ap (λ u. spread (benchOf ready faulty X W) k (recordIn W R) true (ltb 512 (length (recordIn W R) + length u)) u) (nothing (poolLen W) (omega arith))
-      ∙ ap (λ u. spread (benchOf ready faulty X W) k (recordIn W R) true u []) (le-ltb 512 (length (recordIn W R) + 0) (omega (arith, record-length W R)))
-      ∙ replied k ready faulty refl refl (seat-same X k (x ∙ sym (append-nil (recordIn W R)))) refl
+  all-needless k terms X x = all-is (benchOf ready terms X W) k (recordIn W R) x
+      ∙ ap (λ u. spread (benchOf ready terms X W) k (recordIn W R) u (ltb 512 (length (recordIn W R) + length (lack (poolOf W) (recordIn W R)))) (lack (poolOf W) (recordIn W R))) q
+      ∙ ap (λ u. spread (benchOf ready terms X W) k (recordIn W R) true (ltb 512 (length (recordIn W R) + length u)) u) (nothing (poolLen W) (omega arith))
+      ∙ ap (λ u. spread (benchOf ready terms X W) k (recordIn W R) true u []) (le-ltb 512 (length (recordIn W R) + 0) (omega (arith, record-length W R)))
+      ∙ replied k ready terms refl refl (seat-same X k (x ∙ sym (append-nil (recordIn W R)))) refl
 
 -- ---- a pool with one statement more
 
@@ -314,7 +315,7 @@ abbrev poolThen : controller.Answer → List Stmt → List Stmt
 poolThen controller.taken P = P
 poolThen (controller.signed s) P = pooled s P
 poolThen (controller.entered v) P = P
-poolThen (controller.delivered m) P = P
+poolThen (controller.delivered i m) P = P
 poolThen controller.left P = P
 poolThen controller.quiet P = P
 poolThen (controller.refused r) P = P
@@ -323,7 +324,7 @@ abbrev numberThen : controller.Answer → List Stmt → ℕ
 numberThen controller.taken P = 0
 numberThen (controller.signed s) P = numberOf s P
 numberThen (controller.entered v) P = 0
-numberThen (controller.delivered m) P = 0
+numberThen (controller.delivered i m) P = 0
 numberThen controller.left P = 0
 numberThen controller.quiet P = 0
 numberThen (controller.refused r) P = 0
@@ -333,7 +334,7 @@ unfolding bench.afterTurn
 after-turn b k o controller.taken = refl
 after-turn b k o (controller.signed s) = refl
 after-turn b k o (controller.entered v) = refl
-after-turn b k o (controller.delivered m) = refl
+after-turn b k o (controller.delivered i m) = refl
 after-turn b k o controller.left = refl
 after-turn b k o controller.quiet = refl
 after-turn b k o (controller.refused r) = refl
@@ -342,26 +343,26 @@ pool-then : (W W′ : List ℕ) (a : controller.Answer) → PoolAfter W (signedO
 pool-then W W′ controller.taken e = ap poolOf e
 pool-then W W′ (controller.signed s) e = e .is
 pool-then W W′ (controller.entered v) e = ap poolOf e
-pool-then W W′ (controller.delivered m) e = ap poolOf e
+pool-then W W′ (controller.delivered i m) e = ap poolOf e
 pool-then W W′ controller.left e = ap poolOf e
 pool-then W W′ controller.quiet e = ap poolOf e
 pool-then W W′ (controller.refused r) e = ap poolOf e
 
-not-signed : (W : List ℕ) (x : Answer) (a : controller.Answer) → answerIs W x ≡ a → signedOf a ≡ unchanged → numberIs x ≡ 0
+not-signed : (W : List ℕ) (x : Answer) (a : controller.Answer) → answerIs W x ≡ a → signedOf a ≡ unchanged → signedNumber x ≡ 0
 unfolding answerIs
 not-signed W Taken a e h = refl
 not-signed W (Signed n) a e h = let q = ap signedOf e ∙ h in let z : _≡_ {A = ℕ} 0 1 = cc in absurd (omega arith)
 not-signed W (Entered v) a e h = refl
-not-signed W (Delivered m) a e h = refl
+not-signed W (Delivered i m) a e h = refl
 not-signed W Left a e h = refl
 not-signed W Quiet a e h = refl
 not-signed W (Refused q) a e h = refl
 
-number-then : (W W′ : List ℕ) (x : Answer) (a : controller.Answer) → answerIs W′ x ≡ a → ((s : Stmt) → a ≡ controller.signed s → x ≡ Signed (numberOf s (poolOf W))) → numberThen a (poolOf W) ≡ numberIs x
+number-then : (W W′ : List ℕ) (x : Answer) (a : controller.Answer) → answerIs W′ x ≡ a → ((s : Stmt) → a ≡ controller.signed s → x ≡ Signed (numberOf s (poolOf W))) → numberThen a (poolOf W) ≡ signedNumber x
 number-then W W′ x controller.taken e h = sym (not-signed W′ x controller.taken e refl)
-number-then W W′ x (controller.signed s) e h = sym (ap numberIs (h s refl))
+number-then W W′ x (controller.signed s) e h = sym (ap signedNumber (h s refl))
 number-then W W′ x (controller.entered v) e h = sym (not-signed W′ x (controller.entered v) e refl)
-number-then W W′ x (controller.delivered m) e h = sym (not-signed W′ x (controller.delivered m) e refl)
+number-then W W′ x (controller.delivered i m) e h = sym (not-signed W′ x (controller.delivered i m) e refl)
 number-then W W′ x controller.left e h = sym (not-signed W′ x controller.left e refl)
 number-then W W′ x controller.quiet e h = sym (not-signed W′ x controller.quiet e refl)
 number-then W W′ x (controller.refused r) e h = sym (not-signed W′ x (controller.refused r) e refl)
@@ -380,7 +381,7 @@ turn-keeps : (W W′ : List ℕ) (a : controller.Answer) → poolOf W′ ≡ poo
 turn-keeps W W′ controller.taken e d = (same-distinct e d, same-grows e)
 turn-keeps W W′ (controller.signed s) e d = pooled-keeps W W′ s e d
 turn-keeps W W′ (controller.entered v) e d = (same-distinct e d, same-grows e)
-turn-keeps W W′ (controller.delivered m) e d = (same-distinct e d, same-grows e)
+turn-keeps W W′ (controller.delivered i m) e d = (same-distinct e d, same-grows e)
 turn-keeps W W′ controller.left e d = (same-distinct e d, same-grows e)
 turn-keeps W W′ controller.quiet e d = (same-distinct e d, same-grows e)
 turn-keeps W W′ (controller.refused r) e d = (same-distinct e d, same-grows e)
@@ -403,10 +404,10 @@ module _ (W R : List ℕ) (c : Controller) (k : ℕ) (l : Line) (o : Outcome) (s
   asked : CalledAtSeat W R c k l o W R
   unfolding Calls
   asked = record {
-    steps = λ ready faulty X x.
-        h (benchOf ready faulty X W)
-        ∙ ap (λ (t : Seat). bench.at (benchOf ready faulty X W) k (f (t .controller) (t .statements)) (poolOf W) 0) x
-        ∙ replied k ready faulty (sym (m W R .answer)) (sym (not-signed W (o .answer) (f (controllerIs c) (recordIn W R) .answer) (m W R .answer) (un (controllerIs c) (recordIn W R) .unsigned))) (ap (λ t. set X k t) (seat-of (m W R) (s .whole))) refl;
+    steps = λ ready terms X x.
+        h (benchOf ready terms X W)
+        ∙ ap (λ (t : Seat). bench.at (benchOf ready terms X W) k (f (t .controller) (t .statements)) (poolOf W) 0) x
+        ∙ replied k ready terms (sym (m W R .answer)) (sym (not-signed W (o .answer) (f (controllerIs c) (recordIn W R) .answer) (m W R .answer) (un (controllerIs c) (recordIn W R) .unsigned))) (ap (λ t. set X k t) (seat-of (m W R) (s .whole))) refl;
     sound = s;
     grows = grows-same W;
     keeps = keeps-same R;
@@ -417,10 +418,17 @@ keeps-after : (W R R′ : List ℕ) (a : controller.Answer) → NumbersAfter W R
 keeps-after W R R′ controller.taken e = subst (Keeps R) (sym e) (keeps-same R)
 keeps-after W R R′ (controller.signed s) e = keeps-pushed R R′ (numberOf s (poolOf W)) e
 keeps-after W R R′ (controller.entered v) e = subst (Keeps R) (sym e) (keeps-same R)
-keeps-after W R R′ (controller.delivered m) e = subst (Keeps R) (sym e) (keeps-same R)
+keeps-after W R R′ (controller.delivered i m) e = subst (Keeps R) (sym e) (keeps-same R)
 keeps-after W R R′ controller.left e = subst (Keeps R) (sym e) (keeps-same R)
 keeps-after W R R′ controller.quiet e = subst (Keeps R) (sym e) (keeps-same R)
 keeps-after W R R′ (controller.refused r) e = subst (Keeps R) (sym e) (keeps-same R)
+
+resting-idle : (a : controller.Answer) → Resting a → Idle a
+resting-idle controller.left r = tt
+resting-idle controller.quiet r = tt
+
+same-outcome : {o : controller.Outcome} {a : controller.Answer} {d : controller.Controller} {X : List Stmt} → o .answer ≡ a → o .controller ≡ d → o .statements ≡ X → o ≡ record { answer = a; controller = d; statements = X }
+same-outcome {o} {a} e f g = ap (λ x. record { answer = x; controller = o .controller; statements = o .statements }) e ∙ ap₂ (λ d X. record { answer = a; controller = d; statements = X }) f g
 
 module _ (W R W′ R′ : List ℕ) (c : Controller) (k : ℕ) (ro : Outcome) (s : Sound W R) where
   abbrev outcome : controller.Outcome
@@ -429,10 +437,10 @@ module _ (W R W′ R′ : List ℕ) (c : Controller) (k : ℕ) (ro : Outcome) (s
   turns : Turns W R c outcome ro W′ R′ → CalledAtSeat W R c k (turn k) ro W′ R′
   unfolding step bench.turnAt
   turns m = record {
-    steps = λ ready faulty X x.
-        ap (λ (t : Seat). bench.afterTurn (benchOf ready faulty X W) k (turnOf (t .controller) (t .statements) (hasRoom (poolOf W))) (turnOf (t .controller) (t .statements) (hasRoom (poolOf W)) .answer)) x
-        ∙ after-turn (benchOf ready faulty X W) k outcome (outcome .answer)
-        ∙ replied k ready faulty (sym (m .answer)) (number-then W W′ (ro .answer) (outcome .answer) (m .answer) (m .number))
+    steps = λ ready terms X x.
+        ap (λ (t : Seat). bench.afterTurn (benchOf ready terms X W) k (turnOf (t .controller) (t .statements) (hasRoom (poolOf W))) (turnOf (t .controller) (t .statements) (hasRoom (poolOf W)) .answer)) x
+        ∙ after-turn (benchOf ready terms X W) k outcome (outcome .answer)
+        ∙ replied k ready terms (sym (m .answer)) (number-then W W′ (ro .answer) (outcome .answer) (m .answer) (m .number))
         (ap (λ t. set X k t) (seat-of m (s .whole))) (sym (pool-then W W′ (outcome .answer) (m .pool)));
     sound = record { distinct = turn-keeps W W′ (outcome .answer) (pool-then W W′ (outcome .answer) (m .pool)) (s .distinct) .0; whole = m .statements (s .whole) .1 };
     grows = turn-keeps W W′ (outcome .answer) (pool-then W W′ (outcome .answer) (m .pool)) (s .distinct) .1;
@@ -440,20 +448,49 @@ module _ (W R W′ R′ : List ℕ) (c : Controller) (k : ℕ) (ro : Outcome) (s
     same = stays-so m (turn-stays (controllerIs c) (recordIn W R) (hasRoom (poolOf W)));
   }
 
+  -- one that found nothing to do
+  turn-rested : Turns W R c outcome ro W′ R′ → IfIdle (turnAfter (ro .answer)) (Rests W′ R′ (ro .controller))
+  unfolding answerIs
+  turn-rested m = go (ro .answer) refl
+    where
+      same-controller : Resting (outcome .answer) → outcome .controller ≡ controllerIs c
+      same-controller r = turn-stays (controllerIs c) (recordIn W R) (hasRoom (poolOf W)) .stays (resting-idle (outcome .answer) r) .0
+
+      same-statements : Resting (outcome .answer) → outcome .statements ≡ recordIn W R
+      same-statements r = turn-stays (controllerIs c) (recordIn W R) (hasRoom (poolOf W)) .stays (resting-idle (outcome .answer) r) .1
+
+      again : (a : Answer) → changesIs a ≡ false → outcome .answer ≡ answerIs W′ a → Resting (answerIs W′ a) → Rests W′ R′ (ro .controller) a
+      again a i e r = record {
+        idle = i;
+        turns = λ room.
+            ap₂ (λ d X. turnOf d X room) (m .controller ∙ same-controller (subst Resting (sym e) r)) (m .statements (s .whole) .0 ∙ same-statements (subst Resting (sym e) r))
+            ∙ turn-rests (controllerIs c) (recordIn W R) (hasRoom (poolOf W)) room (subst Resting (sym e) r)
+            ∙ same-outcome e (sym (m .controller)) (sym (m .statements (s .whole) .0));
+      }
+
+      go : (a : Answer) → ro .answer ≡ a → IfIdle (turnAfter a) (Rests W′ R′ (ro .controller))
+      go Taken e = tt
+      go (Signed n) e = tt
+      go (Entered v) e = tt
+      go (Delivered i m) e = tt
+      go Left e = again Left refl (sym (m .answer) ∙ ap (answerIs W′) e) tt
+      go Quiet e = again Quiet refl (sym (m .answer) ∙ ap (answerIs W′) e) tt
+      go (Refused r) e = tt
+
 -- the line that calls
 module _ (W R : List ℕ) (c : Controller) (o : Outcome) (s : Sound W R) {l : Held} {k : ℕ} where
   pub calls-join : l ≡ is.Join k → Calls (requestJoin (controllerIs c)) c o → CalledByLine W R c l o W R
   unfolding step
-  calls-join e m = subst (λ x. CalledByLine W R c x o W R) (sym e) (record { line = join k; means = refl; called = asked W R c k (join k) o s requestJoin join-stays join-unsigned m (λ b. refl) })
+  calls-join e m = subst (λ x. CalledByLine W R c x o W R) (sym e) (record { line = join k; means = refl; called = asked W R c k (join k) o s requestJoin join-stays join-unsigned m (λ b. refl); rests = tt })
 
   pub calls-leave : l ≡ is.Leave k → Calls (requestLeave (controllerIs c)) c o → CalledByLine W R c l o W R
   unfolding step
-  calls-leave e m = subst (λ x. CalledByLine W R c x o W R) (sym e) (record { line = leave k; means = refl; called = asked W R c k (leave k) o s requestLeave leave-stays leave-unsigned m (λ b. refl) })
+  calls-leave e m = subst (λ x. CalledByLine W R c x o W R) (sym e) (record { line = leave k; means = refl; called = asked W R c k (leave k) o s requestLeave leave-stays leave-unsigned m (λ b. refl); rests = tt })
 
-  pub calls-send : {payload : ℕ} → l ≡ is.Send k payload → Calls (λ X. requestSend (controllerIs c) X payload) c o → CalledByLine W R c l o W R
+  pub calls-send : {i payload : ℕ} → l ≡ is.Send k i payload → Calls (λ X. requestSend (controllerIs c) X i payload) c o → CalledByLine W R c l o W R
   unfolding step
-  calls-send {payload} e m = subst (λ x. CalledByLine W R c x o W R) (sym e)
-      (record { line = send k payload; means = refl; called = asked W R c k (send k payload) o s (λ d X. requestSend d X payload) (λ d X. send-stays d X payload) (λ d X. send-unsigned d X payload) m (λ b. refl) })
+  calls-send {i} {payload} e m = subst (λ x. CalledByLine W R c x o W R) (sym e)
+      (record { line = send k i payload; means = refl; called = asked W R c k (send k i payload) o s (λ d X. requestSend d X i payload) (λ d X. send-stays d X i payload) (λ d X. send-unsigned d X i payload) m (λ b. refl); rests = tt })
 
   pub calls-turn : {W′ R′ : List ℕ} → l ≡ is.Turn k → Turns W R c (turnOf (controllerIs c) (recordIn W R) (hasRoom (poolOf W))) o W′ R′ → CalledByLine W R c l o W′ R′
-  calls-turn {W′} {R′} e m = subst (λ x. CalledByLine W R c x o W′ R′) (sym e) (record { line = turn k; means = refl; called = turns W R W′ R′ c k o s m })
+  calls-turn {W′} {R′} e m = subst (λ x. CalledByLine W R c x o W′ R′) (sym e) (record { line = turn k; means = refl; called = turns W R W′ R′ c k o s m; rests = turn-rested W R W′ R′ c k o s m })

@@ -4,24 +4,25 @@ use mathlib.Core.Path.{_≡_, refl, sym, ap, subst, _∙_}
 use mathlib.Core.Bool.{Bool, true, false, not, _&&_, _||_, true≢false}
 use mathlib.Core.List.{List, [], _∷_, _++_}
 use mathlib.Core.Option.{some, none}
-use Prim.Native.Nat.{ℕ, _%_, _+_, _^_, _≤_, _<_}
+use Prim.Native.Nat.{ℕ, suc, _%_, _≤_, _<_, min}
 use native.Mathlib.Decide.{decLt}
 use native.Mathlib.Omega.{arith}
 use types.Run.{OneOf, miss}
 use denote.Enum.Declared.{tagOf}
-use lib.Dec.{T, leb, ltb}
+use lib.Dec.{T, eqb, leb, ltb, leb→le}
 use lib.ListN.{length, getD, set}
-use borrow.Author.Tests.{lt-ltb, le-ltb, le-leb, lt-leb}
+use lib.Seq.{ext-getD}
+use borrow.Author.Tests.{eq-eqb, ne-eqb, lt-ltb, le-ltb, le-leb, lt-leb}
 use Rattle.protocol.specs.Sets.{bit}
-use Rattle.protocol.specs.Lists.{if_then_else_, any}
+use Rattle.protocol.specs.Lists.{if_then_else_, any, listOf}
 use Rattle.protocol.specs.View.{controllers, member}
 use Rattle.protocol.specs.Statement.{Stmt, sameStmt}
 use Rattle.protocol.specs.Controller as controller
 use Rattle.protocol.specs.Call.{setupAllowed, started}
 use Rattle.protocol.proofs.Bits.{bit-zero}
 use Rattle.protocol.proofs.Found.{none≢some, if-true, if-false}
-use Rattle.views.specs.Table.{table}
-use Rattle.views.proofs.Tables.{table-cong}
+use Rattle.protocol.proofs.Numbered.{listOf-length, listOf-at, listOf-cong}
+use Rattle.protocol.proofs.Rules.{and-first, and-second}
 use Rattle.statements.specs.declared.Statement.{Statement}
 use Rattle.statements.specs.declared.ReadStatement.{ReadStatement}
 use Rattle.statements.specs.Meaning.{stmtOf}
@@ -35,46 +36,47 @@ use Rattle.pool.proofs.Searches.{found-at, full≢at, at-injective}
 use Rattle.engine.specs.declared.Refusal.{Refusal}
 use Rattle.engine.specs.declared.Refusal.the-variants as refusal
 use Rattle.engine.specs.declared.Answer.the-variants.{Taken}
-use Rattle.engine.specs.Meaning.{answerIs, refusalIs}
+use Rattle.engine.specs.Meaning.{firstSenders, answerIs, refusalIs}
 use Rattle.engine.proofs.Pools.{Located, there, absent, in-pool, grown-pool}
 use Rattle.schedule.specs.declared.line.Line.{Line as Held}
 use Rattle.schedule.specs.declared.line.Line.the-variants as is
 use Rattle.schedule.specs.declared.line.Parsed.the-variants.{Readable}
+use Rattle.schedule.specs.declared.line.ReadSetup.{ReadSetup}
 use Rattle.schedule.proofs.line.Line as line
 use Rattle.pool.proofs.Records.{pool-length}
 use Rattle.bench.specs.declared.seat.Given.{Given}
 use Rattle.bench.specs.declared.state.Setting.{Setting}
 use Rattle.bench.specs.declared.state.Effect.{Effect}
 use Rattle.schedule.specs.Line.{Line, setup, all, lie, noStatement, ended}
-use Rattle.schedule.specs.Reading.{meant, Tells, Lying, LiedOf}
+use Rattle.schedule.specs.Reading.{aLine, meant, Tells, Lying, LiedOf, SettingUp, SendersIn, ReadsSetup, SetupOf}
 use Rattle.schedule.proofs.Lies.{lie-untold}
 use Rattle.bench.specs.Bench as bench
 use Rattle.bench.specs.Bench.{Seat, emptySeat, Bench, step}
-use Rattle.bench.specs.Seats.{benchOf, Distinct, Sound, Full, Keeps, replyIs, refusedFor, takenAs, GivenAtSeat, Gives, GivesAll, ReadFrom, seatOf, isCall, ToldAs, SteppedAs, SteppedBy, SteppedOnPool, SteppedOnPoolBy, NoStatement, LacksNothing}
+use Rattle.bench.specs.Seats.{termsOf, benchOf, Distinct, Sound, Full, Keeps, sendersIn, replyIs, refusedFor, takenAs, GivenAtSeat, Gives, GivesAll, ReadFrom, seatOf, isCall, ToldAs, SteppedAs, SteppedBy, SteppedOnPool, SteppedOnPoolBy, SetUpBy, shownIn, NoStatement, LacksNothing}
 use Rattle.bench.proofs.Records.{keeps-same}
 use Rattle.bench.proofs.Seats.{grows-same, seat-same, one-grows, one-distinct, all-needless}
 
 -- the parts of what a line leaves
-stepped : {w w′ : ℕ} {a a′ : controller.Answer} {n n′ : ℕ} {g g′ : Bool} {f f′ : ℕ} {X X′ : List Seat} {P P′ : List Stmt} → w ≡ w′ → a ≡ a′ → n ≡ n′ → g ≡ g′ → f ≡ f′ → X ≡ X′ → P ≡ P′
-    → _≡_ {A = bench.Stepped} (record { reply = record { who = w; answer = a; number = n }; bench = record { isSetUp = g; faulty = f; seats = X; pool = P } })
-    (record { reply = record { who = w′; answer = a′; number = n′ }; bench = record { isSetUp = g′; faulty = f′; seats = X′; pool = P′ } })
-stepped e f g h i j k = cc
+stepped : {w w′ : ℕ} {a a′ : controller.Answer} {n n′ : ℕ} {g g′ : Bool} {f f′ m m′ : ℕ} {X X′ : List Seat} {P P′ : List Stmt} → w ≡ w′ → a ≡ a′ → n ≡ n′ → g ≡ g′ → f ≡ f′ → m ≡ m′ → X ≡ X′ → P ≡ P′
+    → _≡_ {A = bench.Stepped} (record { reply = record { who = w; answer = a; number = n }; bench = record { isSetUp = g; faulty = f; notices = m; seats = X; pool = P } })
+    (record { reply = record { who = w′; answer = a′; number = n′ }; bench = record { isSetUp = g′; faulty = f′; notices = m′; seats = X′; pool = P′ } })
+stepped e f g h i l j k = cc
 
 pub told-as : {g : Setting} {who : ℕ} {r r′ : Given} {s : Effect} → r ≡ r′ → ToldAs g who r s → ToldAs g who r′ s
 told-as {g} {who} {r} {r′} {s} e t = subst (λ x. ToldAs g who x s) e t
 
 -- a line that was answered so and leaves all settings as they were: what it does to every bench that has the record R at seat k
-told-on : {W W′ R R′ : List ℕ} {g : Setting} {k who : ℕ} {l : Line} {r : Given} {s : Effect} → who ≤ 16 → ToldAs g who r s → Sound W′ R′ → Grows W W′ → Keeps R R′ → (r .whole ≡ true → Full R′ (poolLen W′))
+told-on : {W W′ R R′ : List ℕ} (S : List ℕ) {g : Setting} {k who : ℕ} {l : Line} {r : Given} {s : Effect} → who ≤ 16 → ToldAs g who r s → Sound W′ R′ → Grows W W′ → Keeps R R′ → (r .whole ≡ true → Full R′ (poolLen W′))
     → ((X : List Seat) → getD X k emptySeat .statements ≡ recordIn W R
-    → step (benchOf (g .ready) (g .faulty) X W) (some l)
-    ≡ record { reply = replyIs W′ who (r .answer) (r .number); bench = benchOf (g .ready) (g .faulty) (set X k (record { controller = getD X k emptySeat .controller; statements = recordIn W′ R′ })) W′ })
-    → SteppedAs W R g k l s W′ R′
-told-on {W} {W′} {R} {R′} {g} {k} {who} {l} {r} {s} b e sound grows keeps full steps = record {
+    → step (benchOf (g .ready) (termsOf g) X W) (some l)
+    ≡ record { reply = replyIs W′ who (r .answer) (r .number); bench = benchOf (g .ready) (termsOf g) (set X k (record { controller = getD X k emptySeat .controller; statements = recordIn W′ R′ })) W′ })
+    → SteppedAs W R g k l s W′ R′ S
+told-on {W} {W′} {R} {R′} S {g} {k} {who} {l} {r} {s} b e sound grows keeps full steps = record {
   who = omega (arith, e .who-is);
   advanced = record {
     steps = λ X x. steps X x
-        ∙ stepped (sym (e .who-is)) (sym (ap (answerIs W′) (e .answer))) (sym (e .number)) (sym (ap (λ (t : Setting). t .ready) (e .setting))) (sym (ap (λ (t : Setting). t .faulty) (e .setting)))
-        (sym (if-false (s .fresh) (table controllers (λ j. record { controller = started j (s .setting .members) (s .setting .sender); statements = [] })) (set X k (record { controller = getD X k emptySeat .controller; statements = recordIn W′ R′ })) (e .fresh))) refl;
+        ∙ stepped (sym (e .who-is)) (sym (ap (answerIs W′) (e .answer))) (sym (e .number)) (sym (ap (λ (t : Setting). t .ready) (e .setting))) (sym (ap (λ (t : Setting). t .faulty) (e .setting))) (sym (ap (λ (t : Setting). min (t .notices) 64) (e .setting)))
+        (sym (if-false (s .fresh) (listOf controllers (λ j. record { controller = started j (s .setting .members) (sendersIn (s .setting) S); statements = [] })) (set X k (record { controller = getD X k emptySeat .controller; statements = recordIn W′ R′ })) (e .fresh))) refl;
     sound = λ h. sound;
     grows = λ h. grows;
     keeps = λ h. keeps;
@@ -84,17 +86,17 @@ told-on {W} {W′} {R} {R′} {g} {k} {who} {l} {r} {s} b e sound grows keeps fu
 }
 
 -- a line that was answered on its record
-stepped-seated : {W R R′ : List ℕ} {g : Setting} {k : ℕ} {l : Line} {r : Given} {s : Effect} → k < 16 → Distinct W → GivenAtSeat W R (g .ready) k l r R′ → ToldAs g k r s → SteppedAs W R g k l s W R′
-stepped-seated {W} {g = g} b d m e = told-on (omega arith) e (record { distinct = d; whole = m .whole }) (grows-same W) (m .keeps) (m .full) (λ X x. m .steps (g .faulty) X x)
+stepped-seated : {W R R′ : List ℕ} (S : List ℕ) {g : Setting} {k : ℕ} {l : Line} {r : Given} {s : Effect} → k < 16 → Distinct W → GivenAtSeat W R (g .ready) k l r R′ → ToldAs g k r s → SteppedAs W R g k l s W R′ S
+stepped-seated {W} S {g = g} b d m e = told-on S (omega arith) e (record { distinct = d; whole = m .whole }) (grows-same W) (m .keeps) (m .full) (λ X x. m .steps (termsOf g) X x)
 
 -- a line on the pool that was refused
 module _ {W : List ℕ} {g : Setting} {l : Line} {s : Effect} where
   pools-refused : (who : ℕ) (q : Refusal) → who ≤ 16 → Distinct W → ToldAs g who (refusedFor q) s
-      → ((X : List Seat) → step (benchOf (g .ready) (g .faulty) X W) (some l) ≡ bench.refuseLine (benchOf (g .ready) (g .faulty) X W) who (refusalIs q)) → SteppedOnPool W g l s W
+      → ((X : List Seat) → step (benchOf (g .ready) (termsOf g) X W) (some l) ≡ bench.refuseLine (benchOf (g .ready) (termsOf g) X W) who (refusalIs q)) → SteppedOnPool W g l s W
   unfolding answerIs
   pools-refused who q b d e h = record {
-    over = λ R w. told-on b e (record { distinct = d; whole = w }) (grows-same W) (keeps-same R) (λ t. absurd (true≢false (sym t)))
-        (λ X x. h X ∙ ap (λ Y. bench.refuseLine (benchOf (g .ready) (g .faulty) Y W) who (refusalIs q)) (sym (seat-same X 0 x)));
+    over = λ R S w. told-on S b e (record { distinct = d; whole = w }) (grows-same W) (keeps-same R) (λ t. absurd (true≢false (sym t)))
+        (λ X x. h X ∙ ap (λ Y. bench.refuseLine (benchOf (g .ready) (termsOf g) Y W) who (refusalIs q)) (sym (seat-same X 0 x)));
   }
 
 -- ---- lies that are no statement
@@ -105,91 +107,144 @@ unstated b ready = if ready then bench.refuseLine b 16 controller.badStatement e
 module _ (g : Setting) (s : Effect) where
   pub no-statement-early : ToldAs g 16 (refusedFor refusal.OutOfPlace) s → g .ready ≡ false → NoStatement g s
   unfolding step
-  no-statement-early e q = record { pools = λ W d. pools-refused 16 refusal.OutOfPlace (omega arith) d e (λ X. ap (unstated (benchOf (g .ready) (g .faulty) X W)) q) }
+  no-statement-early e q = record { pools = λ W d. pools-refused 16 refusal.OutOfPlace (omega arith) d e (λ X. ap (unstated (benchOf (g .ready) (termsOf g) X W)) q) }
 
   pub no-statement-bad : ToldAs g 16 (refusedFor refusal.BadStatement) s → g .ready ≡ true → NoStatement g s
   unfolding step
-  no-statement-bad e q = record { pools = λ W d. pools-refused 16 refusal.BadStatement (omega arith) d e (λ X. ap (unstated (benchOf (g .ready) (g .faulty) X W)) q) }
+  no-statement-bad e q = record { pools = λ W d. pools-refused 16 refusal.BadStatement (omega arith) d e (λ X. ap (unstated (benchOf (g .ready) (termsOf g) X W)) q) }
 
 -- ---- a setup
 
 pub no-pool : (W : List ℕ) → poolLen W ≡ 0 → [] ≡ poolOf W
-unfolding poolOf table
-no-pool W e = sym (ap (λ n. table n (stmtAt W)) e)
+unfolding poolOf listOf
+no-pool W e = sym (ap (λ n. listOf n (stmtAt W)) e)
 
-module _ (members sender faulty : ℕ) where
+-- whom its row shows
+module _ (S : List ℕ) (count : ℕ) where
+  pub shown-none : count ≡ 0 → 16 ≡ shownIn S count
+  unfolding shownIn
+  shown-none e = rw (eq-eqb count 0 e)
+
+  pub shown-near : (count ≡ 0 → ⊥) → getD S 0 0 < 16 → getD S 0 0 ≡ shownIn S count
+  unfolding shownIn
+  shown-near e l = rw (ne-eqb count 0 e, lt-ltb (getD S 0 0) 16 l)
+
+  pub shown-far : (count ≡ 0 → ⊥) → 16 ≤ getD S 0 0 → 16 ≡ shownIn S count
+  unfolding shownIn
+  shown-far e l = rw (ne-eqb count 0 e, le-ltb (getD S 0 0) 16 l)
+
+-- its senders in memory
+module _ (S L : List ℕ) (i : SendersIn S L) where
+  shown-same : shownIn S (length L) ≡ bench.shownSender L
+  unfolding shownIn bench.shownSender
+  shown-same = go L i
+    where
+      go : (L : List ℕ) → SendersIn S L → (if eqb (length L) 0 then 16 else if ltb (getD S 0 0) 16 then getD S 0 0 else 16) ≡ bench.shownSender L
+      go [] i = refl
+      go (k ∷ L) i = rw (ne-eqb (suc (length L)) 0 (λ e. omega arith)) (ap (λ (x : ℕ). if ltb x 16 then x else 16) (i .each 0 (omega arith) (omega arith)))
+
+  first-are : length L ≤ 64 → firstSenders S (length L) ≡ L
+  unfolding firstSenders
+  first-are h = ext-getD 0 (firstSenders S (length L)) L (listOf-length (length L) (λ k. getD S k 0)) (λ k l.
+      let b : k < length L = omega (arith, listOf-length (length L) (λ k. getD S k 0)) in listOf-at (length L) (λ k. getD S k 0) k 0 b ∙ i .each k b (omega arith))
+
+first-long : (S : List ℕ) (n : ℕ) → length (firstSenders S n) ≡ n
+unfolding firstSenders
+first-long S n = listOf-length n (λ k. getD S k 0)
+
+shown-most : (L : List ℕ) → bench.shownSender L ≤ 16
+unfolding bench.shownSender
+shown-most [] = omega arith
+shown-most (k ∷ L) = elim (decLt k 16) [ yes l ↦ rw (lt-ltb k 16 l) (omega arith) | no l ↦ rw (le-ltb k 16 (omega arith)) (omega arith) ]
+
+-- a setup that is allowed names at most 64
+allowed-few : (members : ℕ) (L : List ℕ) → setupAllowed 0 members L ≡ true → length L ≤ 64
+unfolding setupAllowed
+allowed-few members L e = let a : T (setupAllowed 0 members L) = subst T (sym e) tt in let b : T (leb (length L) 64) = search (and-first, and-second) in leb→le (length L) 64 b
+
+module _ (members : ℕ) (L : List ℕ) (faulty : ℕ) where
   -- the tests, over plain values
-  abbrev settled : Bench → Bool → Bool → Bool → bench.Stepped
-  settled b ready allowed near =
-      if ready || not allowed then bench.refuseLine b (if near then sender else 16) controller.badSetup
+  abbrev settled : Bench → Bool → Bool → bench.Stepped
+  settled b ready allowed =
+      if ready || not allowed then bench.refuseLine b (bench.shownSender L) controller.badSetup
       else record {
-        reply = record { who = sender; answer = controller.taken; number = 0 };
-        bench = record { isSetUp = true; faulty = faulty; seats = table controllers (λ k. record { controller = started k members sender; statements = [] }); pool = [] };
+        reply = record { who = bench.shownSender L; answer = controller.taken; number = 0 };
+        bench = record { isSetUp = true; faulty = faulty; notices = length L; seats = listOf controllers (λ k. record { controller = started k members L; statements = [] }); pool = [] };
       }
 
-  setup-is : (b : Bench) {ready allowed near : Bool} → b .isSetUp ≡ ready → setupAllowed 0 members sender ≡ allowed → ltb sender 16 ≡ near → step b (some (setup members sender faulty)) ≡ settled b ready allowed near
+  setup-is : (b : Bench) {ready allowed : Bool} → b .isSetUp ≡ ready → setupAllowed 0 members L ≡ allowed → step b (some (setup members L faulty)) ≡ settled b ready allowed
   unfolding step bench.setUp
-  setup-is b {ready} {allowed} {near} e f h = ap (λ t. settled b t (setupAllowed 0 members sender) (ltb sender 16)) e ∙ ap (λ t. settled b ready t (ltb sender 16)) f ∙ ap (λ t. settled b ready allowed t) h
+  setup-is b {ready} {allowed} e f = ap (λ t. settled b t (setupAllowed 0 members L)) e ∙ ap (settled b ready) f
 
-  far : 16 ≤ sender → setupAllowed 0 members sender ≡ false
-  unfolding setupAllowed
-  far l = rw (le-ltb sender 16 l) (and-last (ltb 0 members && ltb members (2 ^ 16) && ltb 0 16))
+module _ (W : List ℕ) (g : Setting) (T′ S : List ℕ) (r : ReadSetup) (of : SetupOf T′ S r) (by : SettingUp T′) where
+  -- the line is the setup that was read
+  said : ReadsSetup T′ S r
+  said = go (r .ok) refl
     where
-      and-last : (b : Bool) → (b && false) ≡ false
-      and-last true = refl
-      and-last false = refl
+      go : (b : Bool) → r .ok ≡ b → ReadsSetup T′ S r
+      go true e = of .told e
+      go false e = absurd (of .untold e 0 (by .tells .0) (by .tells .1) (by .tells .2) (by .tells .3 0))
 
-  nobody-in : members ≡ 0 → setupAllowed 0 members sender ≡ false
-  unfolding setupAllowed
-  nobody-in e = rw (le-ltb 0 members (omega arith))
+  abbrev L₀ : List ℕ
+  L₀ = said .senders
 
-  allowed-is : (members ≡ 0 → ⊥) → members < 65536 → sender < 16 → setupAllowed 0 members sender ≡ true
-  unfolding setupAllowed
-  allowed-is n m l = rw (lt-ltb 0 members (omega arith), lt-ltb members (2 ^ 16) m, lt-ltb sender 16 l)
+  who-is : shownIn S (r .count) ≡ bench.shownSender L₀
+  who-is = ap (shownIn S) (sym (said .count)) ∙ shown-same S L₀ (said .stand)
 
-  module _ (W : List ℕ) (g : Setting) (s : Effect) (d : Distinct W) where
-    or-both : (b : Bool) → (b || true) ≡ true
-    or-both true = refl
-    or-both false = refl
+  few-are : r .count ≤ 64 → firstSenders S (r .count) ≡ L₀
+  few-are h = ap (firstSenders S) (sym (said .count)) ∙ first-are S L₀ (said .stand) (omega (arith, said .count))
 
-    refuses : (who : ℕ) (near : Bool) → who ≡ (if near then sender else 16) → who ≤ 16 → ToldAs g who (refusedFor refusal.BadSetup) s → ltb sender 16 ≡ near → (g .ready || not (setupAllowed 0 members sender)) ≡ true
-        → SteppedOnPool W g (setup members sender faulty) s W
-    refuses who near w b e h o = pools-refused who refusal.BadSetup b d e (λ X. setup-is (benchOf (g .ready) (g .faulty) X W) refl refl h
-        ∙ (let d : Bench = benchOf (g .ready) (g .faulty) X W in rw o (ap (λ t. bench.refuseLine d t controller.badSetup) (sym w))))
+  as-setup : {s : Effect} {W′ : List ℕ} → ((R : List ℕ) → AllIn W R → SteppedAs W R g 0 (setup (r .members) L₀ (r .faulty)) s W′ R S) → SetUpBy W g T′ s W′ S
+  as-setup h = record { over = λ R w. record { line = setup (r .members) L₀ (r .faulty); reads = said .written (min (g .notices) 64); stepped = h R w } }
 
-    pub setup-far : ToldAs g 16 (refusedFor refusal.BadSetup) s → 16 ≤ sender → SteppedOnPool W g (setup members sender faulty) s W
-    setup-far e l = refuses 16 false refl (omega arith) e (le-ltb sender 16 l) (ap (λ t. g .ready || not t) (far l) ∙ or-both (g .ready))
+  module _ (s : Effect) (d : Distinct W) where
+    refuses : {who : ℕ} → who ≡ shownIn S (r .count) → ToldAs g who (refusedFor refusal.BadSetup) s → (g .ready || not (setupAllowed 0 (r .members) L₀)) ≡ true → SetUpBy W g T′ s W S
+    refuses ew e o = as-setup (λ R w. pools-refused (bench.shownSender L₀) refusal.BadSetup (shown-most L₀) d (subst (λ k. ToldAs g k (refusedFor refusal.BadSetup) s) (ew ∙ who-is) e)
+        (λ X. setup-is (r .members) L₀ (r .faulty) (benchOf (g .ready) (termsOf g) X W) refl refl ∙ rw o) .over R S w)
 
-    pub setup-again : ToldAs g sender (refusedFor refusal.BadSetup) s → sender < 16 → g .ready ≡ true → SteppedOnPool W g (setup members sender faulty) s W
-    setup-again e l q = refuses sender true refl (omega arith) e (lt-ltb sender 16 l) (ap (λ t. t || not (setupAllowed 0 members sender)) q)
+    pub setup-again : {who : ℕ} → who ≡ shownIn S (r .count) → ToldAs g who (refusedFor refusal.BadSetup) s → g .ready ≡ true → SetUpBy W g T′ s W S
+    setup-again ew e q = refuses ew e (ap (λ t. t || not (setupAllowed 0 (r .members) L₀)) q)
 
-    pub setup-empty : ToldAs g sender (refusedFor refusal.BadSetup) s → sender < 16 → members ≡ 0 → SteppedOnPool W g (setup members sender faulty) s W
-    setup-empty e l q = refuses sender true refl (omega arith) e (lt-ltb sender 16 l) (ap (λ t. g .ready || not t) (nobody-in q) ∙ or-both (g .ready))
+    pub setup-barred : {who : ℕ} → who ≡ shownIn S (r .count) → ToldAs g who (refusedFor refusal.BadSetup) s → setupAllowed 0 (r .members) (firstSenders S (r .count)) ≡ false → SetUpBy W g T′ s W S
+    setup-barred ew e q = refuses ew e (ap (λ t. g .ready || not t) barred ∙ or-both (g .ready))
+      where
+        or-both : (b : Bool) → (b || true) ≡ true
+        or-both true = refl
+        or-both false = refl
 
-  pub setup-taken : (W W′ : List ℕ) (g : Setting) → memory.Cleared W W′ → sender < 16 → g .ready ≡ false → (members ≡ 0 → ⊥) → members < 65536
-      → SteppedOnPool W g (setup members sender faulty)
-      (record { who = sender; answer = Taken; number = 0; setting = record { ready = true; faulty = faulty; members = members; sender = sender }; fresh = true; whole = false }) W′
+        barred : setupAllowed 0 (r .members) L₀ ≡ false
+        barred = go (setupAllowed 0 (r .members) L₀) refl
+          where
+            go : (b : Bool) → setupAllowed 0 (r .members) L₀ ≡ b → b ≡ false
+            go false h = refl
+            go true h = absurd (true≢false (sym h ∙ ap (setupAllowed 0 (r .members)) (sym (few-are (omega (arith, said .count, allowed-few (r .members) L₀ h)))) ∙ q))
+
+  pub setup-taken : {who : ℕ} (W′ : List ℕ) → who ≡ shownIn S (r .count) → memory.Cleared W W′ → g .ready ≡ false → setupAllowed 0 (r .members) (firstSenders S (r .count)) ≡ true
+      → SetUpBy W g T′ (record { who = who; answer = Taken; number = 0; setting = record { ready = true; faulty = r .faulty; members = r .members; notices = r .count }; fresh = true; whole = false }) W′ S
   unfolding answerIs
-  setup-taken W W′ g n l q a b = record {
-    over = λ R w. record {
-      who = omega arith;
-      advanced = record {
-        steps = λ X x. setup-is (benchOf (g .ready) (g .faulty) X W) q (allowed-is a b l) refl ∙ stepped refl refl refl refl refl refl (no-pool W′ (n .len));
-        sound = λ t. absurd (subst T t tt);
-        grows = λ t. absurd (subst T t tt);
-        keeps = λ t. absurd (subst T t tt);
-        begun = λ t. (n .len, allowed-is a b l);
-      };
-      full = λ t. absurd (true≢false (sym t));
-    };
-  }
+  setup-taken {who} W′ ew n q a =
+      let few : r .count ≤ 64 = omega (arith, allowed-few (r .members) (firstSenders S (r .count)) a, first-long S (r .count)) in
+      let same : firstSenders S (r .count) ≡ L₀ = few-are few in
+      let ok : setupAllowed 0 (r .members) L₀ ≡ true = ap (setupAllowed 0 (r .members)) (sym same) ∙ a in
+      as-setup (λ R w. record {
+        who = omega (arith, ew, who-is, shown-most L₀);
+        advanced = record {
+          steps = λ X x. setup-is (r .members) L₀ (r .faulty) (benchOf (g .ready) (termsOf g) X W) q ok
+              ∙ stepped (sym (ew ∙ who-is)) refl refl refl refl (omega (arith, said .count)) (ap (λ (l : List ℕ). listOf controllers (λ k. record { controller = started k (r .members) l; statements = [] })) (sym same)) (no-pool W′ (n .len));
+          sound = λ t. absurd (subst T t tt);
+          grows = λ t. absurd (subst T t tt);
+          keeps = λ t. absurd (subst T t tt);
+          begun = λ t. (n .len, a);
+        };
+        full = λ t. absurd (true≢false (sym t));
+      })
 
 -- ---- what a pool that grows leaves as it was
 
 module _ {W W′ : List ℕ} (g : Grows W W′) (R : List ℕ) (w : AllIn W R) where
   pub record-kept : recordIn W′ R ≡ recordIn W R
   unfolding recordUpTo AllIn
-  record-kept = table-cong (recordLen R) (λ i. stmtAt W′ (getD R i 0)) (λ i. stmtAt W (getD R i 0)) (λ i h. g .same _ (w i h))
+  record-kept = listOf-cong (recordLen R) (λ i. stmtAt W′ (getD R i 0)) (λ i. stmtAt W (getD R i 0)) (λ i h. g .same _ (w i h))
 
   pub whole-kept : AllIn W′ R
   unfolding AllIn
@@ -197,25 +252,27 @@ module _ {W W′ : List ℕ} (g : Grows W W′) (R : List ℕ) (w : AllIn W R) w
 
 -- ---- a lie
 
-abbrev told : Bench → Stmt → Bool → Bool → Bool → Bool → bench.Stepped
-told b s ready marked again full =
+abbrev told : Bench → Stmt → Bool → Bool → Bool → Bool → Bool → bench.Stepped
+told b s ready marked known again full =
     if ready then (if not marked then bench.refuseLine b (s .origin) controller.outOfPlace
+    else if not known then bench.refuseLine b (s .origin) controller.unknownNotice
     else if again then bench.refuseLine b (s .origin) controller.repeated
     else if full then bench.refuseLine b (s .origin) controller.full
     else record {
       reply = record { who = s .origin; answer = controller.taken; number = length (b .pool) };
-      bench = record { isSetUp = b .isSetUp; faulty = b .faulty; seats = b .seats; pool = b .pool ++ (s ∷ []) };
+      bench = record { isSetUp = b .isSetUp; faulty = b .faulty; notices = b .notices; seats = b .seats; pool = b .pool ++ (s ∷ []) };
     })
     else bench.refuseLine b (s .origin) controller.outOfPlace
 
-lie-is : (b : Bench) (s : Stmt) {ready marked again full : Bool} → b .isSetUp ≡ ready → bit (b .faulty) (s .origin) ≡ marked → any (sameStmt s) (b .pool) ≡ again → leb 512 (length (b .pool)) ≡ full
-    → step b (some (lie s)) ≡ told b s ready marked again full
+lie-is : (b : Bench) (s : Stmt) {ready marked known again full : Bool} → b .isSetUp ≡ ready → bit (b .faulty) (s .origin) ≡ marked → ltb (s .notice) (b .notices) ≡ known → any (sameStmt s) (b .pool) ≡ again
+    → leb 512 (length (b .pool)) ≡ full → step b (some (lie s)) ≡ told b s ready marked known again full
 unfolding step bench.lieOf
-lie-is b s {ready} {marked} {again} {full} e f h i =
-    ap (λ t. told b s t (bit (b .faulty) (s .origin)) (any (sameStmt s) (b .pool)) (leb 512 (length (b .pool)))) e
-    ∙ ap (λ t. told b s ready t (any (sameStmt s) (b .pool)) (leb 512 (length (b .pool)))) f
-    ∙ ap (λ t. told b s ready marked t (leb 512 (length (b .pool)))) h
-    ∙ ap (λ t. told b s ready marked again t) i
+lie-is b s {ready} {marked} {known} {again} {full} e f k h i =
+    ap (λ t. told b s t (bit (b .faulty) (s .origin)) (ltb (s .notice) (b .notices)) (any (sameStmt s) (b .pool)) (leb 512 (length (b .pool)))) e
+    ∙ ap (λ t. told b s ready t (ltb (s .notice) (b .notices)) (any (sameStmt s) (b .pool)) (leb 512 (length (b .pool)))) f
+    ∙ ap (λ t. told b s ready marked t (any (sameStmt s) (b .pool)) (leb 512 (length (b .pool)))) k
+    ∙ ap (λ t. told b s ready marked known t (leb 512 (length (b .pool)))) h
+    ∙ ap (λ t. told b s ready marked known again t) i
 
 pub marked-is : (f k : ℕ) (r : Bool) → f < 65536 → r ≡ member (record { joined = f % 65536; left = 0 }) k → r ≡ bit f k
 marked-is f k r l e = let m : f % 65536 ≡ f = omega arith in e ∙ ap (λ x. member (record { joined = x; left = 0 }) k) m ∙ ap (λ t. bit f k && not t) (bit-zero k) ∙ and-true (bit f k)
@@ -229,7 +286,7 @@ module _ (W : List ℕ) (s : Stmt) where
   unfolding poolOf
   present-in i e = go (in-pool W s)
     where
-      go : Located s (stmtAt W) (poolLen W) (memory.poolNumber W s) → any (sameStmt s) (table (poolLen W) (stmtAt W)) ≡ true
+      go : Located s (stmtAt W) (poolLen W) (memory.poolNumber W s) → any (sameStmt s) (listOf (poolLen W) (stmtAt W)) ≡ true
       go (there j q l h m y) = y
       go (absent q y) = absurd (none≢some (sym q ∙ e))
 
@@ -237,36 +294,51 @@ module _ (W : List ℕ) (s : Stmt) where
   unfolding poolOf
   absent-in e = go (in-pool W s)
     where
-      go : Located s (stmtAt W) (poolLen W) (memory.poolNumber W s) → any (sameStmt s) (table (poolLen W) (stmtAt W)) ≡ false
+      go : Located s (stmtAt W) (poolLen W) (memory.poolNumber W s) → any (sameStmt s) (listOf (poolLen W) (stmtAt W)) ≡ false
       go (there j q l h m y) = absurd (none≢some (sym e ∙ q))
       go (absent q y) = y
 
-module _ (W : List ℕ) (g : Setting) (st : Statement) (s : Effect) (d : Distinct W) (near : st .origin < 16) where
-  pub lie-early : ToldAs g (st .origin) (refusedFor refusal.OutOfPlace) s → g .ready ≡ false → SteppedOnPool W g (lie (stmtOf st)) s W
+module _ (W : List ℕ) (g : Setting) (st : Statement) (B : List ℕ) (s : Effect) (d : Distinct W) (near : st .origin < 16) where
+  abbrev x₀ : Stmt
+  x₀ = stmtOf st B
+
+  -- refused for q, by what the tests came to
+  lie-refused : (q : Refusal) {ready marked known again full : Bool} → ToldAs g (st .origin) (refusedFor q) s → g .ready ≡ ready → bit (g .faulty) (st .origin) ≡ marked → ltb (st .notice) (min (g .notices) 64) ≡ known
+      → any (sameStmt x₀) (poolOf W) ≡ again → leb 512 (length (poolOf W)) ≡ full
+      → ((X : List Seat) → told (benchOf (g .ready) (termsOf g) X W) x₀ ready marked known again full ≡ bench.refuseLine (benchOf (g .ready) (termsOf g) X W) (st .origin) (refusalIs q)) → SteppedOnPool W g (lie x₀) s W
   unfolding stmtOf
-  lie-early e q = pools-refused (st .origin) refusal.OutOfPlace (omega arith) d e (λ X. lie-is (benchOf (g .ready) (g .faulty) X W) (stmtOf st) q refl refl refl)
+  lie-refused q e a b c f h t = pools-refused (st .origin) q (omega arith) d e (λ X. lie-is (benchOf (g .ready) (termsOf g) X W) x₀ a b c f h ∙ t X)
+
+  pub lie-early : ToldAs g (st .origin) (refusedFor refusal.OutOfPlace) s → g .ready ≡ false → SteppedOnPool W g (lie x₀) s W
+  unfolding stmtOf
+  lie-early e q = lie-refused refusal.OutOfPlace e q refl refl refl refl (λ X. refl)
 
   module _ (q : g .ready ≡ true) where
-    pub lie-unmarked : ToldAs g (st .origin) (refusedFor refusal.OutOfPlace) s → bit (g .faulty) (st .origin) ≡ false → SteppedOnPool W g (lie (stmtOf st)) s W
+    pub lie-unmarked : ToldAs g (st .origin) (refusedFor refusal.OutOfPlace) s → bit (g .faulty) (st .origin) ≡ false → SteppedOnPool W g (lie x₀) s W
     unfolding stmtOf
-    lie-unmarked e b = pools-refused (st .origin) refusal.OutOfPlace (omega arith) d e (λ X. lie-is (benchOf (g .ready) (g .faulty) X W) (stmtOf st) q b refl refl)
+    lie-unmarked e b = lie-refused refusal.OutOfPlace e q b refl refl refl (λ X. refl)
 
     module _ (b : bit (g .faulty) (st .origin) ≡ true) where
-      pub lie-again : ToldAs g (st .origin) (refusedFor refusal.Repeated) s → (i : ℕ) → found.At i ≡ foundOf (memory.poolNumber W (stmtOf st)) → SteppedOnPool W g (lie (stmtOf st)) s W
+      pub lie-unknown : ToldAs g (st .origin) (refusedFor refusal.UnknownNotice) s → ltb (st .notice) (min (g .notices) 64) ≡ false → SteppedOnPool W g (lie x₀) s W
       unfolding stmtOf
-      lie-again e i f = pools-refused (st .origin) refusal.Repeated (omega arith) d e (λ X. lie-is (benchOf (g .ready) (g .faulty) X W) (stmtOf st) q b (present-in W (stmtOf st) i (found-at (memory.poolNumber W (stmtOf st)) i f)) refl)
+      lie-unknown e k = lie-refused refusal.UnknownNotice e q b k refl refl (λ X. refl)
 
-      module _ (W′ : List ℕ) (n : memory.poolNumber W (stmtOf st) ≡ none) where
-        pub lie-full : ToldAs g (st .origin) (refusedFor refusal.Full) s → memory.Appended W W′ st placed.Full → SteppedOnPool W g (lie (stmtOf st)) s W′
+      module _ (k : ltb (st .notice) (min (g .notices) 64) ≡ true) where
+        pub lie-again : ToldAs g (st .origin) (refusedFor refusal.Repeated) s → (i : ℕ) → found.At i ≡ foundOf (memory.poolNumber W x₀) → SteppedOnPool W g (lie x₀) s W
         unfolding stmtOf
-        lie-full e a = elim (decLt (poolLen W) 512) [
-          | yes l ↦ absurd (full≢at (a .answer ∙ ap (λ o. memory.placedAt o (poolLen W)) n ∙ (if-true (ltb (poolLen W) 512) (placed.At (poolLen W)) placed.Full (lt-ltb (poolLen W) 512 l))))
-          | no l ↦ subst (λ U. SteppedOnPool W g (lie (stmtOf st)) s U) (sym (a .full (omega arith)))
-              (pools-refused (st .origin) refusal.Full (omega arith) d e (λ X. lie-is (benchOf (g .ready) (g .faulty) X W) (stmtOf st) q b (absent-in W (stmtOf st) n) (le-leb 512 (length (poolOf W)) (omega (arith, pool-length W)))))
-        ]
+        lie-again e i f = lie-refused refusal.Repeated e q b k (present-in W x₀ i (found-at (memory.poolNumber W x₀) i f)) refl (λ X. refl)
 
-module _ (W W′ : List ℕ) (g : Setting) (st : Statement) (d : Distinct W) (near : st .origin < 16) (short : st .history .len ≤ 16) (q : g .ready ≡ true) (b : bit (g .faulty) (st .origin) ≡ true) (n : ℕ)
-    (z : memory.poolNumber W (stmtOf st) ≡ none) (a : memory.Appended W W′ st (placed.At n)) where
+        module _ (W′ : List ℕ) (n : memory.poolNumber W x₀ ≡ none) where
+          pub lie-full : ToldAs g (st .origin) (refusedFor refusal.Full) s → memory.Appended W W′ st B placed.Full → SteppedOnPool W g (lie x₀) s W′
+          unfolding stmtOf
+          lie-full e a = elim (decLt (poolLen W) 512) [
+            | yes l ↦ absurd (full≢at (a .answer ∙ ap (λ o. memory.placedAt o (poolLen W)) n ∙ (if-true (ltb (poolLen W) 512) (placed.At (poolLen W)) placed.Full (lt-ltb (poolLen W) 512 l))))
+            | no l ↦ subst (λ U. SteppedOnPool W g (lie x₀) s U) (sym (a .full (omega arith)))
+                (lie-refused refusal.Full e q b k (absent-in W x₀ n) (le-leb 512 (length (poolOf W)) (omega (arith, pool-length W))) (λ X. refl))
+          ]
+
+module _ (W W′ : List ℕ) (g : Setting) (st : Statement) (B : List ℕ) (d : Distinct W) (near : st .origin < 16) (short : st .history .len ≤ 16) (q : g .ready ≡ true) (b : bit (g .faulty) (st .origin) ≡ true)
+    (k : ltb (st .notice) (min (g .notices) 64) ≡ true) (n : ℕ) (z : memory.poolNumber W (stmtOf st B) ≡ none) (a : memory.Appended W W′ st B (placed.At n)) where
   room : poolLen W < 512
   room = elim (decLt (poolLen W) 512) [
     | yes l ↦ l
@@ -276,20 +348,20 @@ module _ (W W′ : List ℕ) (g : Setting) (st : Statement) (d : Distinct W) (ne
   placed-at : n ≡ poolLen W
   placed-at = at-injective (a .answer ∙ ap (λ o. memory.placedAt o (poolLen W)) z ∙ (if-true (ltb (poolLen W) 512) (placed.At (poolLen W)) placed.Full (lt-ltb (poolLen W) 512 room)))
 
-  longer : poolOf W′ ≡ poolOf W ++ (stmtOf st ∷ [])
-  longer = grown-pool W W′ st short (a .new z room) room
+  longer : poolOf W′ ≡ poolOf W ++ (stmtOf st B ∷ [])
+  longer = grown-pool W W′ st B short (a .new z room) room
 
-  pub lie-taken : (s : Effect) → ToldAs g (st .origin) (takenAs n false) s → SteppedOnPool W g (lie (stmtOf st)) s W′
+  pub lie-taken : (s : Effect) → ToldAs g (st .origin) (takenAs n false) s → SteppedOnPool W g (lie (stmtOf st B)) s W′
   unfolding stmtOf answerIs
   lie-taken s e = record {
-    over = λ R w. told-on (omega arith) e
-        (record { distinct = one-distinct W W′ (stmtOf st) longer (absent-in W (stmtOf st) z) d; whole = whole-kept (one-grows W W′ (stmtOf st) longer) R w }) (one-grows W W′ (stmtOf st) longer) (keeps-same R) (λ t. absurd (true≢false (sym t)))
-        (λ X x. lie-is (benchOf (g .ready) (g .faulty) X W) (stmtOf st) q b (absent-in W (stmtOf st) z) (lt-leb 512 (length (poolOf W)) (omega (arith, pool-length W, room)))
-        ∙ stepped refl refl (pool-length W ∙ sym placed-at) refl refl (sym (seat-same X 0 (x ∙ sym (record-kept (one-grows W W′ (stmtOf st) longer) R w)))) (sym longer));
+    over = λ R S w. told-on S (omega arith) e
+        (record { distinct = one-distinct W W′ (stmtOf st B) longer (absent-in W (stmtOf st B) z) d; whole = whole-kept (one-grows W W′ (stmtOf st B) longer) R w }) (one-grows W W′ (stmtOf st B) longer) (keeps-same R) (λ t. absurd (true≢false (sym t)))
+        (λ X x. lie-is (benchOf (g .ready) (termsOf g) X W) (stmtOf st B) q b k (absent-in W (stmtOf st B) z) (lt-leb 512 (length (poolOf W)) (omega (arith, pool-length W, room)))
+        ∙ stepped refl refl (pool-length W ∙ sym placed-at) refl refl refl (sym (seat-same X 0 (x ∙ sym (record-kept (one-grows W W′ (stmtOf st B) longer) R w)))) (sym longer));
   }
 
-pub appended : {W W′ : List ℕ} {st : Statement} {p q : Answered} → memory.Appended W W′ st p → p ≡ q → memory.Appended W W′ st q
-appended {W} {W′} {st} a e = subst (memory.Appended W W′ st) e a
+pub appended : {W W′ : List ℕ} {st : Statement} {B : List ℕ} {p q : Answered} → memory.Appended W W′ st B p → p ≡ q → memory.Appended W W′ st B q
+appended {W} {W′} {st} {B} a e = subst (memory.Appended W W′ st B) e a
 
 -- ---- an `all` that finds nothing missing
 
@@ -298,26 +370,26 @@ unfolding Full
 needless W g full k l e q b = subst (LacksNothing W g full) (sym e) (record {
   line = all k;
   means = refl;
-  steps = λ R s f X x. all-needless W R (g .ready) s q (λ i h. f i (omega arith)) k (g .faulty) X x;
+  steps = λ R s f X x. all-needless W R (g .ready) s q (λ i h. f i (omega arith)) k (termsOf g) X x;
 })
 
 -- ---- what a line is that is none of the others
 
 pub last-call : (l : Held) → OneOf (0 ∷ 4 ∷ 5 ∷ 6 ∷ 7 ∷ []) (tagOf line.the-type l) → isCall l ≡ true → l ≡ is.Turn (seatOf (Readable l))
-last-call (is.Setup m s f) t e = absurd (true≢false (sym e))
+last-call is.Setup t e = absurd (true≢false (sym e))
 last-call (is.Join k) t e = absurd (miss (0 ∷ 4 ∷ 5 ∷ 6 ∷ 7 ∷ []) 1 tt t)
 last-call (is.Leave k) t e = absurd (miss (0 ∷ 4 ∷ 5 ∷ 6 ∷ 7 ∷ []) 2 tt t)
-last-call (is.Send k m) t e = absurd (miss (0 ∷ 4 ∷ 5 ∷ 6 ∷ 7 ∷ []) 3 tt t)
+last-call (is.Send k i m) t e = absurd (miss (0 ∷ 4 ∷ 5 ∷ 6 ∷ 7 ∷ []) 3 tt t)
 last-call (is.Give k n) t e = absurd (true≢false (sym e))
 last-call (is.All k) t e = absurd (true≢false (sym e))
 last-call (is.Turn k) t e = refl
 last-call is.Lie t e = absurd (true≢false (sym e))
 
 pub last-other : (l : Held) → OneOf (1 ∷ 2 ∷ 3 ∷ 6 ∷ 7 ∷ []) (tagOf line.the-type l) → isCall l ≡ false → l ≡ is.Lie
-last-other (is.Setup m s f) t e = absurd (miss (1 ∷ 2 ∷ 3 ∷ 6 ∷ 7 ∷ []) 0 tt t)
+last-other is.Setup t e = absurd (miss (1 ∷ 2 ∷ 3 ∷ 6 ∷ 7 ∷ []) 0 tt t)
 last-other (is.Join k) t e = absurd (true≢false e)
 last-other (is.Leave k) t e = absurd (true≢false e)
-last-other (is.Send k m) t e = absurd (true≢false e)
+last-other (is.Send k i m) t e = absurd (true≢false e)
 last-other (is.Give k n) t e = absurd (miss (1 ∷ 2 ∷ 3 ∷ 6 ∷ 7 ∷ []) 4 tt t)
 last-other (is.All k) t e = absurd (miss (1 ∷ 2 ∷ 3 ∷ 6 ∷ 7 ∷ []) 5 tt t)
 last-other (is.Turn k) t e = absurd (true≢false e)
@@ -327,13 +399,13 @@ last-other is.Lie t e = refl
 
 module _ {T′ : List ℕ} where
   pub fit-seat : (l : Held) → ReadFrom l T′ → seatOf (Readable l) < 16
-  fit-seat (is.Setup m s f) t = omega arith
-  fit-seat (is.Join k) t = t .tells .0
-  fit-seat (is.Leave k) t = t .tells .0
-  fit-seat (is.Send k m) t = t .tells .0
-  fit-seat (is.Give k n) t = t .tells .0
-  fit-seat (is.All k) t = t .tells .0
-  fit-seat (is.Turn k) t = t .tells .0
+  fit-seat is.Setup t = omega arith
+  fit-seat (is.Join k) t = t .tells 0 .0
+  fit-seat (is.Leave k) t = t .tells 0 .0
+  fit-seat (is.Send k i m) t = t .tells 0 .0
+  fit-seat (is.Give k n) t = t .tells 0 .0
+  fit-seat (is.All k) t = t .tells 0 .0
+  fit-seat (is.Turn k) t = t .tells 0 .0
   fit-seat is.Lie t = omega arith
 
   pub fit-at : {l m : Held} → ReadFrom l T′ → l ≡ m → seatOf (Readable m) < 16
@@ -342,31 +414,34 @@ module _ {T′ : List ℕ} where
   pub fit-lie : {l : Held} → ReadFrom l T′ → l ≡ is.Lie → Lying T′
   fit-lie f e = record { tells = subst (λ x. Tells (meant x) (ended T′)) e (f .tells) }
 
+  pub fit-setup : {l : Held} → ReadFrom l T′ → l ≡ is.Setup → SettingUp T′
+  fit-setup f e = record { tells = subst (λ x. Tells (meant x) (ended T′)) e (f .tells) }
+
 module _ {W W′ : List ℕ} {g : Setting} {s : Effect} (T′ : List ℕ) where
-  pub at-line : {R R′ : List ℕ} {l m : Held} {line : Line} → ReadFrom l T′ → l ≡ m → meant m ≡ some line → SteppedAs W R g (seatOf (Readable m)) line s W′ R′ → SteppedBy W R g (seatOf (Readable l)) T′ s W′ R′
-  at-line {R} {R′} {l} {m} {line} f e q a = record {
+  at-line : {R R′ S : List ℕ} {l m : Held} {line : Line} → ReadFrom l T′ → l ≡ m → meant m ≡ aLine line → SteppedAs W R g (seatOf (Readable m)) line s W′ R′ S → SteppedBy W R g (seatOf (Readable l)) T′ s W′ R′ S
+  at-line {R} {R′} {S} {l} {m} {line} f e q a = record {
     line = line;
-    reads = subst (λ o. Tells o (ended T′)) (ap meant e ∙ q) (f .tells);
-    stepped = subst (λ x. SteppedAs W R g (seatOf (Readable x)) line s W′ R′) (sym e) a;
+    reads = subst (λ o. Tells o (ended T′)) (ap meant e ∙ q) (f .tells) _;
+    stepped = subst (λ x. SteppedAs W R g (seatOf (Readable x)) line s W′ R′ S) (sym e) a;
   }
 
-  -- a line on the pool
-  pub at-pool : {l m : Held} {line : Line} → ReadFrom l T′ → l ≡ m → meant m ≡ some line → 0 ≡ seatOf (Readable m) → SteppedOnPool W g line s W′ → (R : List ℕ) → AllIn W R → SteppedBy W R g (seatOf (Readable l)) T′ s W′ R
-  at-pool {l} {m} {line} f e q z a R w = at-line f e q (subst (λ k. SteppedAs W R g k line s W′ R) z (a .over R w))
+  pub at-setup : {S : List ℕ} {l : Held} → l ≡ is.Setup → SetUpBy W g T′ s W′ S → (R : List ℕ) → AllIn W R → SteppedBy W R g (seatOf (Readable l)) T′ s W′ R S
+  at-setup {S} e a R w = subst (λ x. SteppedBy W R g (seatOf (Readable x)) T′ s W′ R S) (sym e) (a .over R w)
 
-  pub at-lie : {l : Held} → l ≡ is.Lie → SteppedOnPoolBy W g T′ s W′ → (R : List ℕ) → AllIn W R → SteppedBy W R g (seatOf (Readable l)) T′ s W′ R
-  at-lie e a R w = subst (λ x. SteppedBy W R g (seatOf (Readable x)) T′ s W′ R) (sym e) (a .over R w)
+  pub at-lie : {l : Held} → l ≡ is.Lie → SteppedOnPoolBy W g T′ s W′ → (R S : List ℕ) → AllIn W R → SteppedBy W R g (seatOf (Readable l)) T′ s W′ R S
+  at-lie e a R S w = subst (λ x. SteppedBy W R g (seatOf (Readable x)) T′ s W′ R S) (sym e) (a .over R S w)
 
-  pub at-told : (l : ReadStatement) → LiedOf T′ l → l .ok ≡ true → SteppedOnPool W g (lie (stmtOf (l .statement))) s W′ → SteppedOnPoolBy W g T′ s W′
-  at-told l of e a = record { over = λ R w. record { line = lie (stmtOf (l .statement)); reads = of .told e; stepped = a .over R w } }
+  module _ (B : List ℕ) (l : ReadStatement) (of : LiedOf T′ (g .notices) B l) where
+    pub at-told : l .ok ≡ true → SteppedOnPool W g (lie (stmtOf (l .statement) B)) s W′ → SteppedOnPoolBy W g T′ s W′
+    at-told e a = record { over = λ R S w. record { line = lie (stmtOf (l .statement) B); reads = of .told e; stepped = a .over R S w } }
 
-  pub at-untold : Lying T′ → (l : ReadStatement) → LiedOf T′ l → l .ok ≡ false → SteppedOnPool W g noStatement s W′ → SteppedOnPoolBy W g T′ s W′
-  at-untold t l of e a = record { over = λ R w. record { line = noStatement; reads = lie-untold T′ t (of .untold e); stepped = a .over R w } }
+    pub at-untold : Lying T′ → l .ok ≡ false → SteppedOnPool W g noStatement s W′ → SteppedOnPoolBy W g T′ s W′
+    at-untold t e a = record { over = λ R S w. record { line = noStatement; reads = lie-untold T′ t (min (g .notices) 64) (of .untold e); stepped = a .over R S w } }
 
 -- a gift, to one record
-module _ {W R R′ : List ℕ} {g : Setting} {s : Effect} {r : Given} (T′ : List ℕ) (d : Distinct W) {l : Held} {k : ℕ} (f : ReadFrom l T′) where
-  pub at-give : {n : ℕ} → l ≡ is.Give k n → Gives W R (g .ready) n r R′ → ToldAs g k r s → SteppedBy W R g (seatOf (Readable l)) T′ s W R′
-  at-give e m t = at-line T′ f e refl (stepped-seated (fit-at f e) d (m .to k) t)
+module _ {W R R′ : List ℕ} (S : List ℕ) {g : Setting} {s : Effect} {r : Given} (T′ : List ℕ) (d : Distinct W) {l : Held} {k : ℕ} (f : ReadFrom l T′) where
+  pub at-give : {n : ℕ} → l ≡ is.Give k n → Gives W R (g .ready) n r R′ → ToldAs g k r s → SteppedBy W R g (seatOf (Readable l)) T′ s W R′ S
+  at-give e m t = at-line T′ f e refl (stepped-seated S (fit-at f e) d (m .to k) t)
 
-  pub at-all : l ≡ is.All k → GivesAll W R (g .ready) r R′ → ToldAs g k r s → SteppedBy W R g (seatOf (Readable l)) T′ s W R′
-  at-all e m t = at-line T′ f e refl (stepped-seated (fit-at f e) d (m .to k) t)
+  pub at-all : l ≡ is.All k → GivesAll W R (g .ready) r R′ → ToldAs g k r s → SteppedBy W R g (seatOf (Readable l)) T′ s W R′ S
+  at-all e m t = at-line T′ f e refl (stepped-seated S (fit-at f e) d (m .to k) t)

@@ -1,4 +1,4 @@
--- The bench: sixteen controllers over one pool, and what a line does to it (document 01, "Bench schedule" and "Returned on refusal").
+-- The bench: sixteen controllers over one pool, and what a line does to it (document 01, "Bench schedule" and "Returned on refusal"; document 02, A1).
 -- Assumes nothing.
 use mathlib.Core.Bool.{Bool, true, false, not, _||_}
 use mathlib.Core.List.{List, [], _∷_, _++_}
@@ -7,14 +7,13 @@ use Prim.Native.Nat.{ℕ, _+_}
 use lib.Dec.{leb, ltb}
 use lib.ListN.{length, getD, set}
 use Rattle.protocol.specs.Sets.{bit}
-use Rattle.protocol.specs.Lists.{if_then_else_, any, filter}
+use Rattle.protocol.specs.Lists.{if_then_else_, any, filter, listOf}
 use Rattle.protocol.specs.View.{controllers}
 use Rattle.protocol.specs.Statement.{Stmt, sameStmt, noStmt}
-use Rattle.protocol.specs.Controller.{Controller, notSetUp, Refusal, badSetup, badStatement, repeated, full, outOfPlace, Answer, taken, signed, entered, delivered, left, quiet, refused, Outcome}
+use Rattle.protocol.specs.Controller.{Controller, notSetUp, Refusal, badSetup, badStatement, repeated, full, outOfPlace, unknownNotice, Answer, taken, signed, entered, delivered, left, quiet, refused, Outcome}
 use Rattle.protocol.specs.Call.{setupAllowed, started, requestJoin, requestLeave, requestSend}
 use Rattle.protocol.specs.Pool.{numberOf, pooled, hasRoom}
 use Rattle.protocol.specs.Turn.{turn as turnOf}
-use Rattle.views.specs.Table.{table}
 use Rattle.schedule.specs.Line.{Line, setup, join, leave, send, give, all, turn, lie, noStatement}
 
 -- A controller and its record.
@@ -29,12 +28,14 @@ emptySeat = record { controller = notSetUp; statements = [] }
 pub record Bench : Type 0 where
   pub isSetUp : Bool
   pub faulty : ℕ
+  -- The number of notices of the setup; "before one, for one notice".
+  pub notices : ℕ
   pub seats : List Seat
   pub pool : List Stmt
 
 -- The bench before a setup.
 abbrev pub newBench : Bench
-newBench = record { isSetUp = false; faulty = 0; seats = table controllers (λ k. emptySeat); pool = [] }
+newBench = record { isSetUp = false; faulty = 0; notices = 1; seats = listOf controllers (λ k. emptySeat); pool = [] }
 
 -- What a line answers, with whom its row names and the number that its value may need: a statement's number or a count.
 pub record Reply : Type 0 where
@@ -50,6 +51,11 @@ pub record Stepped : Type 0 where
 abbrev pub nobody : ℕ
 nobody = 16
 
+-- "its row shows notice 0's" sender, nobody where that is above 15; "with a count of 0 the row shows 16".
+unfoldable pub shownSender : List ℕ → ℕ
+shownSender [] = nobody
+shownSender (k ∷ senders) = if ltb k controllers then k else nobody
+
 module _ (b : Bench) where
   -- Refused: "all as before".
   abbrev pub refuseLine : ℕ → Refusal → Stepped
@@ -62,23 +68,23 @@ module _ (b : Bench) where
   abbrev pub at : ℕ → Outcome → List Stmt → ℕ → Stepped
   at k o P number = record {
     reply = record { who = k; answer = o .answer; number = number };
-    bench = record { isSetUp = b .isSetUp; faulty = b .faulty; seats = set (b .seats) k (record { controller = o .controller; statements = o .statements }); pool = P };
+    bench = record { isSetUp = b .isSetUp; faulty = b .faulty; notices = b .notices; seats = set (b .seats) k (record { controller = o .controller; statements = o .statements }); pool = P };
   }
 
   -- "Before setup 8 comes first."
   abbrev pub onceSetUp : ℕ → Stepped → Stepped
   onceSetUp who s = if b .isSetUp then s else refuseLine who outOfPlace
 
-  -- "a setup that is taken starts all sixteen controllers on an empty pool". Its row names the sender, or nobody where the sender is above 15.
-  unfoldable pub setUp : ℕ → ℕ → ℕ → Stepped
-  setUp members sender faulty =
-      if b .isSetUp || not (setupAllowed 0 members sender) then refuseLine (if ltb sender controllers then sender else nobody) badSetup
+  -- "a setup that is taken starts all sixteen controllers on an empty pool".
+  unfoldable pub setUp : ℕ → List ℕ → ℕ → Stepped
+  setUp members senders faulty =
+      if b .isSetUp || not (setupAllowed 0 members senders) then refuseLine (shownSender senders) badSetup
       else record {
-        reply = record { who = sender; answer = taken; number = 0 };
-        bench = record { isSetUp = true; faulty = faulty; seats = table controllers (λ k. record { controller = started k members sender; statements = [] }); pool = [] };
+        reply = record { who = shownSender senders; answer = taken; number = 0 };
+        bench = record { isSetUp = true; faulty = faulty; notices = length senders; seats = listOf controllers (λ k. record { controller = started k members senders; statements = [] }); pool = [] };
       }
 
-  -- "Give adds statement n to k's record". "Give: 8, 3, 4."
+  -- "Give adds statement n to k's record". "Give: 8, 3, 4." (Nothing in the pool would get 9.)
   unfoldable pub giveTo : ℕ → ℕ → Stepped
   giveTo k n =
       onceSetUp k (if leb (length (b .pool)) n then refuseLine k outOfPlace
@@ -100,7 +106,7 @@ module _ (b : Bench) where
   afterTurn k o (signed s) = at k o (pooled s (b .pool)) (numberOf s (b .pool))
   afterTurn k o taken = at k o (b .pool) 0
   afterTurn k o (entered v) = at k o (b .pool) 0
-  afterTurn k o (delivered m) = at k o (b .pool) 0
+  afterTurn k o (delivered i m) = at k o (b .pool) 0
   afterTurn k o left = at k o (b .pool) 0
   afterTurn k o quiet = at k o (b .pool) 0
   afterTurn k o (refused r) = at k o (b .pool) 0
@@ -110,24 +116,26 @@ module _ (b : Bench) where
       let o : Outcome = turnOf (seat k .controller) (seat k .statements) (hasRoom (b .pool)) in
       afterTurn k o (o .answer)
 
-  -- "a lie changes the pool alone". "A lie line after setup: 2, 8 for its origin, 3, 4." (2 is the case of noStatement.)
+  -- "a lie changes the pool alone". "A lie line after setup: 2, 8 for its origin, 3, 4." (2 is the case of noStatement.) "a notice number not in the setup gets 9 ..,
+  -- after 2 and a lie's 8, before 3".
   unfoldable pub lieOf : Stmt → Stepped
   lieOf s =
       onceSetUp (s .origin) (if not (bit (b .faulty) (s .origin)) then refuseLine (s .origin) outOfPlace
+      else if not (ltb (s .notice) (b .notices)) then refuseLine (s .origin) unknownNotice
       else if any (sameStmt s) (b .pool) then refuseLine (s .origin) repeated
       else if leb 512 (length (b .pool)) then refuseLine (s .origin) full
       else record {
         reply = record { who = s .origin; answer = taken; number = length (b .pool) };
-        bench = record { isSetUp = b .isSetUp; faulty = b .faulty; seats = b .seats; pool = b .pool ++ (s ∷ []) };
+        bench = record { isSetUp = b .isSetUp; faulty = b .faulty; notices = b .notices; seats = b .seats; pool = b .pool ++ (s ∷ []) };
       })
 
   -- What a line does. A line that reads as none is refused with 8.
   unfoldable pub step : Option Line → Stepped
   step none = refuseLine nobody outOfPlace
-  step (some (setup members sender faulty)) = setUp members sender faulty
+  step (some (setup members senders faulty)) = setUp members senders faulty
   step (some (join k)) = at k (requestJoin (seat k .controller) (seat k .statements)) (b .pool) 0
   step (some (leave k)) = at k (requestLeave (seat k .controller) (seat k .statements)) (b .pool) 0
-  step (some (send k payload)) = at k (requestSend (seat k .controller) (seat k .statements) payload) (b .pool) 0
+  step (some (send k notice payload)) = at k (requestSend (seat k .controller) (seat k .statements) notice payload) (b .pool) 0
   step (some (give k n)) = giveTo k n
   step (some (all k)) = giveAll k
   step (some (turn k)) = turnAt k

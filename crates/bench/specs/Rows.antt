@@ -11,7 +11,7 @@ use Rattle.protocol.specs.Lists.{if_then_else_}
 use Rattle.protocol.specs.Controller.{Answer, taken, signed, entered, delivered, left, quiet, refused, outOfPlace, Value, number, view, answerValue}
 use Rattle.text.specs.Text.{decText}
 use Rattle.statements.specs.Text.{parted, viewText}
-use Rattle.schedule.specs.Line.{Line, lines, ReadAll}
+use Rattle.schedule.specs.Line.{Line, lines, Reads}
 use Rattle.bench.specs.Bench.{Bench, newBench, Reply, step, nobody}
 
 -- The answers' words, in ASCII.
@@ -19,7 +19,7 @@ abbrev pub wordText : Answer → List ℕ
 wordText taken = 116 ∷ 97 ∷ 107 ∷ 101 ∷ 110 ∷ []
 wordText (signed s) = 115 ∷ 105 ∷ 103 ∷ 110 ∷ 101 ∷ 100 ∷ []
 wordText (entered v) = 101 ∷ 110 ∷ 116 ∷ 101 ∷ 114 ∷ 101 ∷ 100 ∷ []
-wordText (delivered m) = 100 ∷ 101 ∷ 108 ∷ 105 ∷ 118 ∷ 101 ∷ 114 ∷ 101 ∷ 100 ∷ []
+wordText (delivered i m) = 100 ∷ 101 ∷ 108 ∷ 105 ∷ 118 ∷ 101 ∷ 114 ∷ 101 ∷ 100 ∷ []
 wordText left = 108 ∷ 101 ∷ 102 ∷ 116 ∷ []
 wordText quiet = 113 ∷ 117 ∷ 105 ∷ 101 ∷ 116 ∷ []
 wordText (refused r) = 114 ∷ 101 ∷ 102 ∷ 117 ∷ 115 ∷ 101 ∷ 100 ∷ []
@@ -41,6 +41,13 @@ unfoldable pub rowsFrom : ℕ → Bench → List (Option Line) → List ℕ
 rowsFrom n b [] = []
 rowsFrom n b (l ∷ L) = rowText n (step b l .reply) ++ rowsFrom (suc n) (step b l .bench) L
 
+-- Every line reads so, in the ring that the lines before it left.
+abbrev pub ReadAll : Bench → List (List ℕ) → List (Option Line) → Type 0
+ReadAll b [] [] = Unit {0}
+ReadAll b [] (o ∷ O) = ⊥
+ReadAll b (S ∷ L) [] = ⊥
+ReadAll b (S ∷ L) (o ∷ O) = Reads (b .notices) S o × ReadAll (step b o .bench) L O
+
 -- "an empty or longer one prints the header and 0,16,refused,8 alone"
 abbrev pub refusedRow : List ℕ
 refusedRow = rowText 0 (record { who = nobody; answer = refused outOfPlace; number = 0 })
@@ -48,7 +55,7 @@ refusedRow = rowText 0 (record { who = nobody; answer = refused outOfPlace; numb
 -- out is what is printed for the schedule. A schedule that is too long is not read.
 pub record Printed (schedule out : List ℕ) : Type 0 where
   pub reading : List (Option Line)
-  pub reads : length schedule ≤ 65536 → ReadAll (lines schedule) reading
+  pub reads : length schedule ≤ 65536 → ReadAll newBench (lines schedule) reading
   pub prints : out ≡ headerText ++ (if eqb (length schedule) 0 || ltb 65536 (length schedule) then refusedRow else rowsFrom 1 newBench reading)
 
 -- What running a schedule over the memory `rows` answers and leaves in it. What is printed stands from the start, r is its length, and all after it is as it was;

@@ -6,21 +6,23 @@ use mathlib.Core.List.{List, [], _++_}
 use mathlib.Core.Option.{Option, some}
 use Prim.Native.Nat.{ℕ, _+_, _*_, _<_, _≤_}
 use lib.ListN.{length, getD, drop}
+use Rattle.protocol.specs.Lists.{listOf}
 use Rattle.protocol.specs.Call.{started}
 use Rattle.text.specs.Written.{Wrote}
-use Rattle.views.specs.Table.{table}
 use Rattle.pool.specs.Pool.{recordLen, AllIn}
 use Rattle.engine.specs.declared.Controller.{Controller}
 use Rattle.engine.specs.declared.Answer.{Answer}
 use Rattle.engine.specs.Meaning.{controllerIs}
 use Rattle.bench.specs.declared.state.Setting.{Setting}
+use Rattle.bench.specs.declared.state.Verdict.{Verdict}
+use Rattle.bench.specs.declared.state.Verdict.the-variants.{Open}
 use Rattle.bench.specs.declared.lines.Place.{Place}
 use Rattle.bench.specs.declared.lines.Moved.{Moved}
-use Rattle.schedule.specs.Line.{Line, ended, lines, Reads, ReadAll}
+use Rattle.schedule.specs.Line.{Line, ended, lines, Reads}
 use Rattle.bench.specs.Bench.{Seat, Bench, Reply, newBench}
-use Rattle.bench.specs.Rows.{rowText, rowsFrom, Printed}
+use Rattle.bench.specs.Rows.{rowText, rowsFrom, ReadAll, Printed}
 use Rattle.bench.specs.Writing.{rowOf}
-use Rattle.bench.specs.Seats.{blank, seatIs, benchOf, Distinct, Full, Advanced, wordOfAnswer, valueOfAnswer}
+use Rattle.bench.specs.Seats.{blank, seatIs, termsOf, benchOf, Distinct, Full, IfIdle, Rests, Advanced, wordOfAnswer, valueOfAnswer}
 
 -- The row of a line.
 unfoldable pub rowIs : ℕ → ℕ → Answer → ℕ → List ℕ
@@ -28,11 +30,11 @@ rowIs n who a number = rowOf n who (wordOfAnswer a) (valueOfAnswer a number)
 
 -- The sixteen seats.
 unfoldable pub seatsIs : List ℕ → List Controller → List (List ℕ) → List Seat
-seatsIs W cs Rs = table 16 (λ k. seatIs W (getD cs k blank) (getD Rs k []))
+seatsIs W cs Rs = listOf 16 (λ k. seatIs W (getD cs k blank) (getD Rs k []))
 
 -- The bench in memory.
 abbrev pub benchIs : Setting → List ℕ → List Controller → List (List ℕ) → Bench
-benchIs g W cs Rs = benchOf (g .ready) (g .faulty) (seatsIs W cs Rs) W
+benchIs g W cs Rs = benchOf (g .ready) (termsOf g) (seatsIs W cs Rs) W
 
 -- What the bench keeps of its pool, its controllers and their records.
 pub record BenchKept (W : List ℕ) (cs : List Controller) (Rs : List (List ℕ)) : Type 0 where
@@ -46,16 +48,21 @@ pub record Fulls (Rs : List (List ℕ)) (fs : List ℕ) : Type 0 where
   pub long : length fs ≡ 16
   pub each : (k : ℕ) → k < 16 → Full (getD Rs k []) (getD fs k 0)
 
+-- What is known of the next turn of controller k is at k in vs.
+pub record Turnings (W : List ℕ) (cs : List Controller) (Rs : List (List ℕ)) (vs : List Verdict) : Type 0 where
+  pub long : length vs ≡ 16
+  pub each : (k : ℕ) → k < 16 → IfIdle (getD vs k Open) (Rests W (getD Rs k []) (getD cs k blank))
+
 -- Every controller has just started, with an empty record.
-pub record Started (members sender : ℕ) (cs : List Controller) (Rs : List (List ℕ)) : Type 0 where
+pub record Started (members : ℕ) (senders : List ℕ) (cs : List Controller) (Rs : List (List ℕ)) : Type 0 where
   pub long : length cs ≡ 16
   pub records : length Rs ≡ 16
-  pub each : (k : ℕ) → k < 16 → (controllerIs (getD cs k blank) ≡ started k members sender) × (recordLen (getD Rs k []) ≡ 0)
+  pub each : (k : ℕ) → k < 16 → (controllerIs (getD cs k blank) ≡ started k members senders) × (recordLen (getD Rs k []) ≡ 0)
 
 -- The whole schedule reads so, and its rows are those printed and then those of the rest.
 pub record Reading (S : List ℕ) (printed rest : List ℕ) : Type 0 where
   pub reading : List (Option Line)
-  pub reads : ReadAll (lines S) reading
+  pub reads : ReadAll newBench (lines S) reading
   pub rows : rowsFrom 1 newBench reading ≡ printed ++ rest
 
 -- The lines before the place were run, and b is the bench; `printed` stands in the rows R′ after the header.
@@ -65,12 +72,13 @@ pub record RunSoFar (S : List ℕ) (place : Place) (b : Bench) (R R′ : List �
   pub small : length printed ≤ 40 * place .at
   pub number : place .n ≤ place .at + 1
   pub within : place .at ≤ length S
-  pub rest : (L : List (Option Line)) → ReadAll (lines (drop (place .at) S)) L → Reading S printed (rowsFrom (place .n) b L)
+  pub rest : (L : List (Option Line)) → ReadAll b (lines (drop (place .at) S)) L → Reading S printed (rowsFrom (place .n) b L)
 
 -- A run before the first line, with the rows after the header.
 pub record AtStart (place : Place) : Type 0 where
   pub ready : place .setting .ready ≡ false
   pub faulty : place .setting .faulty ≡ 0
+  pub notices : place .setting .notices ≡ 1
   pub at : place .at ≡ 0
   pub number : place .n ≡ 1
   pub out : place .out ≡ 22
@@ -98,13 +106,13 @@ abbrev pub fullAfter : Bool → ℕ → ℕ → ℕ
 fullAfter true n full = n
 fullAfter false n full = full
 
--- The line in the text T, which calls no controller, was run on the record R at seat k.
-pub record LineRun (W R : List ℕ) (place : Place) (k : ℕ) (T : List ℕ) (rows : List ℕ) (s : Moved) (W′ R′ rows′ : List ℕ) : Type 0 where
+-- The line in the text T, which calls no controller, was run on the record R at seat k; the senders of a setup stand in the memory S after it.
+pub record LineRun (W R : List ℕ) (place : Place) (k : ℕ) (T : List ℕ) (rows : List ℕ) (s : Moved) (W′ R′ rows′ S : List ℕ) : Type 0 where
   pub line : Line
-  pub reads : Reads (ended T) (some line)
+  pub reads : Reads (termsOf (place .setting) .notices) (ended T) (some line)
   pub reply : Reply
   pub passed : RowWritten rows place (length T + 1) (rowText (place .n) reply) (s .place) rows′
-  pub advanced : Advanced W R (place .setting) k line reply (s .place .setting) (s .fresh) W′ R′
+  pub advanced : Advanced W R (place .setting) k line reply (s .place .setting) (s .fresh) W′ R′ S
   pub full-is : s .fresh ≡ false → Full R′ (s .full)
 
 -- The rows of a schedule stand after the header.

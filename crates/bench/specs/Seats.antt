@@ -4,23 +4,24 @@ use mathlib.Core.Path.{_≡_}
 use mathlib.Core.Bool.{Bool, true, false, not}
 use mathlib.Core.List.{List, [], _++_}
 use mathlib.Core.Option.{some}
-use Prim.Native.Nat.{ℕ, _+_, _<_, _≤_}
-use lib.Dec.{eqb}
+use Prim.Native.Nat.{ℕ, _+_, _<_, _≤_, min}
+use lib.Dec.{eqb, ltb}
 use lib.ListN.{length, getD, set}
-use Rattle.protocol.specs.Lists.{if_then_else_, any, filter}
-use Rattle.protocol.specs.View.{controllers}
-use Rattle.protocol.specs.Statement.{sameStmt}
+use Rattle.protocol.specs.Lists.{if_then_else_, any, filter, listOf}
+use Rattle.protocol.specs.Sets.{bit}
+use Rattle.protocol.specs.View.{controllers, member}
+use Rattle.protocol.specs.Statement.{Stmt, sameStmt}
 use Rattle.protocol.specs.Call.{setupAllowed, started}
-use Rattle.views.specs.Table.{table}
-use Rattle.statements.specs.declared.Binding.the-variants.{Unbound}
+use Rattle.protocol.specs.Turn.{turn as turnOf}
+use Rattle.views.specs.Held.{viewIs}
 use Rattle.pool.specs.Pool.{stmtAt, poolLen, recordLen, recordIn, poolOf, AllIn, Grows}
 use Rattle.engine.specs.declared.Controller.{Controller}
 use Rattle.engine.specs.declared.Outcome.{Outcome}
-use Rattle.rules.specs.declared.OptionalPayload.the-variants.{Nothing}
 use Rattle.engine.specs.declared.Answer.{Answer}
 use Rattle.engine.specs.declared.Refusal.{Refusal}
+use Rattle.engine.specs.declared.Refusal.the-variants.{BadRequest, UnknownNotice}
 use Rattle.engine.specs.declared.Answer.the-variants.{Taken, Signed, Entered, Delivered, Left, Quiet, Refused}
-use Rattle.engine.specs.Meaning.{controllerIs, answerIs, refusalIs}
+use Rattle.engine.specs.Meaning.{firstSenders, controllerIs, signedNumber, answerIs, refusalIs}
 use Rattle.protocol.specs.Controller.{refusalNumber, taken}
 use Rattle.schedule.specs.declared.line.Line.{Line as Held}
 use Rattle.schedule.specs.declared.line.Line.the-variants as is
@@ -33,10 +34,12 @@ use Rattle.bench.specs.declared.row.Value.the-variants as value
 use Rattle.bench.specs.declared.seat.Given.{Given}
 use Rattle.bench.specs.declared.state.Setting.{Setting}
 use Rattle.bench.specs.declared.state.Effect.{Effect}
+use Rattle.bench.specs.declared.state.Verdict.{Verdict}
+use Rattle.bench.specs.declared.state.Verdict.the-variants.{Idle, Open}
 use Rattle.schedule.specs.Line.{Line, ended, Reads}
 use Rattle.schedule.specs.Line as lines
-use Rattle.schedule.specs.Reading.{meant, Tells}
-use Rattle.bench.specs.Bench.{Seat, emptySeat, Bench, Reply, step}
+use Rattle.schedule.specs.Reading.{aLine, meant, Tells}
+use Rattle.bench.specs.Bench.{Seat, emptySeat, Bench, nobody, Reply, step}
 
 -- What stands past the end of a list of controllers.
 abbrev pub blank : Controller
@@ -44,22 +47,33 @@ blank = record {
   ready = false;
   number = 0;
   init = record { joined = 0; left = 0 };
-  sender = 0;
+  notices = 0;
+  senders = [];
   entered = record { views = []; len = 0 };
-  binding = Unbound;
-  delivered = false;
+  held = [];
+  sends = [];
+  delivered = 0;
+  requested = 0;
   joining = false;
   leaving = false;
-  sending = Nothing;
 }
 
 -- A controller and its record.
 abbrev pub seatIs : List ℕ → Controller → List ℕ → Seat
 seatIs W c R = record { controller = controllerIs c; statements = recordIn W R }
 
+-- What a setup says of the whole ring: the faulty set and the number of notices.
+pub record Terms : Type 0 where
+  pub faulty : ℕ
+  pub notices : ℕ
+
+-- A number of notices above 64 counts as 64.
+abbrev pub termsOf : Setting → Terms
+termsOf g = record { faulty = g .faulty; notices = min (g .notices) 64 }
+
 -- The bench with these seats over the pool's memory.
-abbrev pub benchOf : Bool → ℕ → List Seat → List ℕ → Bench
-benchOf ready faulty X W = record { isSetUp = ready; faulty = faulty; seats = X; pool = poolOf W }
+abbrev pub benchOf : Bool → Terms → List Seat → List ℕ → Bench
+benchOf ready t X W = record { isSetUp = ready; faulty = t .faulty; notices = t .notices; seats = X; pool = poolOf W }
 
 -- Two numbers of the pool stand for the same statement just where they are the same.
 pub record Distinct (W : List ℕ) : Type 0 where
@@ -73,7 +87,7 @@ pub record Sound (W R : List ℕ) : Type 0 where
 -- ---- a record's numbers
 
 unfoldable pub numbersIn : List ℕ → List ℕ
-numbersIn R = table (recordLen R) (λ i. getD R i 0)
+numbersIn R = listOf (recordLen R) (λ i. getD R i 0)
 
 -- Whether n is one of them.
 unfoldable pub hasNumber : List ℕ → ℕ → Bool
@@ -92,7 +106,7 @@ unfoldable pub NumbersBelow : List ℕ → ℕ → Type 0
 NumbersBelow R m = (i : ℕ) → i < recordLen R → getD R i 0 < m
 
 -- marks tell which numbers below 512 the record has.
-pub record Marks (R : List ℕ) (marks : List Bool) : Type 0 where
+pub record NumberMarks (R : List ℕ) (marks : List Bool) : Type 0 where
   pub tells : (n : ℕ) → n < 512 → getD marks n false ≡ hasNumber R n
 
 -- Every number from i on, below j, has a mark.
@@ -108,7 +122,7 @@ pub record FirstFree (marks : List Bool) (i n r : ℕ) : Type 0 where
 
 -- The numbers below n that have no mark, rising.
 unfoldable pub unmarked : List Bool → ℕ → List ℕ
-unmarked marks n = filter (λ i. not (getD marks i false)) (table n (λ i. i))
+unmarked marks n = filter (λ i. not (getD marks i false)) (listOf n (λ i. i))
 
 -- The numbers below n that had no mark are at the end of the record, if it had room for all of them.
 pub record RecordFilled (R : List ℕ) (marks : List Bool) (n : ℕ) (R′ : List ℕ) : Type 0 where
@@ -119,11 +133,11 @@ pub record RecordFilled (R : List ℕ) (marks : List Bool) (n : ℕ) (R′ : Lis
 
 -- The line l, which names seat k, was answered so: what it does to every bench that has the record R there.
 pub record GivenAtSeat (W R : List ℕ) (ready : Bool) (k : ℕ) (l : Line) (r : Given) (R′ : List ℕ) : Type 0 where
-  pub steps : (faulty : ℕ) (X : List Seat) → getD X k emptySeat .statements ≡ recordIn W R
-      → step (benchOf ready faulty X W) (some l)
+  pub steps : (terms : Terms) (X : List Seat) → getD X k emptySeat .statements ≡ recordIn W R
+      → step (benchOf ready terms X W) (some l)
       ≡ record {
         reply = record { who = k; answer = answerIs W (r .answer); number = r .number };
-        bench = benchOf ready faulty (set X k (record { controller = getD X k emptySeat .controller; statements = recordIn W R′ })) W;
+        bench = benchOf ready terms (set X k (record { controller = getD X k emptySeat .controller; statements = recordIn W R′ })) W;
       }
   pub whole : AllIn W R′
   pub keeps : Keeps R R′
@@ -138,33 +152,23 @@ pub record GivesAll (W R : List ℕ) (ready : Bool) (r : Given) (R′ : List ℕ
 
 -- ---- a call
 
--- The number beside an engine's answer: of a signed statement its own.
-abbrev pub numberIs : Answer → ℕ
-numberIs Taken = 0
-numberIs (Signed n) = n
-numberIs (Entered v) = 0
-numberIs (Delivered m) = 0
-numberIs Left = 0
-numberIs Quiet = 0
-numberIs (Refused r) = 0
-
 -- Whether a call that answers so may have changed its controller.
 abbrev pub changesIs : Answer → Bool
 changesIs Taken = true
 changesIs (Signed n) = true
 changesIs (Entered v) = true
-changesIs (Delivered m) = true
+changesIs (Delivered i m) = true
 changesIs Left = false
 changesIs Quiet = false
 changesIs (Refused r) = false
 
 -- The line l calls controller c at seat k, which has the record R: what it does to every bench that has them there.
 pub record CalledAtSeat (W R : List ℕ) (c : Controller) (k : ℕ) (l : Line) (o : Outcome) (W′ R′ : List ℕ) : Type 0 where
-  pub steps : (ready : Bool) (faulty : ℕ) (X : List Seat) → getD X k emptySeat ≡ seatIs W c R
-      → step (benchOf ready faulty X W) (some l)
+  pub steps : (ready : Bool) (terms : Terms) (X : List Seat) → getD X k emptySeat ≡ seatIs W c R
+      → step (benchOf ready terms X W) (some l)
       ≡ record {
-        reply = record { who = k; answer = answerIs W′ (o .answer); number = numberIs (o .answer) };
-        bench = benchOf ready faulty (set X k (seatIs W′ (o .controller) R′)) W′;
+        reply = record { who = k; answer = answerIs W′ (o .answer); number = signedNumber (o .answer) };
+        bench = benchOf ready terms (set X k (seatIs W′ (o .controller) R′)) W′;
       }
   pub sound : Sound W′ R′
   pub grows : Grows W W′
@@ -176,10 +180,10 @@ pub record CalledAtSeat (W R : List ℕ) (c : Controller) (k : ℕ) (l : Line) (
 
 -- The controller that a line names; 0 where it names none.
 abbrev pub seatOf : Parsed → ℕ
-seatOf (Readable (is.Setup members sender faulty)) = 0
+seatOf (Readable is.Setup) = 0
 seatOf (Readable (is.Join k)) = k
 seatOf (Readable (is.Leave k)) = k
-seatOf (Readable (is.Send k m)) = k
+seatOf (Readable (is.Send k i m)) = k
 seatOf (Readable (is.Give k n)) = k
 seatOf (Readable (is.All k)) = k
 seatOf (Readable (is.Turn k)) = k
@@ -188,10 +192,10 @@ seatOf Unreadable = 0
 
 -- Whether a line calls the controller that it names.
 abbrev pub isCall : Held → Bool
-isCall (is.Setup members sender faulty) = false
+isCall is.Setup = false
 isCall (is.Join k) = true
 isCall (is.Leave k) = true
-isCall (is.Send k m) = true
+isCall (is.Send k i m) = true
 isCall (is.Give k n) = false
 isCall (is.All k) = false
 isCall (is.Turn k) = true
@@ -201,48 +205,113 @@ isCall is.Lie = false
 pub record ReadFrom (l : Held) (T : List ℕ) : Type 0 where
   pub tells : Tells (meant l) (ended T)
 
+-- ---- a call that changes nothing
+
+-- P holds of the answer, if the call is known to change nothing.
+abbrev pub IfIdle : Verdict → (Answer → Type 0) → Type 0
+IfIdle (Idle a) P = P a
+IfIdle Open P = Unit {0}
+
+-- A turn of the controller c with the record R answers a and changes nothing, whatever room the pool has.
+pub record Rests (W R : List ℕ) (c : Controller) (a : Answer) : Type 0 where
+  pub idle : changesIs a ≡ false
+  pub turns : (room : Stmt → Bool) → turnOf (controllerIs c) (recordIn W R) room ≡ record { answer = answerIs W a; controller = controllerIs c; statements = recordIn W R }
+
+-- What is known of the next turn of a controller whose turn answered so: it answers the same where nothing was to do.
+abbrev pub turnAfter : Answer → Verdict
+turnAfter Taken = Open
+turnAfter (Signed n) = Open
+turnAfter (Entered v) = Open
+turnAfter (Delivered i m) = Open
+turnAfter Left = Idle Left
+turnAfter Quiet = Idle Quiet
+turnAfter (Refused r) = Open
+
+-- The same after any line.
+abbrev pub nextTurn : Held → Answer → Verdict
+nextTurn is.Setup a = Open
+nextTurn (is.Join k) a = Open
+nextTurn (is.Leave k) a = Open
+nextTurn (is.Send k i m) a = Open
+nextTurn (is.Give k n) a = Open
+nextTurn (is.All k) a = Open
+nextTurn (is.Turn k) a = turnAfter a
+nextTurn is.Lie a = Open
+
 -- The line l calls the controller c, which has the record R.
 pub record CalledByLine (W R : List ℕ) (c : Controller) (l : Held) (o : Outcome) (W′ R′ : List ℕ) : Type 0 where
   pub line : Line
-  pub means : meant l ≡ some line
+  pub means : meant l ≡ aLine line
   pub called : CalledAtSeat W R c (seatOf (Readable l)) line o W′ R′
+  pub rests : IfIdle (nextTurn l (o .answer)) (Rests W′ R′ (o .controller))
+
+-- The senders that a setup read into the memory S.
+abbrev pub sendersIn : Setting → List ℕ → List ℕ
+sendersIn g S = firstSenders S (g .notices)
+
+abbrev pub denied : Refusal → Verdict
+denied q = Idle (Refused q)
+
+unfoldable pub joinVerdict : Controller → Verdict
+joinVerdict c = if member (viewIs (c .init)) (c .number) then denied BadRequest else if c .joining then denied BadRequest else Open
+
+unfoldable pub leaveVerdict : Controller → Verdict
+leaveVerdict c = if eqb (c .entered .len) 0 then denied BadRequest else if c .leaving then denied BadRequest else Open
+
+unfoldable pub sendVerdict : Controller → ℕ → Verdict
+sendVerdict c notice =
+    if not (ltb notice (min (c .notices) 64)) then denied UnknownNotice
+    else if not (eqb (c .number) (getD (c .senders) notice 0)) then denied BadRequest else if bit (c .requested) notice then denied BadRequest else Open
+
+-- The call of the line l on the controller c, of whose turn `turn` is known, answers so and changes nothing, if that is known of it.
+pub record Judged (c : Controller) (l : Held) (turn v : Verdict) : Type 0 where
+  pub answers : (W R : List ℕ) → Sound W R → IfIdle turn (Rests W R c) → IfIdle v (λ a. CalledByLine W R c l (record { answer = a; controller = c }) W R)
 
 -- The seats after a line that calls no controller: a setup that is taken starts all of them, every other line changes at most one record.
-abbrev pub seatsAfter : Bool → Setting → List ℕ → List ℕ → ℕ → List Seat → List Seat
-seatsAfter fresh g W′ R′ k X =
-    if fresh then table controllers (λ j. record { controller = started j (g .members) (g .sender); statements = [] })
+abbrev pub seatsAfter : Bool → Setting → List ℕ → List ℕ → List ℕ → ℕ → List Seat → List Seat
+seatsAfter fresh g S W′ R′ k X =
+    if fresh then listOf controllers (λ j. record { controller = started j (g .members) (sendersIn g S); statements = [] })
     else set X k (record { controller = getD X k emptySeat .controller; statements = recordIn W′ R′ })
 
 abbrev pub replyIs : List ℕ → ℕ → Answer → ℕ → Reply
 replyIs W who a number = record { who = who; answer = answerIs W a; number = number }
 
--- The line l, which calls no controller, on a bench that has the record R at seat k: its reply is y, and what the setup said is h after it. `fresh` tells that every controller is to start.
-pub record Advanced (W R : List ℕ) (g : Setting) (k : ℕ) (l : Line) (y : Reply) (h : Setting) (fresh : Bool) (W′ R′ : List ℕ) : Type 0 where
+-- The line l, which calls no controller, on a bench that has the record R at seat k: its reply is y, and what the setup said is h after it. `fresh` tells that every controller is to start,
+-- with the senders in the memory S.
+pub record Advanced (W R : List ℕ) (g : Setting) (k : ℕ) (l : Line) (y : Reply) (h : Setting) (fresh : Bool) (W′ R′ S : List ℕ) : Type 0 where
   pub steps : (X : List Seat) → getD X k emptySeat .statements ≡ recordIn W R
-      → step (benchOf (g .ready) (g .faulty) X W) (some l) ≡ record { reply = y; bench = benchOf (h .ready) (h .faulty) (seatsAfter fresh h W′ R′ k X) W′ }
+      → step (benchOf (g .ready) (termsOf g) X W) (some l) ≡ record { reply = y; bench = benchOf (h .ready) (termsOf h) (seatsAfter fresh h S W′ R′ k X) W′ }
   pub sound : fresh ≡ false → Sound W′ R′
   pub grows : fresh ≡ false → Grows W W′
   pub keeps : fresh ≡ false → Keeps R R′
-  pub begun : fresh ≡ true → (poolLen W′ ≡ 0) × (setupAllowed 0 (h .members) (h .sender) ≡ true)
+  pub begun : fresh ≡ true → (poolLen W′ ≡ 0) × (setupAllowed 0 (h .members) (sendersIn h S) ≡ true)
 
 -- What `step` answers of a line.
-pub record SteppedAs (W R : List ℕ) (g : Setting) (k : ℕ) (l : Line) (s : Effect) (W′ R′ : List ℕ) : Type 0 where
+pub record SteppedAs (W R : List ℕ) (g : Setting) (k : ℕ) (l : Line) (s : Effect) (W′ R′ S : List ℕ) : Type 0 where
   pub who : s .who ≤ 16
-  pub advanced : Advanced W R g k l (replyIs W′ (s .who) (s .answer) (s .number)) (s .setting) (s .fresh) W′ R′
+  pub advanced : Advanced W R g k l (replyIs W′ (s .who) (s .answer) (s .number)) (s .setting) (s .fresh) W′ R′ S
   pub full : s .whole ≡ true → Full R′ (poolLen W′)
 
 -- The text T reads as a line, which does this.
-pub record SteppedBy (W R : List ℕ) (g : Setting) (k : ℕ) (T : List ℕ) (s : Effect) (W′ R′ : List ℕ) : Type 0 where
+pub record SteppedBy (W R : List ℕ) (g : Setting) (k : ℕ) (T : List ℕ) (s : Effect) (W′ R′ S : List ℕ) : Type 0 where
   pub line : Line
-  pub reads : Reads (ended T) (some line)
-  pub stepped : SteppedAs W R g k line s W′ R′
+  pub reads : Reads (termsOf g .notices) (ended T) (some line)
+  pub stepped : SteppedAs W R g k line s W′ R′ S
 
--- The same of a line that goes to the pool alone: whatever record stands at the first seat stays.
+-- The same of a lie, which goes to the pool alone: whatever record stands at the first seat stays.
 pub record SteppedOnPool (W : List ℕ) (g : Setting) (l : Line) (s : Effect) (W′ : List ℕ) : Type 0 where
-  pub over : (R : List ℕ) → AllIn W R → SteppedAs W R g 0 l s W′ R
+  pub over : (R S : List ℕ) → AllIn W R → SteppedAs W R g 0 l s W′ R S
 
 pub record SteppedOnPoolBy (W : List ℕ) (g : Setting) (T : List ℕ) (s : Effect) (W′ : List ℕ) : Type 0 where
-  pub over : (R : List ℕ) → AllIn W R → SteppedBy W R g 0 T s W′ R
+  pub over : (R S : List ℕ) → AllIn W R → SteppedBy W R g 0 T s W′ R S
+
+-- And of a setup, whose senders stand in the memory S after it.
+pub record SetUpBy (W : List ℕ) (g : Setting) (T : List ℕ) (s : Effect) (W′ S : List ℕ) : Type 0 where
+  pub over : (R : List ℕ) → AllIn W R → SteppedBy W R g 0 T s W′ R S
+
+-- Whom the row of a setup shows, by the senders in the memory S and their count.
+unfoldable pub shownIn : List ℕ → ℕ → ℕ
+shownIn S count = if eqb count 0 then nobody else if ltb (getD S 0 0) controllers then getD S 0 0 else nobody
 
 -- What is told of a lie whose text is no statement.
 pub record NoStatement (g : Setting) (s : Effect) : Type 0 where
@@ -266,10 +335,10 @@ takenAs n whole = record { answer = Taken; number = n; whole = whole }
 -- The line leaves every bench as it is and answers taken with 0, where the record of the controller that it names has every number below full.
 pub record LacksNothing (W : List ℕ) (g : Setting) (full : ℕ) (l : Held) : Type 0 where
   pub line : Line
-  pub means : meant l ≡ some line
+  pub means : meant l ≡ aLine line
   pub steps : (R : List ℕ) → Sound W R → Full R full → (X : List Seat) → getD X (seatOf (Readable l)) emptySeat .statements ≡ recordIn W R
-      → step (benchOf (g .ready) (g .faulty) X W) (some line)
-      ≡ record { reply = record { who = seatOf (Readable l); answer = taken; number = 0 }; bench = benchOf (g .ready) (g .faulty) X W }
+      → step (benchOf (g .ready) (termsOf g) X W) (some line)
+      ≡ record { reply = record { who = seatOf (Readable l); answer = taken; number = 0 }; bench = benchOf (g .ready) (termsOf g) X W }
 
 -- ---- rows
 
@@ -277,7 +346,7 @@ abbrev pub wordOfAnswer : Answer → Word
 wordOfAnswer Taken = word.Taken
 wordOfAnswer (Signed n) = word.Signed
 wordOfAnswer (Entered v) = word.Entered
-wordOfAnswer (Delivered m) = word.Delivered
+wordOfAnswer (Delivered i m) = word.Delivered
 wordOfAnswer Left = word.Left
 wordOfAnswer Quiet = word.Quiet
 wordOfAnswer (Refused r) = word.Refused
@@ -286,7 +355,7 @@ abbrev pub valueOfAnswer : Answer → ℕ → Value
 valueOfAnswer Taken n = value.Number n
 valueOfAnswer (Signed i) n = value.Number n
 valueOfAnswer (Entered v) n = value.View v
-valueOfAnswer (Delivered m) n = value.Number m
+valueOfAnswer (Delivered i m) n = value.Number m
 valueOfAnswer Left n = value.Number 0
 valueOfAnswer Quiet n = value.Number 0
 valueOfAnswer (Refused r) n = value.Number (refusalNumber (refusalIs r))

@@ -5,6 +5,7 @@ ghost use Prim.Native.Nat.{_+_, _<_, _≤_};
 ghost use lib.ListN.{length};
 ghost use Rattle.protocol.specs.Call.{setupAllowed};
 ghost use Rattle.text.specs.Written.{Wrote};
+ghost use Rattle.engine.specs.Meaning.{firstSenders};
 ghost use Rattle.schedule.specs.declared.line.Parsed.the-variants.{Readable};
 ghost use Rattle.bench.specs.Rows.{refusedRow, Answered};
 ghost use Rattle.bench.specs.Seats.{Sound, Full, ReadFrom, seatOf, isCall, wordOfAnswer, valueOfAnswer};
@@ -17,6 +18,7 @@ use crate::row::Word;
 use crate::state;
 use crate::state::NOBODY;
 use crate::state::Setting;
+use crate::state::Verdict;
 use engine::Answer;
 use engine::Controller;
 use pool::POOL_WORDS;
@@ -24,6 +26,7 @@ use pool::RECORD;
 use schedule::line;
 use schedule::line::Line;
 use schedule::line::Parsed;
+use statements::NOTICES;
 use views::View;
 
 // A seat for each controller.
@@ -45,7 +48,7 @@ fn word_of(a: Answer) -> Word
         Answer::Taken => Word::Taken,
         Answer::Signed(_) => Word::Signed,
         Answer::Entered(_) => Word::Entered,
-        Answer::Delivered(_) => Word::Delivered,
+        Answer::Delivered(_, _) => Word::Delivered,
         Answer::Left => Word::Left,
         Answer::Quiet => Word::Quiet,
         Answer::Refused(_) => Word::Refused,
@@ -59,7 +62,7 @@ fn value_of(a: Answer, n: u64) -> Value
         Answer::Taken => Value::Number(n),
         Answer::Signed(_) => Value::Number(n),
         Answer::Entered(v) => Value::View(v),
-        Answer::Delivered(m) => Value::Number(m),
+        Answer::Delivered(_, m) => Value::Number(m),
         Answer::Left => Value::Number(0),
         Answer::Quiet => Value::Number(0),
         Answer::Refused(r) => Value::Number(engine::refusal_number(r)),
@@ -103,15 +106,30 @@ fn put_step(rows: &mut [u8], place: Place, next: usize, who: u64, a: Answer, num
     put_line(rows, place, next, who, word_of(a), value_of(a, number))
 }
 
+// The row of a line that is unreadable: it names nobody.
+fn put_unreadable(rows: &mut [u8], place: Place, next: usize) -> Place
+    requires { ⌜ HasRoom place next ⌝ }
+    ensures { λ r. ⌜ RowPut (now (rows .entry)) place next (rowOf (place .n) 16 Word.Refused (Value.Number 8)) r (now (rows .exit)) ⌝ }
+{
+    put_line(
+        rows,
+        place,
+        next,
+        NOBODY,
+        Word::Refused,
+        Value::Number(UNREADABLE),
+    )
+}
+
 // The seat of the controller that a line names; the first where it names none.
 fn seat_of(line: Line) -> usize
     ensures { λ r. ⌜ r ≡ seatOf (Readable line) ⌝ }
 {
     match line {
-        Line::Setup(_, _, _) => 0,
+        Line::Setup => 0,
         Line::Join(k) => k as usize,
         Line::Leave(k) => k as usize,
-        Line::Send(k, _) => k as usize,
+        Line::Send(k, _, _) => k as usize,
         Line::Give(k, _) => k as usize,
         Line::All(k) => k as usize,
         Line::Turn(k) => k as usize,
@@ -128,16 +146,21 @@ fn seats_of(records: &[[u16; RECORD]; SEATS]) -> usize
 }
 
 // Sixteen controllers that have just started, and their records emptied.
-fn start_all(records: &mut [[u16; RECORD]; SEATS], members: u16, sender: u8) -> [Controller; SEATS]
-    requires { ⌜ setupAllowed 0 members sender ≡ true ⌝ }
-    ensures { λ r. ⌜ Started members sender r (now (records .exit)) ⌝ }
+fn start_all(
+    records: &mut [[u16; RECORD]; SEATS],
+    members: u16,
+    count: usize,
+    senders: &[u8; NOTICES],
+) -> [Controller; SEATS]
+    requires { ⌜ setupAllowed 0 members (firstSenders (now senders) count) ≡ true ⌝ }
+    ensures { λ r. ⌜ Started members (firstSenders (now (senders .entry)) count) r (now (records .exit)) ⌝ }
 {
     seats_of(records);
     let c = Controller::new();
     let mut seats = [c; SEATS];
     let mut k = 0usize;
     while k < SEATS {
-        let o = c.setup(&mut records[k], k as u8, members, sender);
+        let o = c.setup(&mut records[k], k as u8, members, count, senders);
         let d = o.controller;
         seats[k] = d;
         k += 1;
@@ -155,7 +178,7 @@ fn known(words: &[u64; POOL_WORDS], whole: bool, full: usize) -> usize
     full
 }
 
-// A line that calls no controller: what it does, and its row.
+// A line that calls no controller: what it does, and its row. The senders of a setup go to the memory.
 fn run_line(
     rows: &mut [u8],
     place: Place,
@@ -164,13 +187,14 @@ fn run_line(
     line: Line,
     text: &[u8],
     full: usize,
+    senders: &mut [u8; NOTICES],
 ) -> Moved
     requires { ⌜ Sound (now words) (now ids) × ReadFrom line (now text) × (isCall line ≡ false) × HasRoom place (length (now text) + 1) × Full (now ids) full ⌝ }
-    ensures { λ r. ⌜ LineRun (now (words .entry)) (now (ids .entry)) place (seatOf (Readable line)) (now (text .entry)) (now (rows .entry)) r (now (words .exit)) (now (ids .exit)) (now (rows .exit)) ⌝ }
+    ensures { λ r. ⌜ LineRun (now (words .entry)) (now (ids .entry)) place (seatOf (Readable line)) (now (text .entry)) (now (rows .entry)) r (now (words .exit)) (now (ids .exit)) (now (rows .exit)) (now (senders .exit)) ⌝ }
 {
     let next = text.len() + 1;
     let g = place.setting;
-    let s = state::step(ids, words, g, line, text);
+    let s = state::step(ids, words, g, line, text, senders);
     let a = s.answer;
     let h = s.setting;
     let on = put_step(rows, place, next, s.who, a, s.number);
@@ -189,7 +213,7 @@ fn first() -> Place
         ready: false,
         faulty: 0,
         members: 0,
-        sender: 0,
+        notices: 1,
     };
     Place {
         setting: none,
@@ -209,6 +233,8 @@ fn run_lines(schedule: &[u8], rows: &mut [u8]) -> usize
     let mut records = [[0u16; RECORD]; SEATS];
     // The record of controller k is known to have every number below full[k].
     let mut full = [0usize; SEATS];
+    // A turn that finds nothing to do finds nothing again until its controller or its record changes.
+    let mut turns = [Verdict::Open; SEATS];
     let mut words = [0u64; POOL_WORDS];
     pool::clear(&mut words);
     let mut place = first();
@@ -218,20 +244,21 @@ fn run_lines(schedule: &[u8], rows: &mut [u8]) -> usize
         let next = read.next;
         let parsed = read.parsed;
         let Parsed::Readable(line) = parsed else {
-            let on = put_line(
-                rows,
-                place,
-                next,
-                NOBODY,
-                Word::Refused,
-                Value::Number(UNREADABLE),
-            );
+            let on = put_unreadable(rows, place, next);
             place = on;
             continue;
         };
         let k = seat_of(line);
         // No other line looks at a controller, so that none is copied.
         if state::is_call(line) {
+            let seen = seats[k];
+            let turn = turns[k];
+            let judged = state::judge(seen, line, turn);
+            if let Verdict::Idle(a) = judged {
+                let on = put_step(rows, place, next, k as u64, a, state::number_of(a));
+                place = on;
+                continue;
+            }
             let named = seats[k];
             let o = state::call(named, &mut records[k], &mut words, line);
             let a = o.answer;
@@ -239,6 +266,7 @@ fn run_lines(schedule: &[u8], rows: &mut [u8]) -> usize
                 let d = o.controller;
                 seats[k] = d;
             }
+            turns[k] = state::next_turn(line, a);
             let on = put_step(rows, place, next, k as u64, a, state::number_of(a));
             place = on;
             continue;
@@ -252,15 +280,27 @@ fn run_lines(schedule: &[u8], rows: &mut [u8]) -> usize
             continue;
         }
         let text = &schedule[at..at + next - 1];
-        let s = run_line(rows, place, &mut records[k], &mut words, line, text, below);
+        let mut senders = [0u8; NOTICES];
+        let s = run_line(
+            rows,
+            place,
+            &mut records[k],
+            &mut words,
+            line,
+            text,
+            below,
+            &mut senders,
+        );
         let on = s.place;
         place = on;
         full[k] = s.full;
+        turns[k] = Verdict::Open;
         if s.fresh {
             let g = on.setting;
-            let all = start_all(&mut records, g.members, g.sender);
+            let all = start_all(&mut records, g.members, g.notices, &senders);
             seats = all;
             full = [0usize; SEATS];
+            turns = [Verdict::Open; SEATS];
         }
     }
     place.out

@@ -3,7 +3,7 @@ ghost use mathlib.Core.Path.{_≡_};
 ghost use mathlib.Core.Bool.{true};
 ghost use Prim.Native.Nat.{_+_, _≤_};
 ghost use lib.ListN.{length};
-ghost use Rattle.bench.specs.Seats.{Sound, hasNumber, NumbersBelow, Marks, Marked, FirstFree, unmarked, RecordFilled, refusedFor, takenAs, Gives, GivesAll};
+ghost use Rattle.bench.specs.Seats.{Sound, hasNumber, NumbersBelow, NumberMarks, Marked, FirstFree, unmarked, RecordFilled, refusedFor, takenAs, Gives, GivesAll};
 use engine::Answer;
 use engine::Refusal;
 use pool::CAPACITY;
@@ -61,7 +61,7 @@ fn index(id: u16) -> usize
 // Which numbers a record has.
 fn marks_of(ids: &[u16; RECORD]) -> [bool; CAPACITY]
     requires { ⌜ NumbersBelow (now ids) 512 ⌝ }
-    ensures { λ r. ⌜ Marks (now (ids .entry)) r ⌝ }
+    ensures { λ r. ⌜ NumberMarks (now (ids .entry)) r ⌝ }
 {
     let end = pool::record_length(ids);
     let mut marks = [false; CAPACITY];

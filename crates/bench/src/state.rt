@@ -4,10 +4,11 @@ ghost use mathlib.Core.Bool.{true, false};
 ghost use Prim.Native.Nat.{_<_, _≤_};
 ghost use Rattle.protocol.specs.Sets.{bit};
 ghost use Rattle.statements.specs.Meaning.{stmtOf};
+ghost use Rattle.engine.specs.Meaning.{signedNumber};
 ghost use Rattle.schedule.specs.declared.line.Parsed.the-variants.{Readable};
 ghost use Rattle.schedule.specs.Line as lines;
-ghost use Rattle.schedule.specs.Reading.{Lying};
-ghost use Rattle.bench.specs.Seats.{Distinct, Sound, ReadFrom, seatOf, isCall, numberIs, changesIs, refusedFor, CalledByLine, ToldAs, SteppedBy, SteppedOnPool, SteppedOnPoolBy, NoStatement, LacksNothing};
+ghost use Rattle.schedule.specs.Reading.{Lying, SettingUp};
+ghost use Rattle.bench.specs.Seats.{Distinct, Sound, ReadFrom, seatOf, isCall, changesIs, refusedFor, turnAfter, nextTurn, joinVerdict, leaveVerdict, sendVerdict, Judged, CalledByLine, ToldAs, SteppedBy, SteppedOnPool, SteppedOnPoolBy, SetUpBy, shownIn, NoStatement, LacksNothing};
 use crate::seat;
 use crate::seat::Given;
 use engine::Answer;
@@ -20,18 +21,20 @@ use pool::Placed;
 use pool::RECORD;
 use schedule::line;
 use schedule::line::Line;
+use statements::BLOCK;
+use statements::NOTICES;
 use statements::Statement;
 use views::View;
 
 // The number in a row that names no controller.
 pub const NOBODY: u64 = View::WIDTH as u64;
 
-// What a setup says.
+// What a setup says, but for the senders of its notices.
 pub struct Setting {
     pub ready: bool,
     pub faulty: u16,
     pub members: u16,
-    pub sender: u8,
+    pub notices: usize,
 }
 
 // What a line that calls no controller answers, and what it leaves: `fresh` where every controller is to start, and `whole` where the record
@@ -50,14 +53,109 @@ pub fn is_call(line: Line) -> bool
     ensures { λ r. ⌜ r ≡ isCall line ⌝ }
 {
     match line {
-        Line::Setup(_, _, _) => false,
+        Line::Setup => false,
         Line::Join(_) => true,
         Line::Leave(_) => true,
-        Line::Send(_, _) => true,
+        Line::Send(_, _, _) => true,
         Line::Give(_, _) => false,
         Line::All(_) => false,
         Line::Turn(_) => true,
         Line::Lie => false,
+    }
+}
+
+// What is known of a call before it is made: nothing; or that it changes nothing, and its answer.
+pub enum Verdict {
+    Open,
+    Idle(Answer),
+}
+
+fn join_verdict(c: Controller) -> Verdict
+    ensures { λ v. ⌜ v ≡ joinVerdict c ⌝ }
+{
+    let init = c.init;
+    if init.has_member(c.number) {
+        return Verdict::Idle(Answer::Refused(Refusal::BadRequest));
+    }
+    if c.joining {
+        return Verdict::Idle(Answer::Refused(Refusal::BadRequest));
+    }
+    Verdict::Open
+}
+
+fn leave_verdict(c: Controller) -> Verdict
+    ensures { λ v. ⌜ v ≡ leaveVerdict c ⌝ }
+{
+    let entered = c.entered;
+    if entered.len == 0 {
+        return Verdict::Idle(Answer::Refused(Refusal::BadRequest));
+    }
+    if c.leaving {
+        return Verdict::Idle(Answer::Refused(Refusal::BadRequest));
+    }
+    Verdict::Open
+}
+
+fn send_verdict(c: Controller, notice: u64) -> Verdict
+    ensures { λ v. ⌜ v ≡ sendVerdict c notice ⌝ }
+{
+    if !engine::is_notice(notice, c.notices) {
+        return Verdict::Idle(Answer::Refused(Refusal::UnknownNotice));
+    }
+    let j = notice as usize;
+    if c.number != c.senders[j] {
+        return Verdict::Idle(Answer::Refused(Refusal::BadRequest));
+    }
+    if statements::has(c.requested, j) {
+        return Verdict::Idle(Answer::Refused(Refusal::BadRequest));
+    }
+    Verdict::Open
+}
+
+// Whether a request is refused, or a turn before a setup, or one of which `turn` is known. It looks at a few fields alone, so that a compiler copies no whole controller for it.
+pub fn judge(c: Controller, line: Line, turn: Verdict) -> Verdict
+    requires { ⌜ isCall line ≡ true ⌝ }
+    ensures { λ v. ⌜ Judged c line turn v ⌝ }
+{
+    if !c.ready {
+        return Verdict::Idle(Answer::Refused(Refusal::OutOfPlace));
+    }
+    match line {
+        Line::Join(_) => join_verdict(c),
+        Line::Leave(_) => leave_verdict(c),
+        Line::Send(_, notice, _) => send_verdict(c, notice as u64),
+        _ => turn,
+    }
+}
+
+// What is known of the next turn after one that answered so.
+fn turn_after(a: Answer) -> Verdict
+    ensures { λ v. ⌜ v ≡ turnAfter a ⌝ }
+{
+    match a {
+        Answer::Taken => Verdict::Open,
+        Answer::Signed(_) => Verdict::Open,
+        Answer::Entered(_) => Verdict::Open,
+        Answer::Delivered(_, _) => Verdict::Open,
+        Answer::Left => Verdict::Idle(Answer::Left),
+        Answer::Quiet => Verdict::Idle(Answer::Quiet),
+        Answer::Refused(_) => Verdict::Open,
+    }
+}
+
+// What is known of the next turn of a controller after a call on it.
+pub fn next_turn(line: Line, a: Answer) -> Verdict
+    ensures { λ v. ⌜ v ≡ nextTurn line a ⌝ }
+{
+    match line {
+        Line::Setup => Verdict::Open,
+        Line::Join(_) => Verdict::Open,
+        Line::Leave(_) => Verdict::Open,
+        Line::Send(_, _, _) => Verdict::Open,
+        Line::Give(_, _) => Verdict::Open,
+        Line::All(_) => Verdict::Open,
+        Line::Turn(_) => turn_after(a),
+        Line::Lie => Verdict::Open,
     }
 }
 
@@ -74,7 +172,7 @@ pub fn call(
     match line {
         Line::Join(_) => c.join(),
         Line::Leave(_) => c.leave(),
-        Line::Send(_, m) => c.send(m),
+        Line::Send(_, notice, m) => c.send(notice as u64, m),
         _ => lent::lend_turn(c, ids, words),
     }
 }
@@ -87,7 +185,7 @@ pub fn changes(a: Answer) -> bool
         Answer::Taken => true,
         Answer::Signed(_) => true,
         Answer::Entered(_) => true,
-        Answer::Delivered(_) => true,
+        Answer::Delivered(_, _) => true,
         Answer::Left => false,
         Answer::Quiet => false,
         Answer::Refused(_) => false,
@@ -96,13 +194,13 @@ pub fn changes(a: Answer) -> bool
 
 // The number in the row of a call: of a turn that signs, the statement's.
 pub fn number_of(a: Answer) -> u64
-    ensures { λ r. ⌜ r ≡ numberIs a ⌝ }
+    ensures { λ r. ⌜ r ≡ signedNumber a ⌝ }
 {
     match a {
         Answer::Taken => 0,
         Answer::Signed(n) => n as u64,
         Answer::Entered(_) => 0,
-        Answer::Delivered(_) => 0,
+        Answer::Delivered(_, _) => 0,
         Answer::Left => 0,
         Answer::Quiet => 0,
         Answer::Refused(_) => 0,
@@ -130,25 +228,36 @@ fn refused(g: Setting, who: u64, r: Refusal) -> Effect
     told(g, who, seat::refused(r))
 }
 
-// A setup that is taken starts every controller on an empty pool.
+// Whom the row of a setup shows: the sender of notice 0.
+fn shown_sender(senders: &[u8; NOTICES], count: usize) -> u64
+    ensures { λ r. ⌜ r ≡ shownIn (now (senders .entry)) count ⌝ }
+{
+    if count == 0 {
+        return NOBODY;
+    }
+    let first = senders[0];
+    if first < View::WIDTH {
+        return first as u64;
+    }
+    NOBODY
+}
+
+// A setup that is taken starts every controller on an empty pool. Its senders are read here, into the memory.
 fn set_up(
     words: &mut [u64; POOL_WORDS],
     g: Setting,
-    members: u16,
-    sender: u8,
-    faulty: u16,
+    text: &[u8],
+    senders: &mut [u8; NOTICES],
 ) -> Effect
-    requires { ⌜ Distinct (now words) ⌝ }
-    ensures { λ s. ⌜ SteppedOnPool (now (words .entry)) g (lines.setup members sender faulty) s (now (words .exit)) ⌝ }
+    requires { ⌜ Distinct (now words) × SettingUp (now text) ⌝ }
+    ensures { λ s. ⌜ SetUpBy (now (words .entry)) g (now (text .entry)) s (now (words .exit)) (now (senders .exit)) ⌝ }
 {
-    if sender >= View::WIDTH {
-        return refused(g, NOBODY, Refusal::BadSetup);
-    }
-    let who = sender as u64;
+    let said = line::read_setup(text, senders);
+    let who = shown_sender(senders, said.count);
     if g.ready {
         return refused(g, who, Refusal::BadSetup);
     }
-    if members == 0 {
+    if !engine::is_allowed(0, said.members, said.count, senders) {
         return refused(g, who, Refusal::BadSetup);
     }
     pool::clear(words);
@@ -158,9 +267,9 @@ fn set_up(
         number: 0,
         setting: Setting {
             ready: true,
-            faulty: faulty,
-            members: members,
-            sender: sender,
+            faulty: said.faulty,
+            members: said.members,
+            notices: said.count,
         },
         fresh: true,
         whole: false,
@@ -179,9 +288,9 @@ fn is_marked(faulty: u16, k: u8) -> bool
 }
 
 // A lie changes the pool alone.
-fn lie(words: &mut [u64; POOL_WORDS], g: Setting, st: Statement) -> Effect
+fn lie(words: &mut [u64; POOL_WORDS], g: Setting, st: Statement, block: &[u64; BLOCK]) -> Effect
     requires { ⌜ Distinct (now words) × (st .history .len ≤ 16) × (st .origin < 16) ⌝ }
-    ensures { λ s. ⌜ SteppedOnPool (now (words .entry)) g (lines.lie (stmtOf st)) s (now (words .exit)) ⌝ }
+    ensures { λ s. ⌜ SteppedOnPool (now (words .entry)) g (lines.lie (stmtOf st (now (block .entry)))) s (now (words .exit)) ⌝ }
 {
     let who = st.origin as u64;
     if !g.ready {
@@ -190,11 +299,14 @@ fn lie(words: &mut [u64; POOL_WORDS], g: Setting, st: Statement) -> Effect
     if !is_marked(g.faulty, st.origin) {
         return refused(g, who, Refusal::OutOfPlace);
     }
-    let found = pool::find(words, st);
+    if !engine::is_notice(st.notice as u64, g.notices) {
+        return refused(g, who, Refusal::UnknownNotice);
+    }
+    let found = pool::find(words, st, block);
     if let Found::At(_) = found {
         return refused(g, who, Refusal::Repeated);
     }
-    let placed = pool::append(words, st);
+    let placed = pool::append(words, st, block);
     let Placed::At(n) = placed else {
         return refused(g, who, Refusal::Full);
     };
@@ -216,12 +328,13 @@ fn lie_line(words: &mut [u64; POOL_WORDS], g: Setting, text: &[u8]) -> Effect
     requires { ⌜ Distinct (now words) × Lying (now text) ⌝ }
     ensures { λ s. ⌜ SteppedOnPoolBy (now (words .entry)) g (now (text .entry)) s (now (words .exit)) ⌝ }
 {
-    let read = line::lied(text);
+    let mut block = [0u64; BLOCK];
+    let read = line::lied(text, g.notices, &mut block);
     if !read.ok {
         return no_statement(g);
     }
     let st = read.statement;
-    lie(words, g, st)
+    lie(words, g, st, &block)
 }
 
 // Whether a line is an `all` that finds nothing missing. The record of the controller that it names has every number below `full`.
@@ -241,19 +354,20 @@ pub fn lacks_nothing(line: Line, g: Setting, words: &[u64; POOL_WORDS], full: us
 }
 
 // What a line does that calls no controller: a setup, a gift, or else a lie. It was read from the text, and the record is that of the controller that it names, or any other
-// where it names none.
+// where it names none. The senders of a setup go to the memory.
 pub fn step(
     ids: &mut [u16; RECORD],
     words: &mut [u64; POOL_WORDS],
     g: Setting,
     line: Line,
     text: &[u8],
+    senders: &mut [u8; NOTICES],
 ) -> Effect
     requires { ⌜ Sound (now words) (now ids) × ReadFrom line (now text) × (isCall line ≡ false) ⌝ }
-    ensures { λ s. ⌜ SteppedBy (now (words .entry)) (now (ids .entry)) g (seatOf (Readable line)) (now (text .entry)) s (now (words .exit)) (now (ids .exit)) ⌝ }
+    ensures { λ s. ⌜ SteppedBy (now (words .entry)) (now (ids .entry)) g (seatOf (Readable line)) (now (text .entry)) s (now (words .exit)) (now (ids .exit)) (now (senders .exit)) ⌝ }
 {
     match line {
-        Line::Setup(members, sender, faulty) => set_up(words, g, members, sender, faulty),
+        Line::Setup => set_up(words, g, text, senders),
         Line::Give(k, n) => told(g, k as u64, seat::give(ids, words, g.ready, n)),
         Line::All(k) => told(g, k as u64, seat::all(ids, words, g.ready)),
         _ => lie_line(words, g, text),

@@ -9,13 +9,13 @@ use native.Mathlib.Numerals.{add-one}
 use native.Mathlib.Omega.{arith}
 use lib.Dec.{T}
 use lib.ListN.{length}
-use Rattle.protocol.specs.Lists.{if_then_else_, any, find}
+use Rattle.protocol.specs.Lists.{if_then_else_, any, find, listOf}
 use Rattle.protocol.specs.Statement.{Stmt, sameStmt}
 use Rattle.protocol.specs.Pool.{numberOf}
 use Rattle.protocol.proofs.Asked.{says-same-stmt}
 use Rattle.protocol.proofs.Found.{none≢some}
-use Rattle.views.specs.Table.{table}
-use Rattle.views.proofs.Tables.{table-length, table-cong, any-append}
+use Rattle.protocol.proofs.Numbered.{listOf-length, listOf-cong}
+use Rattle.views.proofs.Tables.{any-append}
 use Rattle.statements.specs.declared.Statement.{Statement}
 use Rattle.statements.specs.Meaning.{stmtOf}
 use Rattle.pool.specs.Pool.{stmtAt, poolLen, poolOf}
@@ -73,8 +73,8 @@ find-on p (a ∷ k) l e = go (p a) (find-on p k l) e
 
 -- what a search by number finds in f 0, .., f (n - 1)
 pub data Located (s : Stmt) (f : ℕ → Stmt) (n : ℕ) (o : Option ℕ) : Type 0 where
-  there : (i : ℕ) → o ≡ some i → i < n → f i ≡ s → numberOf s (table n f) ≡ i → any (sameStmt s) (table n f) ≡ true → Located s f n o
-  absent : o ≡ none → any (sameStmt s) (table n f) ≡ false → Located s f n o
+  there : (i : ℕ) → o ≡ some i → i < n → f i ≡ s → numberOf s (listOf n f) ≡ i → any (sameStmt s) (listOf n f) ≡ true → Located s f n o
+  absent : o ≡ none → any (sameStmt s) (listOf n f) ≡ false → Located s f n o
 
 any-one : (s x : Stmt) → any (sameStmt s) (x ∷ []) ≡ sameStmt s x
 unfolding any
@@ -84,25 +84,25 @@ any-one s x = go (sameStmt s x)
     go true = refl
     go false = refl
 
-located : (s : Stmt) (f : ℕ → Stmt) (n : ℕ) → Located s f n (find (λ i. sameStmt s (f i)) (table n (λ i. i)))
-unfolding table any find
+located : (s : Stmt) (f : ℕ → Stmt) (n : ℕ) → Located s f n (find (λ i. sameStmt s (f i)) (listOf n (λ i. i)))
+unfolding listOf any find
 located s f zero = absent refl refl
 located s f (suc n) = go (located s f n)
   where
     p : ℕ → Bool
     p i = sameStmt s (f i)
 
-    last : (b : Bool) → sameStmt s (f n) ≡ b → any (sameStmt s) (table n f) ≡ false → Located s f (suc n) (if b then some n else none)
+    last : (b : Bool) → sameStmt s (f n) ≡ b → any (sameStmt s) (listOf n f) ≡ false → Located s f (suc n) (if b then some n else none)
     last true e a =
-        there n refl (omega arith) (sym (says-same-stmt .sound (subst T (sym e) tt))) (number-after s (table n f) (f n) a e ∙ table-length n f)
-        (any-append (sameStmt s) (table n f) (f n ∷ []) ∙ ap₂ _||_ a (any-one s (f n) ∙ e))
-    last false e a = absent refl (any-append (sameStmt s) (table n f) (f n ∷ []) ∙ ap₂ _||_ a (any-one s (f n) ∙ e))
+        there n refl (omega arith) (sym (says-same-stmt .sound (subst T (sym e) tt))) (number-after s (listOf n f) (f n) a e ∙ listOf-length n f)
+        (any-append (sameStmt s) (listOf n f) (f n ∷ []) ∙ ap₂ _||_ a (any-one s (f n) ∙ e))
+    last false e a = absent refl (any-append (sameStmt s) (listOf n f) (f n ∷ []) ∙ ap₂ _||_ a (any-one s (f n) ∙ e))
 
-    go : Located s f n (find p (table n (λ i. i))) → Located s f (suc n) (find p (table n (λ i. i) ++ (n ∷ [])))
+    go : Located s f n (find p (listOf n (λ i. i))) → Located s f (suc n) (find p (listOf n (λ i. i) ++ (n ∷ [])))
     go (there i e l h m a) =
-        there i (find-in p (table n (λ i. i)) (n ∷ []) e) (omega arith) h (number-in s (table n f) (f n ∷ []) a ∙ m)
-        (any-append (sameStmt s) (table n f) (f n ∷ []) ∙ ap (λ b. b || any (sameStmt s) (f n ∷ [])) a)
-    go (absent e a) = subst (Located s f (suc n)) (sym (find-on p (table n (λ i. i)) (n ∷ []) e)) (last (sameStmt s (f n)) refl a)
+        there i (find-in p (listOf n (λ i. i)) (n ∷ []) e) (omega arith) h (number-in s (listOf n f) (f n ∷ []) a ∙ m)
+        (any-append (sameStmt s) (listOf n f) (f n ∷ []) ∙ ap (λ b. b || any (sameStmt s) (f n ∷ [])) a)
+    go (absent e a) = subst (Located s f (suc n)) (sym (find-on p (listOf n (λ i. i)) (n ∷ []) e)) (last (sameStmt s (f n)) refl a)
 
 -- ---- the pool in memory
 
@@ -112,11 +112,11 @@ in-pool W s = located s (stmtAt W) (poolLen W)
 
 -- one statement more
 
-module _ (W W′ : List ℕ) (st : Statement) (short : st .history .len ≤ 16) (g : memory.Grown W W′ st) (room : poolLen W < 512) where
+module _ (W W′ : List ℕ) (st : Statement) (B : List ℕ) (short : st .history .len ≤ 16) (g : memory.Grown W W′ st B) (room : poolLen W < 512) where
   pub grown-same : (m : ℕ) → m < poolLen W → stmtAt W′ m ≡ stmtAt W m
   grown-same m l = g .others m (λ e. omega arith)
 
-  pub grown-pool : poolOf W′ ≡ poolOf W ++ (stmtOf st ∷ [])
-  unfolding poolOf table
-  grown-pool = ap (λ n. table n (stmtAt W′)) (g .len ∙ add-one (poolLen W))
-      ∙ ap₂ (λ l x. l ++ (x ∷ [])) (table-cong (poolLen W) (stmtAt W′) (stmtAt W) grown-same) (g .there short)
+  pub grown-pool : poolOf W′ ≡ poolOf W ++ (stmtOf st B ∷ [])
+  unfolding poolOf listOf
+  grown-pool = ap (λ n. listOf n (stmtAt W′)) (g .len ∙ add-one (poolLen W))
+      ∙ ap₂ (λ l x. l ++ (x ∷ [])) (listOf-cong (poolLen W) (stmtAt W′) (stmtAt W) grown-same) (g .there short)

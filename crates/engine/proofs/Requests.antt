@@ -1,39 +1,42 @@
 -- What the calls that do not touch the pool come to.
 -- Assumes nothing.
-use mathlib.Core.Path.{_≡_, refl, sym, ap, subst, _∙_}
-use mathlib.Core.Bool.{Bool, true, false, not, _&&_, _||_}
+use mathlib.Core.Path.{_≡_, refl, sym, ap, ap₂, subst, _∙_}
+use mathlib.Core.Bool.{Bool, true, false, not, _&&_, _||_, true≢false}
 use mathlib.Core.List.{List, [], _∷_}
 use Prim.Native.Nat.{ℕ, _%_, _^_, _≤_, _<_, min}
+use native.Mathlib.Decide.{decLt}
 use native.Mathlib.Omega.{arith}
-use lib.Dec.{eqb, ltb}
-use lib.ListN.{length}
-use borrow.Author.Tests.{eq-eqb, ne-eqb, lt-ltb, le-ltb}
+use lib.Dec.{eqb, leb, ltb}
+use lib.ListN.{length, getD, set, replicate}
+use borrow.Author.Tests.{eq-eqb, ne-eqb, lt-ltb, le-ltb, le-leb, lt-leb, ltb-true}
 use Rattle.protocol.specs.Sets.{bit}
-use Rattle.protocol.specs.Lists.{if_then_else_, isSome}
+use Rattle.protocol.specs.Lists.{if_then_else_, listOf}
 use Rattle.protocol.specs.View.{View, member}
 use Rattle.protocol.specs.Statement.{Stmt}
 use Rattle.protocol.specs.Controller as controller
 use Rattle.protocol.specs.Call as call
 use Rattle.protocol.specs.Turn.{enteredAfter}
 use Rattle.protocol.proofs.Bits.{bit-zero}
-use Rattle.views.specs.Table.{table}
+use Rattle.protocol.proofs.Numbered.{listOf-length}
+use Rattle.protocol.proofs.Additions.{notToSend, send-unready, send-unknown, send-barred, send-taken}
 use Rattle.views.specs.Held.{viewIs, viewsIs, heldAt}
 use Rattle.views.specs.declared.View as held
 use Rattle.views.specs.declared.History.{History}
-use Rattle.views.proofs.Tables.{table-length}
 use Rattle.pool.specs.Pool.{recordIn, AllIn}
 use Rattle.pool.specs.Changes.{Emptied}
 use Rattle.statements.specs.declared.Binding.the-variants.{Unbound}
+use Rattle.statements.specs.Sets.{PutBit}
+use Rattle.evidence.specs.Notices.{sendersOf}
 use Rattle.engine.specs.declared.Controller.{Controller}
 use Rattle.engine.specs.declared.Outcome.{Outcome}
 use Rattle.engine.specs.declared.Refusal.{Refusal}
-use Rattle.engine.specs.declared.Refusal.the-variants.{BadRequest, OutOfPlace}
-use Rattle.rules.specs.Payloads.{payloadIs}
-use Rattle.rules.specs.declared.OptionalPayload.the-variants.{Nothing, Payload}
+use Rattle.engine.specs.declared.Refusal.the-variants.{BadRequest, OutOfPlace, UnknownNotice}
 use Rattle.engine.specs.declared.Answer.{Answer}
 use Rattle.engine.specs.declared.Answer.the-variants.{Taken, Refused}
-use Rattle.engine.specs.Meaning.{initialIs, controllerIs, refusalIs, answerIs}
+use Rattle.engine.specs.Meaning.{initialIs, firstSenders, controllerIs, refusalIs, answerIs}
 use Rattle.engine.specs.Promise.{unchanged, Meets, IsRefused, Calls, startedOf, Starts}
+use Rattle.engine.specs.Steps.{areNumbers}
+use Rattle.engine.proofs.Numbers.{is-notice, sender-at, some-when, requested-put, none-bound, none-delivered, none-asked}
 
 -- ---- pool and record stay as they were
 
@@ -120,76 +123,137 @@ module _ (c : Controller) (p q : Bool) (d : Controller) (r : Outcome) where
   request-taken a e f g = noted c d (a .0) (a .1) (λ X. rw (e, f, g))
 
 module _ (c : Controller) where
+  -- the controller with other requests noted
+  abbrev asking : Bool → Bool → List ℕ → ℕ → Controller
+  asking join leave sends requested = record {
+    ready = c .ready;
+    number = c .number;
+    init = c .init;
+    notices = c .notices;
+    senders = c .senders;
+    entered = c .entered;
+    held = c .held;
+    sends = sends;
+    delivered = c .delivered;
+    requested = requested;
+    joining = join;
+    leaving = leave;
+  }
+
   abbrev pub joining : Controller
-  joining = record { ready = c .ready; number = c .number; init = c .init; sender = c .sender; entered = c .entered; binding = c .binding; delivered = c .delivered; joining = true; leaving = c .leaving; sending = c .sending }
+  joining = asking true (c .leaving) (c .sends) (c .requested)
 
   pub joins : (r : Outcome) → Calls (request c (member (viewIs (c .init)) (c .number)) (c .joining) joining) c r → Calls (call.requestJoin (controllerIs c)) c r
   unfolding request call.requestJoin controllerIs
   joins r m = m
 
   abbrev pub leaving : Controller
-  leaving = record { ready = c .ready; number = c .number; init = c .init; sender = c .sender; entered = c .entered; binding = c .binding; delivered = c .delivered; joining = c .joining; leaving = true; sending = c .sending }
+  leaving = asking (c .joining) true (c .sends) (c .requested)
 
   pub leaves : (r : Outcome) → Calls (request c (eqb (length (viewsIs (c .entered))) 0) (c .leaving) leaving) c r → Calls (call.requestLeave (controllerIs c)) c r
   unfolding request call.requestLeave controllerIs
   leaves r m = m
 
-  abbrev pub sending : ℕ → Controller
-  sending m = record { ready = c .ready; number = c .number; init = c .init; sender = c .sender; entered = c .entered; binding = c .binding; delivered = c .delivered; joining = c .joining; leaving = c .leaving; sending = Payload m }
+  -- ---- a send of the payload m of notice i
 
-  pub sends : (m : ℕ) (r : Outcome) → Calls (request c (not (eqb (c .number) (c .sender))) (isSome (payloadIs (c .sending))) (sending m)) c r → Calls (λ X. call.requestSend (controllerIs c) X m) c r
-  unfolding request call.requestSend controllerIs
-  sends m r k = k
+  module _ (i m : ℕ) (r : Outcome) where
+    abbrev Sent : Type 0
+    Sent = Calls (λ X. call.requestSend (controllerIs c) X i m) c r
+
+    pub sends-unready : (r .answer ≡ Refused OutOfPlace) × (r .controller ≡ c) → c .ready ≡ false → Sent
+    unfolding controllerIs
+    sends-unready a e = refused c OutOfPlace (a .0) (a .1) (λ X. send-unready (controllerIs c) X i m e)
+
+    module _ (e : c .ready ≡ true) where
+      pub sends-unknown : (r .answer ≡ Refused UnknownNotice) × (r .controller ≡ c) → ltb i (min (c .notices) 64) ≡ false → Sent
+      unfolding controllerIs
+      sends-unknown a f = refused c UnknownNotice (a .0) (a .1) (λ X. send-unknown (controllerIs c) X i m e (is-notice (c .senders) (c .notices) i ∙ f))
+
+      module _ (f : ltb i (min (c .notices) 64) ≡ true) where
+        known : i < min (c .notices) 64
+        known = ltb-true i (min (c .notices) 64) f
+
+        barred-so : (p q : Bool) → not (eqb (c .number) (getD (c .senders) i 0)) ≡ p → bit (c .requested) i ≡ q → notToSend (controllerIs c) [] i m ≡ (p || q)
+        unfolding controllerIs
+        barred-so p q g h = ap₂ _||_ (ap (λ k. not (eqb (c .number) k)) (sender-at (c .senders) (c .notices) i known) ∙ g) (some-when (bit (c .requested) i) (getD (c .sends) i 0) ∙ h)
+
+        pub sends-other : (r .answer ≡ Refused BadRequest) × (r .controller ≡ c) → (c .number ≡ getD (c .senders) i 0 → ⊥) → Sent
+        unfolding controllerIs
+        sends-other a g =
+            refused c BadRequest (a .0) (a .1)
+            (λ X. send-barred (controllerIs c) X i m e (is-notice (c .senders) (c .notices) i ∙ f) (barred-so true (bit (c .requested) i) (ap not (ne-eqb (c .number) (getD (c .senders) i 0) g)) refl))
+
+        module _ (g : c .number ≡ getD (c .senders) i 0) where
+          pub sends-again : (r .answer ≡ Refused BadRequest) × (r .controller ≡ c) → bit (c .requested) i ≡ true → Sent
+          unfolding controllerIs
+          sends-again a h =
+              refused c BadRequest (a .0) (a .1)
+              (λ X. send-barred (controllerIs c) X i m e (is-notice (c .senders) (c .notices) i ∙ f) (barred-so false true (ap not (eq-eqb (c .number) (getD (c .senders) i 0) g)) h))
+
+          pub sends-taken : (q : ℕ) → (r .answer ≡ Taken) × (r .controller ≡ asking (c .joining) (c .leaving) (set (c .sends) i m) q) → bit (c .requested) i ≡ false
+              → PutBit (c .requested) i true q → c .requested < 18446744073709551616 → q < 18446744073709551616 → length (c .sends) ≡ 64 → Sent
+          unfolding controllerIs
+          sends-taken q a h p l k n =
+              noted c (asking (c .joining) (c .leaving) (set (c .sends) i m) q) (a .0) (a .1)
+              (λ X. send-taken (controllerIs c) X i m e (is-notice (c .senders) (c .notices) i ∙ f) (barred-so false false (ap not (eq-eqb (c .number) (getD (c .senders) i 0) g)) h)
+              ∙ ap (λ s. call.note (controllerIs c) X (controller.withRequests (c .joining) (c .leaving) s (controllerIs c))) (sym (requested-put (c .requested) q i m (c .sends) p l k (omega (arith, known)) (omega (arith, known)))))
 
 pub entered-none : (h : History) → h .len ≡ 0 → eqb (length (viewsIs h)) 0 ≡ true
 unfolding viewsIs
-entered-none h e = eq-eqb (length (table (min (h .len) 16) (heldAt (h .views)))) 0 (table-length (min (h .len) 16) (heldAt (h .views)) ∙ (let q : min (h .len) 16 ≡ 0 = omega arith in q))
+entered-none h e = eq-eqb (length (listOf (min (h .len) 16) (heldAt (h .views)))) 0 (listOf-length (min (h .len) 16) (heldAt (h .views)) ∙ (let q : min (h .len) 16 ≡ 0 = omega arith in q))
 
 pub entered-some : (h : History) → (h .len ≡ 0 → ⊥) → eqb (length (viewsIs h)) 0 ≡ false
 unfolding viewsIs
-entered-some h n = ne-eqb (length (table (min (h .len) 16) (heldAt (h .views)))) 0 (λ q. let z : min (h .len) 16 ≡ 0 = sym (table-length (min (h .len) 16) (heldAt (h .views))) ∙ q in n (omega arith))
+entered-some h n = ne-eqb (length (listOf (min (h .len) 16) (heldAt (h .views)))) 0 (λ q. let z : min (h .len) 16 ≡ 0 = sym (listOf-length (min (h .len) 16) (heldAt (h .views))) ∙ q in n (omega arith))
 
 -- ---- setup
 
-module _ (c : Controller) (X : List Stmt) (number members sender : ℕ) where
-  pub setup-again : c .ready ≡ true → call.setup (controllerIs c) X number members sender ≡ call.refuse (controllerIs c) X controller.badSetup
+module _ (c : Controller) (X : List Stmt) (number members : ℕ) (senders : List ℕ) where
+  pub setup-again : c .ready ≡ true → call.setup (controllerIs c) X number members senders ≡ call.refuse (controllerIs c) X controller.badSetup
   unfolding call.setup controllerIs
   setup-again e = rw e
 
-  pub setup-barred : c .ready ≡ false → call.setupAllowed number members sender ≡ false → call.setup (controllerIs c) X number members sender ≡ call.refuse (controllerIs c) X controller.badSetup
+  pub setup-barred : (b : Bool) → c .ready ≡ false → b ≡ call.setupAllowed number members senders → b ≡ false → call.setup (controllerIs c) X number members senders ≡ call.refuse (controllerIs c) X controller.badSetup
   unfolding call.setup controllerIs
-  setup-barred e f = rw (e, f)
+  setup-barred b e f g = rw (e, sym f ∙ g)
 
-  pub setup-taken : c .ready ≡ false → call.setupAllowed number members sender ≡ true
-      → call.setup (controllerIs c) X number members sender ≡ record { answer = controller.taken; controller = call.started number members sender; statements = [] }
+  pub setup-taken : (b : Bool) → c .ready ≡ false → b ≡ call.setupAllowed number members senders → b ≡ true
+      → call.setup (controllerIs c) X number members senders ≡ record { answer = controller.taken; controller = call.started number members senders; statements = [] }
   unfolding call.setup controllerIs
-  setup-taken e f = rw (e, f)
+  setup-taken b e f g = rw (e, sym f ∙ g)
 
-module _ (number members sender : ℕ) where
-  pub no-members : members ≡ 0 → call.setupAllowed number members sender ≡ false
-  unfolding call.setupAllowed
-  no-members e = rw (le-ltb 0 members (omega arith))
+-- the tests of a setup, one after the other; the first that fails decides
+module _ (number members : ℕ) (S : List ℕ) (count : ℕ) where
+  abbrev isAllowed : Bool
+  isAllowed = call.setupAllowed number members (firstSenders S count)
 
-  pub far-number : 16 ≤ number → call.setupAllowed number members sender ≡ false
-  unfolding call.setupAllowed
-  far-number h = rw (le-ltb number 16 h) (and-no (ltb 0 members) (ltb members (2 ^ 16)) (ltb sender 16))
-    where
-      and-no : (a b d : Bool) → (((a && b) && false) && d) ≡ false
-      and-no true true d = refl
-      and-no true false d = refl
-      and-no false b d = refl
+  -- the tests in their order
+  tests : isAllowed ≡ (ltb 0 members && ltb members (2 ^ 16) && ltb number 16 && leb 1 count && leb count 64 && areNumbers (firstSenders S count))
+  unfolding call.setupAllowed areNumbers firstSenders
+  tests = ap (λ n. ltb 0 members && ltb members (2 ^ 16) && ltb number 16 && leb 1 n && leb n 64 && areNumbers (firstSenders S count)) (listOf-length count (λ i. getD S i 0))
 
-  pub far-sender : 16 ≤ sender → call.setupAllowed number members sender ≡ false
-  unfolding call.setupAllowed
-  far-sender h = rw (le-ltb sender 16 h) (and-no (ltb 0 members && ltb members (2 ^ 16) && ltb number 16))
-    where
-      and-no : (a : Bool) → (a && false) ≡ false
-      and-no true = refl
-      and-no false = refl
+  and-no : (a : Bool) → (a && false) ≡ false
+  and-no true = refl
+  and-no false = refl
 
-  pub allowed : (members ≡ 0 → ⊥) → members < 65536 → number < 16 → sender < 16 → call.setupAllowed number members sender ≡ true
-  unfolding call.setupAllowed
-  allowed n m k s = rw (lt-ltb 0 members (omega arith), lt-ltb members (2 ^ 16) m, lt-ltb number 16 k, lt-ltb sender 16 s)
+  pub no-members : members ≡ 0 → false ≡ isAllowed
+  no-members e = sym (tests ∙ rw (le-ltb 0 members (omega arith)))
+
+  pub far-number : 16 ≤ number → false ≡ isAllowed
+  far-number h = sym (tests ∙ rw (le-ltb number 16 h, and-no (ltb 0 members && ltb members (2 ^ 16))))
+
+  pub no-notices : count ≡ 0 → false ≡ isAllowed
+  no-notices e = sym (tests ∙ rw (lt-leb 1 count (omega arith), and-no (ltb 0 members && ltb members (2 ^ 16) && ltb number 16)))
+
+  pub many-notices : 64 < count → false ≡ isAllowed
+  many-notices h = sym (tests ∙ rw (lt-leb count 64 h, and-no (ltb 0 members && ltb members (2 ^ 16) && ltb number 16 && leb 1 count)))
+
+  pub allowed : (b : Bool) → (members ≡ 0 → ⊥) → members < 65536 → number < 16 → (count ≡ 0 → ⊥) → count ≤ 64 → b ≡ areNumbers (firstSenders S count) → b ≡ isAllowed
+  allowed b n m k o l e = e ∙ sym (tests ∙ rw (lt-ltb 0 members (omega arith), lt-ltb members (2 ^ 16) m, lt-ltb number 16 k, le-leb 1 count (omega arith), le-leb count 64 l))
+
+  -- a ring that may start has at most 64 notices
+  pub few-notices : (b : Bool) → b ≡ isAllowed → b ≡ true → count ≤ 64
+  few-notices b e f = elim (decLt 64 count) [ yes h ↦ absurd (true≢false (sym f ∙ e ∙ sym (many-notices h))) | no h ↦ omega arith ]
 
 -- ---- the controller that a setup starts
 
@@ -212,33 +276,60 @@ pub entered-start : (members k : ℕ) (h : History) → members < 65536 → view
 unfolding initialIs
 entered-start members k h l e = e ∙ rw (let q : members % 65536 ≡ members = omega arith in q, bit-member members k)
 
+-- what a controller holds before its setup
 pub new-is : (h : History) → viewsIs h ≡ [] → controllerIs (record {
   ready = false;
   number = 0;
   init = record { joined = 0; left = 0 };
-  sender = 0;
+  notices = 1;
+  senders = replicate 64 0;
   entered = h;
-  binding = Unbound;
-  delivered = false;
+  held = replicate 64 (record { binding = Unbound });
+  sends = replicate 64 0;
+  delivered = 0;
+  requested = 0;
   joining = false;
   leaving = false;
-  sending = Nothing;
 }) ≡ controller.notSetUp
-unfolding controllerIs
-new-is h e = rw e
+unfolding controllerIs sendersOf listOf
+new-is h e i = record {
+  isSetUp = false;
+  number = 0;
+  ring = record { width = 16; init = record { joined = 0; left = 0 } };
+  senders = 0 ∷ [];
+  entered = e i;
+  binding = none-bound 64 i;
+  delivered = none-delivered i;
+  joinRequested = false;
+  leaveRequested = false;
+  sendRequested = none-asked (replicate 64 0) i;
+}
 
-pub start-is : (number members sender : ℕ) (h : History) (blank : Controller) → controllerIs blank ≡ controller.notSetUp → members < 65536 → viewsIs h ≡ initialIs (record { joined = members; left = 0 }) number → controllerIs (record {
-  ready = true;
+pub start-is : (number members : ℕ) (S : List ℕ) (count : ℕ) (h : History) (blank : Controller) → controllerIs blank ≡ controller.notSetUp → members < 65536 → count ≤ 64
+    → viewsIs h ≡ initialIs (record { joined = members; left = 0 }) number → controllerIs (record {
+      ready = true;
+      number = number;
+      init = record { joined = members; left = 0 };
+      notices = count;
+      senders = S;
+      entered = h;
+      held = blank .held;
+      sends = blank .sends;
+      delivered = blank .delivered;
+      requested = blank .requested;
+      joining = blank .joining;
+      leaving = blank .leaving;
+    }) ≡ call.started number members (firstSenders S count)
+unfolding controllerIs call.started sendersOf firstSenders
+start-is number members S count h blank n l k e i = record {
+  isSetUp = true;
   number = number;
-  init = record { joined = members; left = 0 };
-  sender = sender;
-  entered = h;
-  binding = blank .binding;
-  delivered = blank .delivered;
-  joining = blank .joining;
-  leaving = blank .leaving;
-  sending = blank .sending;
-}) ≡ call.started number members sender
-unfolding controllerIs call.started
-start-is number members sender h blank n l e =
-    rw (let q : members % 65536 ≡ members = omega arith in q, entered-start members number h l e, ap (λ d. d .binding) n, ap (λ d. d .delivered) n, ap (λ d. d .joinRequested) n, ap (λ d. d .leaveRequested) n, ap (λ d. d .sendRequested) n)
+  ring = record { width = 16; init = record { joined = (let q : members % 65536 ≡ members = omega arith in q) i; left = 0 } };
+  senders = listOf ((let q : min count 64 ≡ count = omega arith in q) i) (λ j. getD S j 0);
+  entered = entered-start members number h l e i;
+  binding = ap (λ d. d .binding) n i;
+  delivered = ap (λ d. d .delivered) n i;
+  joinRequested = ap (λ d. d .joinRequested) n i;
+  leaveRequested = ap (λ d. d .leaveRequested) n i;
+  sendRequested = ap (λ d. d .sendRequested) n i;
+}

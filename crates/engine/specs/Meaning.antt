@@ -2,17 +2,18 @@
 -- Assumes nothing.
 use mathlib.Core.List.{List, [], _∷_}
 use Prim.Native.Nat.{ℕ}
-use Rattle.protocol.specs.Lists.{if_then_else_}
+use lib.ListN.{getD}
+use Rattle.protocol.specs.Sets.{bit}
+use Rattle.protocol.specs.Lists.{if_then_else_, when, listOf}
 use Rattle.protocol.specs.View.{View, controllers, member}
 use Rattle.protocol.specs.Controller as controller
 use Rattle.views.specs.Held.{viewIs, viewsIs}
 use Rattle.views.specs.declared.View as held
-use Rattle.statements.specs.Meaning.{bindingIs}
 use Rattle.pool.specs.Pool.{stmtAt}
+use Rattle.evidence.specs.Notices.{sendersOf, bindingHeld}
 use Rattle.engine.specs.declared.Controller.{Controller}
-use Rattle.rules.specs.Payloads.{payloadIs}
 use Rattle.engine.specs.declared.Refusal.{Refusal}
-use Rattle.engine.specs.declared.Refusal.the-variants.{BadSetup, BadStatement, Repeated, Full, BadRequest, ManyCandidates, Conflict, OutOfPlace}
+use Rattle.engine.specs.declared.Refusal.the-variants.{BadSetup, BadStatement, Repeated, Full, BadRequest, ManyCandidates, Conflict, OutOfPlace, UnknownNotice}
 use Rattle.engine.specs.declared.Answer.{Answer}
 use Rattle.engine.specs.declared.Answer.the-variants.{Taken, Signed, Entered, Delivered, Left, Quiet, Refused}
 
@@ -20,19 +21,23 @@ use Rattle.engine.specs.declared.Answer.the-variants.{Taken, Signed, Ent
 unfoldable pub initialIs : held.View → ℕ → List View
 initialIs v k = if member (viewIs v) k then viewIs v ∷ [] else []
 
--- The controller. Its record is lent beside it.
+-- The senders that a setup names: the first n of S.
+unfoldable pub firstSenders : List ℕ → ℕ → List ℕ
+firstSenders S n = listOf n (λ i. getD S i 0)
+
+-- The controller. Its record is lent beside it. What its arrays hold for a number that is no notice of the setup means nothing that a call asks.
 unfoldable pub controllerIs : Controller → controller.Controller
 controllerIs c = record {
   isSetUp = c .ready;
   number = c .number;
   ring = record { width = controllers; init = viewIs (c .init) };
-  sender = c .sender;
+  senders = sendersOf (c .senders) (c .notices);
   entered = viewsIs (c .entered);
-  binding = bindingIs (c .binding);
-  delivered = c .delivered;
+  binding = λ i. bindingHeld (c .held) i;
+  delivered = λ i. bit (c .delivered) i;
   joinRequested = c .joining;
   leaveRequested = c .leaving;
-  sendRequested = payloadIs (c .sending);
+  sendRequested = λ i. when (bit (c .requested) i) (getD (c .sends) i 0);
 }
 
 abbrev pub refusalIs : Refusal → controller.Refusal
@@ -44,13 +49,24 @@ refusalIs BadRequest = controller.badRequest
 refusalIs ManyCandidates = controller.manyCandidates
 refusalIs Conflict = controller.conflict
 refusalIs OutOfPlace = controller.outOfPlace
+refusalIs UnknownNotice = controller.unknownNotice
+
+-- The number in the pool of what was signed; 0 where nothing was.
+abbrev pub signedNumber : Answer → ℕ
+signedNumber Taken = 0
+signedNumber (Signed n) = n
+signedNumber (Entered v) = 0
+signedNumber (Delivered i m) = 0
+signedNumber Left = 0
+signedNumber Quiet = 0
+signedNumber (Refused r) = 0
 
 -- An answer over the pool's memory W: a signed statement is answered by its number in the pool.
 unfoldable pub answerIs : List ℕ → Answer → controller.Answer
 answerIs W Taken = controller.taken
 answerIs W (Signed n) = controller.signed (stmtAt W n)
 answerIs W (Entered v) = controller.entered (viewIs v)
-answerIs W (Delivered m) = controller.delivered m
+answerIs W (Delivered i m) = controller.delivered i m
 answerIs W Left = controller.left
 answerIs W Quiet = controller.quiet
 answerIs W (Refused r) = controller.refused (refusalIs r)

@@ -1,10 +1,12 @@
 -- What every call promises: its answer, the whole controller and record after it, and the pool.
 -- Assumes nothing.
 use mathlib.Core.Path.{_≡_}
+use mathlib.Core.Bool.{Bool}
 use mathlib.Core.List.{List}
 use Prim.Native.Nat.{ℕ}
 use Rattle.protocol.specs.Statement.{Stmt}
 use Rattle.protocol.specs.Controller as controller
+use Rattle.protocol.specs.Call as call
 use Rattle.protocol.specs.Pool.{numberOf, pooled, hasRoom}
 use Rattle.protocol.specs.Run.{Call, setupCall, joinCall, leaveCall, sendCall, addCall, turnCall, outcome}
 use Rattle.engine.specs.declared.Controller.{Controller}
@@ -43,7 +45,7 @@ abbrev pub IsRefused : controller.Answer → Type 0
 IsRefused controller.taken = ⊥
 IsRefused (controller.signed s) = ⊥
 IsRefused (controller.entered v) = ⊥
-IsRefused (controller.delivered m) = ⊥
+IsRefused (controller.delivered i m) = ⊥
 IsRefused controller.left = ⊥
 IsRefused controller.quiet = ⊥
 IsRefused (controller.refused r) = Unit {0}
@@ -53,7 +55,7 @@ abbrev pub signedOf : controller.Answer → Change
 signedOf controller.taken = unchanged
 signedOf (controller.signed s) = grown s
 signedOf (controller.entered v) = unchanged
-signedOf (controller.delivered m) = unchanged
+signedOf (controller.delivered i m) = unchanged
 signedOf controller.left = unchanged
 signedOf controller.quiet = unchanged
 signedOf (controller.refused r) = unchanged
@@ -80,7 +82,7 @@ abbrev pub startedOf : controller.Answer → Change
 startedOf controller.taken = emptied
 startedOf (controller.signed s) = unchanged
 startedOf (controller.entered v) = unchanged
-startedOf (controller.delivered m) = unchanged
+startedOf (controller.delivered i m) = unchanged
 startedOf controller.left = unchanged
 startedOf controller.quiet = unchanged
 startedOf (controller.refused r) = unchanged
@@ -98,7 +100,7 @@ abbrev pub addedOf : controller.Answer → Stmt → Change
 addedOf controller.taken s = grown s
 addedOf (controller.signed x) s = unchanged
 addedOf (controller.entered v) s = unchanged
-addedOf (controller.delivered m) s = unchanged
+addedOf (controller.delivered i m) s = unchanged
 addedOf controller.left s = unchanged
 addedOf controller.quiet s = unchanged
 addedOf (controller.refused r) s = unchanged
@@ -107,14 +109,18 @@ addedOf (controller.refused r) s = unchanged
 abbrev pub Adds : List ℕ → List ℕ → Controller → Stmt → controller.Outcome → Outcome → List ℕ → List ℕ → Type 0
 Adds W R c s o r W′ R′ = Meets W R c o (addedOf (o .answer) s) r W′ R′
 
+-- The same of the answer alone: no addition changes a controller, and it asks only whether that is set up and how many notices it has.
+pub record AddsFor (ready : Bool) (notices : ℕ) (W R : List ℕ) (s : Stmt) (a : Answer) (W′ R′ : List ℕ) : Type 0 where
+  pub each : (c : Controller) → c .ready ≡ ready → c .notices ≡ notices → Adds W R c s (call.add (controllerIs c) (recordIn W R) (hasRoom (poolOf W)) s) (record { answer = a; controller = c }) W′ R′
+
 -- ---- every call of a run
 
 -- What a call that answers so does to the record.
 unfoldable pub changeOf : Call → controller.Answer → Change
-changeOf (setupCall number members sender) a = startedOf a
+changeOf (setupCall number members senders) a = startedOf a
 changeOf joinCall a = unchanged
 changeOf leaveCall a = unchanged
-changeOf (sendCall payload) a = unchanged
+changeOf (sendCall notice payload) a = unchanged
 changeOf (addCall s) a = addedOf a s
 changeOf turnCall a = signedOf a
 

@@ -1,19 +1,15 @@
-// Setup and requests.
+// Requests.
 ghost use mathlib.Core.Path.{_≡_};
-ghost use Rattle.protocol.specs.Controller.{notSetUp};
-ghost use Rattle.protocol.specs.Call.{started, setup, requestJoin, requestLeave, requestSend};
-ghost use Rattle.views.specs.Held.{viewsIs};
-ghost use Rattle.engine.specs.Meaning.{controllerIs, initialIs};
-ghost use Rattle.engine.specs.Promise.{Calls, Starts};
+ghost use Prim.Native.Nat.{min};
+ghost use lib.Dec.{ltb};
+ghost use Rattle.protocol.specs.Call.{requestJoin, requestLeave, requestSend};
+ghost use Rattle.engine.specs.Meaning.{controllerIs};
+ghost use Rattle.engine.specs.Promise.{Calls};
 use crate::Answer;
 use crate::Controller;
 use crate::Outcome;
 use crate::Refusal;
-use pool::RECORD;
-use rules::OptionalPayload;
-use statements::Binding;
-use views::History;
-use views::View;
+use statements::NOTICES;
 
 // The controller as it was, and why.
 pub fn refuse(c: Controller, r: Refusal) -> Outcome
@@ -35,77 +31,17 @@ pub fn take(c: Controller) -> Outcome
     }
 }
 
-// The views that controller `number` has entered when the ring starts: the initial one, if it is a member.
-fn entered_first(init: View, number: u8) -> History
-    ensures { λ r. ⌜ viewsIs r ≡ initialIs init number ⌝ }
+// Whether the number is one of the first `notices` notices, of which there are at most 64.
+pub fn is_notice(notice: u64, notices: usize) -> bool
+    ensures { λ r. ⌜ r ≡ ltb notice (min notices 64) ⌝ }
 {
-    if init.has_member(number) {
-        return History::new().push(init);
+    if notice >= NOTICES as u64 {
+        return false;
     }
-    History::new()
-}
-
-// A controller that is set up in the ring of these initial members.
-fn start(number: u8, members: u16, sender: u8) -> Controller
-    ensures { λ r. ⌜ controllerIs r ≡ started number members sender ⌝ }
-{
-    let init = View {
-        joined: members as u32,
-        left: 0,
-    };
-    let entered = entered_first(init, number);
-    let blank = Controller::new();
-    Controller {
-        ready: true,
-        number: number,
-        init: init,
-        sender: sender,
-        entered: entered,
-        ..blank
-    }
+    (notice as usize) < notices
 }
 
 impl Controller {
-    // A controller before setup.
-    pub fn new() -> Controller
-        ensures { λ r. ⌜ controllerIs r ≡ notSetUp ⌝ }
-    {
-        let init = View { joined: 0, left: 0 };
-        let entered = History::new();
-        Controller {
-            ready: false,
-            number: 0,
-            init: init,
-            sender: 0,
-            entered: entered,
-            binding: Binding::Unbound,
-            delivered: false,
-            joining: false,
-            leaving: false,
-            sending: OptionalPayload::Nothing,
-        }
-    }
-
-    // A setup that is taken empties the record.
-    pub fn setup(self, ids: &mut [u16; RECORD], number: u8, members: u16, sender: u8) -> Outcome
-        ensures { λ r. ⌜ Starts (λ X. setup (controllerIs self) X number members sender) (now (ids .entry)) self r (now (ids .exit)) ⌝ }
-    {
-        if self.ready {
-            return refuse(self, Refusal::BadSetup);
-        }
-        if members == 0 {
-            return refuse(self, Refusal::BadSetup);
-        }
-        if number >= View::WIDTH {
-            return refuse(self, Refusal::BadSetup);
-        }
-        if sender >= View::WIDTH {
-            return refuse(self, Refusal::BadSetup);
-        }
-        pool::record_clear(ids);
-        take(start(number, members, sender))
-    }
-
     pub fn join(self) -> Outcome
         ensures { λ r. ⌜ Calls (requestJoin (controllerIs self)) self r ⌝ }
     {
@@ -144,22 +80,25 @@ impl Controller {
         })
     }
 
-    pub fn send(self, payload: u64) -> Outcome
-        ensures { λ r. ⌜ Calls (λ X. requestSend (controllerIs self) X payload) self r ⌝ }
+    pub fn send(self, notice: u64, payload: u64) -> Outcome
+        ensures { λ r. ⌜ Calls (λ X. requestSend (controllerIs self) X notice payload) self r ⌝ }
     {
         if !self.ready {
             return refuse(self, Refusal::OutOfPlace);
         }
-        if self.number != self.sender {
+        if !is_notice(notice, self.notices) {
+            return refuse(self, Refusal::UnknownNotice);
+        }
+        let j = notice as usize;
+        if self.number != self.senders[j] {
             return refuse(self, Refusal::BadRequest);
         }
-        let sending = self.sending;
-        let OptionalPayload::Nothing = sending else {
+        if statements::has(self.requested, j) {
             return refuse(self, Refusal::BadRequest);
-        };
-        take(Controller {
-            sending: OptionalPayload::Payload(payload),
-            ..self
-        })
+        }
+        let mut c = self;
+        c.sends[j] = payload;
+        c.requested = statements::with_notice(self.requested, j);
+        take(c)
     }
 }

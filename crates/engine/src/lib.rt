@@ -7,26 +7,34 @@ mod add;
 mod calls;
 mod keep;
 mod perform;
+mod setup;
 mod situation;
 mod turn;
 
+pub use add::add_statement;
+pub use calls::is_notice;
 pub use calls::refuse;
-use rules::OptionalPayload;
-use statements::Binding;
+use evidence::Notice;
+pub use setup::is_allowed;
+use statements::NOTICES;
 use views::History;
 use views::View;
 
+// Of notice j there are the sender, the binding, whether it was delivered, and the payload to send where that was requested: bits and places j.
 pub struct Controller {
     pub ready: bool,
     pub number: u8,
     pub init: View,
-    pub sender: u8,
+    // How many notices the setup named.
+    pub notices: usize,
+    pub senders: [u8; NOTICES],
     pub entered: History,
-    pub binding: Binding,
-    pub delivered: bool,
+    pub held: [Notice; NOTICES],
+    pub sends: [u64; NOTICES],
+    pub delivered: u64,
+    pub requested: u64,
     pub joining: bool,
     pub leaving: bool,
-    pub sending: OptionalPayload,
 }
 
 // Why a call is refused, in the order of the table of refusals.
@@ -39,14 +47,15 @@ pub enum Refusal {
     ManyCandidates,
     Conflict,
     OutOfPlace,
+    UnknownNotice,
 }
 
-// A signed statement is answered by its number in the pool.
+// A signed statement is answered by its number in the pool, a delivery by the notice and its payload.
 pub enum Answer {
     Taken,
     Signed(u16),
     Entered(View),
-    Delivered(u64),
+    Delivered(u8, u64),
     Left,
     Quiet,
     Refused(Refusal),
@@ -70,5 +79,6 @@ pub fn refusal_number(r: Refusal) -> u64
         Refusal::ManyCandidates => 6,
         Refusal::Conflict => 7,
         Refusal::OutOfPlace => 8,
+        Refusal::UnknownNotice => 9,
     }
 }

@@ -3,7 +3,7 @@ ghost use mathlib.Core.Path.{_≡_};
 ghost use Prim.Native.Nat.{_≤_, _<_};
 ghost use Rattle.protocol.specs.Lists.{all};
 ghost use Rattle.views.specs.Held.{viewIs, viewsIs};
-ghost use Rattle.engine.specs.Situation.{notAbove, RingOf, SituationFrom};
+ghost use Rattle.engine.specs.Situation.{notAbove, Situated};
 use crate::Controller;
 use evidence::Evidence;
 use evidence::Ring;
@@ -28,29 +28,26 @@ fn none_above(h: History, t: View) -> bool
     true
 }
 
-// The situation of the controller c, in its ring, with the evidence e of its record.
+// The situation of the controller c in its ring, with the evidence e of its record. It reads a few fields alone, so that a compiler copies no whole controller for it.
 pub fn of_controller(
     c: Controller,
     ring: Ring,
     e: Evidence,
     greatest: &[u64; View::LIMIT],
 ) -> Situation
-    requires { ⌜ RingOf c ring × (0 < e .length) × (e .length ≤ 16) ⌝ }
-    ensures { λ r. ⌜ SituationFrom c ring (now (greatest .entry)) e r ⌝ }
+    requires { ⌜ (0 < e .length) × (e .length ≤ 16) ⌝ }
+    ensures { λ r. ⌜ Situated c ring (now (greatest .entry)) e r ⌝ }
 {
     let t = View::of_word(greatest[e.length - 1]);
     let h = c.entered;
     let entered = h.has(t);
-    let b = c.binding;
-    let sending = c.sending;
     Situation {
         number: c.number,
         ring: ring,
-        binding: b,
         delivered: c.delivered,
         joining: c.joining,
         leaving: c.leaving,
-        sending: sending,
+        requested: c.requested,
         active: h.count() > 0,
         entered: entered,
         stands: entered & none_above(h, t),

@@ -4,17 +4,18 @@ use mathlib.Core.Path.{_≡_, refl, sym, ap, ap₂, subst, _∙_}
 use mathlib.Core.Logic.{_⊎_, inl, inr}
 use mathlib.Core.Bool.{Bool, true, false, _&&_, _||_}
 use mathlib.Core.List.{List}
-use Prim.Native.Nat.{ℕ, _≤_, _<_}
+use Prim.Native.Nat.{ℕ, _%_, _≤_, _<_}
 use native.Mathlib.Decide.{ℕ-discrete}
 use native.Mathlib.Omega.{arith}
-use lib.Dec.{T, eqb}
-use borrow.Author.Tests.{eq-eqb, ne-eqb}
+use lib.Dec.{T, eqb, ltb, ltb→lt}
+use lib.ListN.{getD}
+use borrow.Author.Tests.{eq-eqb, ne-eqb, lt-ltb, le-ltb}
 use Rattle.protocol.specs.View.{View}
 use Rattle.protocol.specs.History.{top}
-use Rattle.protocol.specs.Statement.{Stmt, isKind, Signed}
+use Rattle.protocol.specs.Statement.{Stmt, isKind, payloadOf, Signed}
 use Rattle.protocol.specs.Evidence.{signs, signedByQuorum, Quorum, sealed, Shown}
 use Rattle.protocol.specs.Grounds.{isTop}
-use Rattle.protocol.proofs.Says.{Says, says-map, says-unique, says-and, says-or}
+use Rattle.protocol.proofs.Says.{Says, from-true, says-map, says-unique, says-self, says-and, says-or}
 use Rattle.protocol.proofs.Monotone.{quorum-map}
 use Rattle.protocol.proofs.Decided.{says-kind, says-backed}
 use Rattle.protocol.proofs.Grounds.{Top, says-top}
@@ -22,27 +23,56 @@ use Rattle.views.specs.Sets.{IsSet}
 use Rattle.views.specs.View.{viewOf, ringOfWord, quorumHas}
 use Rattle.protocol.specs.Sets.{bit}
 use Rattle.views.proofs.Views.{signed-by-set}
-use Rattle.votes.specs.Votes.{alike, entry}
+use Rattle.pool.specs.Pool.{stmtAt}
+use Rattle.votes.specs.Votes.{alike, entry, tagBy}
 use Rattle.votes.proofs.Alike.{Alike, says-alike, alike-both, alike-turned}
-use Rattle.evidence.specs.Shown.{isBacked, payloadCount, listed, certifiesBy, storesIt}
+use Rattle.evidence.specs.Shown.{isBacked, listed, certifiesBy, storesOne}
 
 -- ---- tests of one statement
 
-pub certifies-kind : (P : List ℕ) (k : ℕ) (s : Stmt) → k ≡ s .kind → (k ≡ 7 → ⊥) → false ≡ certifiesBy P s
-unfolding certifiesBy isKind
-certifies-kind P k s e n = rw (sym e, ne-eqb k 7 n)
+module _ (notices : ℕ) (K : List ℕ) (known k : ℕ) (s : Stmt) (kind : k ≡ s .kind) where
+  pub certifies-kind : (k ≡ 7 → ⊥) → false ≡ certifiesBy notices K known s
+  unfolding certifiesBy isKind
+  certifies-kind n = sym (ap (λ a. a && ltb (s .notice) notices && listed K known (s .notice) (payloadOf s)) (ne-eqb (s .kind) 7 (λ q. n (kind ∙ q))))
 
-pub certifies-payload : (P : List ℕ) (k p : ℕ) (s : Stmt) (r : Bool) → k ≡ s .kind → k ≡ 7 → p ≡ s .payload → r ≡ listed P (payloadCount P) p → r ≡ certifiesBy P s
-unfolding certifiesBy isKind
-certifies-payload P k p s r e f g h = rw (sym e, eq-eqb k 7 f, sym g) h
+  module _ (seven : k ≡ 7) (j : ℕ) (is : j ≡ s .notice) where
+    pub certifies-outside : notices ≤ j → false ≡ certifiesBy notices K known s
+    unfolding certifiesBy isKind
+    certifies-outside l = sym (ap₂ (λ a b. a && b && listed K known (s .notice) (payloadOf s)) (eq-eqb (s .kind) 7 (sym kind ∙ seven)) (le-ltb (s .notice) notices (omega arith)))
 
-pub stores-kind : (m k : ℕ) (s : Stmt) → k ≡ s .kind → (k ≡ 8 → ⊥) → false ≡ storesIt m s
-unfolding storesIt isKind
-stores-kind m k s e n = rw (sym e, ne-eqb k 8 n)
+    pub certifies-payload : (p : ℕ) (r : Bool) → j < notices → p ≡ payloadOf s → r ≡ listed K known j p → r ≡ certifiesBy notices K known s
+    unfolding certifiesBy isKind
+    certifies-payload p r l e f =
+        f ∙ ap₂ (listed K known) is e
+        ∙ sym (ap₂ (λ a b. a && b && listed K known (s .notice) (payloadOf s)) (eq-eqb (s .kind) 7 (sym kind ∙ seven)) (lt-ltb (s .notice) notices (omega arith)))
 
-pub stores-payload : (m k p : ℕ) (s : Stmt) → k ≡ s .kind → k ≡ 8 → p ≡ s .payload → eqb p m ≡ storesIt m s
-unfolding storesIt isKind
-stores-payload m k p s e f g = rw (sym e, eq-eqb k 8 f, sym g)
+-- what it says
+module _ (notices : ℕ) (K : List ℕ) (known : ℕ) (s : Stmt) (r : Bool) (asked : r ≡ certifiesBy notices K known s) (sure : r ≡ true) where
+  certifying : ((s .kind ≡ 7) × T (ltb (s .notice) notices)) × T (listed K known (s .notice) (payloadOf s))
+  unfolding certifiesBy
+  certifying = says-and (says-and (says-kind 7 s) (says-self (ltb (s .notice) notices))) (says-self (listed K known (s .notice) (payloadOf s))) .sound (from-true (sym asked ∙ sure))
+
+  pub certifies-fits : (j : ℕ) → j ≡ s .notice → j < notices
+  certifies-fits j e = omega (arith, ltb→lt (s .notice) notices (certifying .0 .1))
+
+  pub certifies-seven : s .kind ≡ 7
+  certifies-seven = certifying .0 .0
+
+module _ (some : ℕ) (P : List ℕ) (k : ℕ) (s : Stmt) (kind : k ≡ s .kind) where
+  pub stores-kind : (k ≡ 8 → ⊥) → false ≡ storesOne some P s
+  unfolding storesOne isKind
+  stores-kind n = sym (ap (λ a. a && bit some (s .notice) && eqb (payloadOf s) (getD P (s .notice) 0)) (ne-eqb (s .kind) 8 (λ q. n (kind ∙ q))))
+
+  module _ (eight : k ≡ 8) (j : ℕ) (is : j ≡ s .notice) (r : Bool) (asked : r ≡ bit some j) where
+    of-bit : storesOne some P s ≡ (r && eqb (payloadOf s) (getD P (s .notice) 0))
+    unfolding storesOne isKind
+    of-bit = ap₂ (λ a b. a && b && eqb (payloadOf s) (getD P (s .notice) 0)) (eq-eqb (s .kind) 8 (sym kind ∙ eight)) (ap (bit some) (sym is) ∙ sym asked)
+
+    pub stores-other : r ≡ false → false ≡ storesOne some P s
+    stores-other e = sym (of-bit ∙ ap (λ b. b && eqb (payloadOf s) (getD P (s .notice) 0)) e)
+
+    pub stores-payload : (p x : ℕ) → r ≡ true → p ≡ payloadOf s → x ≡ getD P j 0 → eqb p x ≡ storesOne some P s
+    stores-payload p x e f g = ap₂ eqb f (g ∙ ap (λ j. getD P j 0) is) ∙ sym (of-bit ∙ ap (λ b. b && eqb (payloadOf s) (getD P (s .notice) 0)) e)
 
 -- ---- a statement that a quorum of a sealed top signed
 
@@ -92,27 +122,29 @@ module _ (init : ℕ) (X : List Stmt) where
   unfolding isBacked
   says-backed-by s = says-and (says-and (says-or (says-kind 7 s) (says-kind 8 s)) (says-backed (says-alike s))) (says-top (ringOfWord init) X (s .at))
 
-  -- ---- an ack or a store at t for m
+  -- ---- an ack or a store of notice i at t for m
 
-  pub record Cast (k : ℕ) (t : View) (m : ℕ) (s : Stmt) : Type 0 where
+  pub record Cast (k : ℕ) (t : View) (i m : ℕ) (s : Stmt) : Type 0 where
     pub kind : s .kind ≡ k
     pub at : s .at ≡ t
-    pub payload : s .payload ≡ m
+    pub notice : s .notice ≡ i
+    pub payload : payloadOf s ≡ m
 
   abbrev pub Late : ℕ → Type 0
   Late k = (k ≡ 7) ⊎ (k ≡ 8)
 
-  pub cast-of : (k : ℕ) {s x : Stmt} → Late k → s .kind ≡ k → Alike s x → Cast k (s .at) (s .payload) x
-  cast-of k (inl e) q al = record { kind = al .kind ∙ q; at = al .at; payload = al .acked (q ∙ e) }
-  cast-of k (inr e) q al = record { kind = al .kind ∙ q; at = al .at; payload = al .stored (q ∙ e) }
+  pub cast-of : (k : ℕ) {s x : Stmt} → Late k → s .kind ≡ k → Alike s x → Cast k (s .at) (s .notice) (payloadOf s) x
+  cast-of k (inl e) q al = record { kind = al .kind ∙ q; at = al .at; notice = al .notice (omega (arith, q, e)); payload = al .acked (q ∙ e) }
+  cast-of k (inr e) q al = record { kind = al .kind ∙ q; at = al .at; notice = al .notice (omega (arith, q, e)); payload = al .stored (q ∙ e) }
 
-  alike-of : (k : ℕ) {s x : Stmt} {t : View} {m : ℕ} → Late k → Cast k t m s → Cast k t m x → Alike s x
+  alike-of : (k : ℕ) {s x : Stmt} {t : View} {i m : ℕ} → Late k → Cast k t i m s → Cast k t i m x → Alike s x
   alike-of k {s} {x} l c d = record {
     vote = elim l [ inl e ↦ inl (inr (c .kind ∙ e)) | inr e ↦ inr (c .kind ∙ e) ];
     kind = d .kind ∙ sym (c .kind);
     at = d .at ∙ sym (c .at);
     view = λ q. absurd (late (sym (c .kind) ∙ q) l);
     views = λ q. absurd (far (sym (c .kind) ∙ q) l);
+    notice = λ q. d .notice ∙ sym (c .notice);
     acked = λ q. d .payload ∙ sym (c .payload);
     stored = λ q. d .payload ∙ sym (c .payload);
   }
@@ -130,14 +162,14 @@ module _ (init : ℕ) (X : List Stmt) where
 
   -- what is backed is cast by a quorum of a sealed top
   pub cast-quorum : (k : ℕ) (s : Stmt) → Late k → s .kind ≡ k → T (isBacked init X s)
-      → (G : List View) × Shown (ringOfWord init) X (sealed G) × Quorum 16 (top (ringOfWord init) G) (Signed X (Cast k (top (ringOfWord init) G) (s .payload)))
+      → (G : List View) × Shown (ringOfWord init) X (sealed G) × Quorum 16 (top (ringOfWord init) G) (Signed X (Cast k (top (ringOfWord init) G) (s .notice) (payloadOf s)))
   cast-quorum k s l e b =
       let ((_, q), (G, g, h)) = says-backed-by s .sound b in
-      (G, g, subst (λ t. Quorum 16 t (Signed X (Cast k t (s .payload)))) (sym h) (signed-map (λ x. cast-of k l e) q))
+      (G, g, subst (λ t. Quorum 16 t (Signed X (Cast k t (s .notice) (payloadOf s)))) (sym h) (signed-map (λ x. cast-of k l e) q))
 
-  pub quorum-cast : (k m : ℕ) (s : Stmt) {G : List View} → Late k → Shown (ringOfWord init) X (sealed G) → Quorum 16 (top (ringOfWord init) G) (Signed X (Cast k (top (ringOfWord init) G) m))
-      → Cast k (top (ringOfWord init) G) m s → T (isBacked init X s)
-  quorum-cast k m s {G} l g q c = says-backed-by s .complete (
+  pub quorum-cast : (k i m : ℕ) (s : Stmt) {G : List View} → Late k → Shown (ringOfWord init) X (sealed G) → Quorum 16 (top (ringOfWord init) G) (Signed X (Cast k (top (ringOfWord init) G) i m))
+      → Cast k (top (ringOfWord init) G) i m s → T (isBacked init X s)
+  quorum-cast k i m s {G} l g q c = says-backed-by s .complete (
     (elim l [ inl e ↦ inl (c .kind ∙ e) | inr e ↦ inr (c .kind ∙ e) ], subst (λ t. Quorum 16 t (Signed X (Alike s))) (sym (c .at)) (signed-map (λ x d. alike-of k l c d) q)),
     (G, g, sym (c .at)),
   )
@@ -149,3 +181,8 @@ signers-are {p = p} e s = subst (λ (x : ℕ). IsSet x p) (sym e) s
 
 pub at-place : (W ids : List ℕ) (t : ℕ) {f i : ℕ} → f ≡ i → viewOf t ≡ entry W ids f .at → viewOf t ≡ entry W ids i .at
 at-place W ids t e a = a ∙ ap (λ i. entry W ids i .at) e
+
+-- the kind of its votes
+pub tag-kind : (W ids : List ℕ) (x i : ℕ) → x ≡ tagBy (entry W ids i) → x % 256 ≡ entry W ids i .kind
+unfolding tagBy stmtAt
+tag-kind W ids x i e = omega arith

@@ -18,27 +18,27 @@ use Rattle.views.specs.View.{viewOf, viewIn, ringOfWord, viewsOf}
 use Rattle.views.proofs.Sets.{setOf-lt}
 use Rattle.views.proofs.Views.{view-whole}
 use Rattle.pool.specs.Pool.{recordIn}
-use Rattle.ranking.proofs.Members.{table-in}
+use Rattle.ranking.proofs.Members.{listOf-in}
 use Rattle.ranking.proofs.Ranks.{record-fits, candidate-fits}
 use Rattle.evidence.specs.declared.Evidence.{Evidence}
 use Rattle.evidence.specs.Evidence.{EvidenceOf, Settled, Narrow}
 
 narrow-all : (list : List ℕ) (n : ℕ) → ((v : View) → v ∈ viewsOf list n → Fits 16 v) → Narrow list n
 unfolding viewsOf
-narrow-all list n f = record { at = λ i l. view-whole (getD list i 0) refl (f _ (table-in n (λ i. viewOf (getD list i 0)) i l)) }
+narrow-all list n f = record { at = λ i l. view-whole (getD list i 0) refl (f _ (listOf-in n (λ i. viewOf (getD list i 0)) i l)) }
 
-module _ (init sender : ℕ) (W ids C G : List ℕ) (e : Evidence) where
+module _ (init : ℕ) (senders W ids C G P : List ℕ) (e : Evidence) where
   abbrev X : List Stmt
   X = recordIn W ids
 
-  pub wished-fits : EvidenceOf (ringOfWord init) sender X C G e → Fits 16 (viewOf (e .wished))
+  pub wished-fits : EvidenceOf (ringOfWord init) senders X C G P e → Fits 16 (viewOf (e .wished))
   unfolding wished
   wished-fits of = subst (Fits 16) (sym (of .wished)) (record { joined = setOf-lt 16 (joinedBy (ringOfWord init) X); left = setOf-lt 16 (leftBy (ringOfWord init) X) })
 
-  pub wished-narrow : EvidenceOf (ringOfWord init) sender X C G e → viewIn (e .wished) ≡ viewOf (e .wished)
+  pub wished-narrow : EvidenceOf (ringOfWord init) senders X C G P e → viewIn (e .wished) ≡ viewOf (e .wished)
   wished-narrow of = view-whole (e .wished) refl (wished-fits of)
 
-  module _ (fits : Fits 16 (viewOf init)) (settled : Settled (ringOfWord init) sender X C G e) where
+  module _ (fits : Fits 16 (viewOf init)) (settled : Settled (ringOfWord init) senders X C G P e) where
     fits-of : {v : View} → Candidate (ringOfWord init) X v → Fits 16 v
     fits-of {v} k = elim (candidate-fits init X (record-fits W ids (getD ids 512 0)) k) [ inl e ↦ subst (Fits 16) (sym e) fits | inr (_, f) ↦ f ]
 
@@ -47,8 +47,8 @@ module _ (init sender : ℕ) (W ids C G : List ℕ) (e : Evidence) where
 
     pub greatest-fit : (v : View) → v ∈ viewsOf G (e .length) → Fits 16 v
     greatest-fit v m =
-        let clear : T (not (isConflict (ringOfWord init) sender X)) = subst (λ b. T (not b)) (sym (settled .agree) ∙ settled .of .conflict) tt in
-        fits-of (sealed-candidate (greatest-holds (ringOfWord init) sender X clear .0) (subst (λ l. v ∈ l) (settled .of .greatest (settled .agree)) m))
+        let clear : T (not (isConflict (ringOfWord init) senders X)) = subst (λ b. T (not b)) (sym (settled .agree) ∙ settled .of .conflict) tt in
+        fits-of (sealed-candidate (greatest-holds (ringOfWord init) senders X clear .0) (subst (λ l. v ∈ l) (settled .of .greatest (settled .agree)) m))
 
     pub candidates-narrow : Narrow C (e .count)
     candidates-narrow = narrow-all C (e .count) candidates-fit

@@ -14,7 +14,7 @@ use Rattle.protocol.specs.Statement.{Stmt}
 use Rattle.protocol.specs.Evidence.{signs}
 use Rattle.views.specs.Sets.{IsSet}
 use Rattle.pool.specs.Pool.{recordUpTo, recordLen, recordIn}
-use Rattle.votes.specs.Votes.{isVote, alike, entry, placeOf, tagOf, signersOf, voteAt, Groups, GroupsIn}
+use Rattle.votes.specs.Votes.{isVote, alike, entry, placeOf, tagOf, signersOf, voteAt, tagBy, Groups, GroupsIn}
 use Rattle.votes.specs.Chosen.{Picked}
 use Rattle.votes.proofs.Alike.{Vote, says-vote, says-alike}
 use Rattle.votes.proofs.Picked.{picked-first, picked-skip, picked-take}
@@ -29,7 +29,7 @@ module _ (W ids : List ℕ) (len n : ℕ) (G G′ : List ℕ) (same : (g : ℕ) 
     most = r .most;
     place = λ g l. subst (λ x. placeOf x < min len 512) (sym (same g l)) (r .place g l);
     vote = λ g l. subst (λ x. T (isVote (entry W ids (placeOf x)))) (sym (same g l)) (r .vote g l);
-    tag = λ g l. subst (λ x. tagOf x ≡ entry W ids (placeOf x) .kind) (sym (same g l)) (r .tag g l);
+    tag = λ g l. subst (λ x. tagOf x ≡ tagBy (entry W ids (placeOf x))) (sym (same g l)) (r .tag g l);
     signers = λ g l. subst (λ x. IsSet (signersOf x) (signs (alike (entry W ids (placeOf x))) (recordUpTo W ids len))) (sym (same g l)) (r .signers g l);
     covers = λ i l v. let (g, k, a) = r .covers i l v in (g, k, subst (λ x. T (alike (entry W ids (placeOf x)) (entry W ids i))) (sym (same g k)) a);
   }
@@ -50,7 +50,8 @@ ended-room W ids G n h l r = record {
 vote-of : (init : ℕ) (X : List Stmt) (s : Stmt) → T (isBacked init X s) → T (isVote s)
 vote-of init X s b = says-vote s .complete (elim (says-backed-by init X s .sound b .0 .0) [ inl k ↦ inl (inr k) | inr k ↦ inr k ])
 
-vote-tagged : (s : Stmt) → T (isVote s) → s .kind ≡ 0 → ⊥
+vote-tagged : (s : Stmt) → T (isVote s) → tagBy s ≡ 0 → ⊥
+unfolding tagBy
 vote-tagged s v e = go (says-vote s .sound v)
   where
     go : Vote s → ⊥
@@ -116,11 +117,11 @@ module _ (W ids : List ℕ) (init : ℕ) (G₀ : List ℕ) where
 
       -- what is asked of a group
       pub group-here : (k ≡ 0 → ⊥)
-          → (placeOf (getD G g 0) < recordLen ids) × (tagOf (getD G g 0) ≡ entry W ids (placeOf (getD G g 0)) .kind)
+          → (placeOf (getD G g 0) < recordLen ids) × (tagOf (getD G g 0) ≡ tagBy (entry W ids (placeOf (getD G g 0))))
           × IsSet (signersOf (getD G g 0)) (signs (alike (entry W ids (placeOf (getD G g 0)))) (recordIn W ids))
       group-here d =
           let l = before-end d in
-          subst (λ x. (placeOf x < recordLen ids) × (tagOf x ≡ entry W ids (placeOf x) .kind) × IsSet (signersOf x) (signs (alike (entry W ids (placeOf x))) (recordIn W ids))) (sym here)
+          subst (λ x. (placeOf x < recordLen ids) × (tagOf x ≡ tagBy (entry W ids (placeOf x))) × IsSet (signersOf x) (signs (alike (entry W ids (placeOf x))) (recordIn W ids))) (sym here)
           (ended .groups .place g l, ended .groups .tag g l, ended .groups .signers g l)
 
       at-end : k ≡ 0 → g ≡ ended .count

@@ -1,10 +1,11 @@
+pub mod Senders
 pub mod Listing
 pub mod Payloads
 pub mod Backing
 pub mod Kept
 pub mod Acked
 pub mod Reporting
-pub mod Merging
+pub mod Merges
 pub mod Turns
 pub mod Fitting
 pub mod Tied

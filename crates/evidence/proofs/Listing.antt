@@ -9,10 +9,9 @@ use native.Mathlib.Omega.{arith}
 use mir.Val.{boolByte}
 use lib.ListN.{length, getD, set, length-set}
 use lib.Seq.{getD-set-same, getD-set-other}
-use Rattle.protocol.specs.Lists.{if_then_else_, any, filter}
+use Rattle.protocol.specs.Lists.{if_then_else_, any, filter, listOf}
 use Rattle.protocol.specs.Statement.{Stmt}
-use Rattle.views.specs.Table.{table}
-use Rattle.views.proofs.Tables.{table-cong}
+use Rattle.protocol.proofs.Numbered.{listOf-cong}
 use Rattle.pool.specs.Pool.{stmtAt, recordUpTo, recordIn}
 use Rattle.pool.proofs.Records.{entry, so-far, whole}
 use Rattle.pool.proofs.Lists.{same-numbers}
@@ -72,11 +71,11 @@ pub more-fits : (m : ℕ) (b : Bool) → m ≤ 512 → m + boolByte b < 2 ^ 64
 more-fits m b h = omega (arith, byte-one b)
 
 pub sifted-none : {q : Stmt → Bool} {W ids J : List ℕ} → length J ≡ 513 → Sifted q W ids J 0 0
-unfolding filter table
+unfolding filter listOf
 sifted-none {q} {W} {ids} {J} e = record { size = e; most = omega arith; are = so-far W J 0 (omega arith) ∙ ap (filter q) (sym (so-far W ids 0 (omega arith))) }
 
 longer : (W ids : List ℕ) (i : ℕ) → i < 512 → recordUpTo W ids (i + 1) ≡ recordUpTo W ids i ++ (entry W ids i ∷ [])
-unfolding table
+unfolding listOf
 longer W ids i l = rw (so-far W ids i (omega arith), so-far W ids (i + 1) (omega arith), add-one)
 
 module _ {q : Stmt → Bool} {W ids J : List ℕ} {i m : ℕ} (l : i < 512) (g : Sifted q W ids J i m) where
@@ -85,7 +84,7 @@ module _ {q : Stmt → Bool} {W ids J : List ℕ} {i m : ℕ} (l : i < 512) (g :
 
   before : recordUpTo W more m ≡ filter q (recordUpTo W ids i)
   before =
-      so-far W more m (omega (arith, g .most)) ∙ table-cong m (entry W more) (entry W J) (λ j b. ap (stmtAt W) (getD-set-other J m j (getD ids i 0) 0 (λ e. omega arith)))
+      so-far W more m (omega (arith, g .most)) ∙ listOf-cong m (entry W more) (entry W J) (λ j b. ap (stmtAt W) (getD-set-other J m j (getD ids i 0) 0 (λ e. omega arith)))
       ∙ sym (so-far W J m (omega (arith, g .most))) ∙ g .are
 
   -- statement i is kept or not

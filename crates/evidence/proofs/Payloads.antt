@@ -1,169 +1,253 @@
--- Laws of the list of what the sender prepared.
+-- Laws of the list of what the senders prepared.
 -- Assumes nothing.
 use mathlib.Core.Path.{_≡_, refl, sym, ap, ap₂, subst, _∙_}
-use mathlib.Core.Logic.{_≢_}
-use mathlib.Core.Bool.{Bool, true, false, not, _&&_, _||_, or-false}
+use mathlib.Core.Logic.{_⊎_, inl, inr, _≢_}
+use mathlib.Core.Bool.{Bool, true, false, _&&_, _||_, or-false}
 use mathlib.Core.List.{List}
-use Prim.Native.Nat.{ℕ, _+_, _≤_, _<_, min}
+use Prim.Native.Nat.{ℕ, zero, suc, _+_, _-_, _≤_, _<_, min}
 use native.Mathlib.Decide.{ℕ-discrete}
 use native.Mathlib.Numerals.{add-one}
 use native.Mathlib.Omega.{arith}
-use lib.Dec.{T, eqb}
-use lib.ListN.{length, getD, set, length-set}
-use lib.Seq.{getD-set-same, getD-set-other}
-use borrow.Author.Tests.{eq-eqb, ne-eqb}
-use Rattle.protocol.specs.Lists.{_∈_, any}
-use Rattle.protocol.specs.Statement.{Stmt, isKind}
-use Rattle.protocol.specs.Evidence.{prepares, isPrepared, twoPrepares, Prepared}
-use Rattle.protocol.proofs.Says.{says-map, says-unique, says-not, says-eqb, says-any}
-use Rattle.protocol.proofs.Decided.{says-prepared, says-twoPrepares}
-use Rattle.views.specs.Table.{table}
-use Rattle.views.proofs.Tables.{any-zero, any-suc, any-more, any-at, table-cong}
-use Rattle.pool.specs.Pool.{recordUpTo}
+use lib.Dec.{T, eqb, ltb}
+use lib.ListN.{length}
+use borrow.Author.Tests.{eq-eqb, ne-eqb, lt-ltb, le-ltb}
+use Rattle.protocol.specs.Lists.{any}
+use Rattle.protocol.specs.Statement.{Stmt, isKind, payloadOf}
+use Rattle.protocol.specs.Evidence.{senderOf, prepares, isPrepared, twoPrepares, Prepare, Prepared}
+use Rattle.protocol.proofs.Says.{Says, from-true, says-map, says-unique, says-self, says-and, says-or, says-not, says-eqb}
+use Rattle.protocol.proofs.Decided.{says-prepares, says-prepared, says-twoPrepares}
+use Rattle.views.proofs.Views.{passes, fails}
+use Rattle.pool.specs.Pool.{payloadFrom, word, stmtAt, recordUpTo}
 use Rattle.pool.proofs.Records.{entry, none-first, any-next, whole}
-use Rattle.evidence.specs.Shown.{preparesIt, payloadCount, listed, twofold, PreparedList}
-use Rattle.ranking.proofs.Members.{table-out}
+use Rattle.tables.specs.Index.{newestAt, keyAt, SlotsCleared, RowLinked, RowKeyed, Newest, Chained}
+use Rattle.tables.proofs.Chains.{chained-first, chained-same, chained-new}
+use Rattle.tables.proofs.Searches.{Walked}
+use Rattle.evidence.specs.Shown.{preparesIt, preparesOne, someBelow, listed, twofold, PrepareAdded, Linked, PreparedList}
+use Rattle.evidence.proofs.Senders.{notice-small, payload-plain}
 
 -- ---- one statement
 
-pub prepare-kind : (sender k : ℕ) (s : Stmt) → k ≡ s .kind → (k ≡ 6 → ⊥) → false ≡ prepares sender s
-unfolding prepares isKind
-prepare-kind sender k s e n = rw (sym e, ne-eqb k 6 n)
+module _ (senders : List ℕ) (i k : ℕ) (s : Stmt) (kind : k ≡ s .kind) where
+  pub prepare-kind : (k ≡ 6 → ⊥) → false ≡ prepares senders i s
+  unfolding prepares isKind
+  prepare-kind n = sym (ap (λ a. a && eqb (s .origin) (senderOf senders i) && eqb (s .notice) i) (ne-eqb (s .kind) 6 (λ q. n (kind ∙ q))))
 
-pub prepare-origin : (sender k o : ℕ) (s : Stmt) → k ≡ s .kind → k ≡ 6 → o ≡ s .origin → eqb o sender ≡ prepares sender s
-unfolding prepares isKind
-prepare-origin sender k o s e f g = rw (sym e, eq-eqb k 6 f, sym g)
+  module _ (six : k ≡ 6) (o x : ℕ) (origin : o ≡ s .origin) (sender : x ≡ senderOf senders i) where
+    pub prepare-alien : (o ≡ x → ⊥) → false ≡ prepares senders i s
+    unfolding prepares isKind
+    prepare-alien n = sym (ap₂ (λ a b. a && b && eqb (s .notice) i) (eq-eqb (s .kind) 6 (sym kind ∙ six)) (ne-eqb (s .origin) (senderOf senders i) (λ q. n (origin ∙ q ∙ sym sender))))
 
-pub prepares-not : (sender m : ℕ) (s : Stmt) (r : Bool) → r ≡ prepares sender s → r ≡ false → false ≡ preparesIt sender m s
+    pub prepare-notice : (j : ℕ) → o ≡ x → j ≡ s .notice → eqb j i ≡ prepares senders i s
+    unfolding prepares isKind
+    prepare-notice j e q = ap (λ y. eqb y i) q ∙ sym (ap₂ (λ a b. a && b && eqb (s .notice) i) (eq-eqb (s .kind) 6 (sym kind ∙ six)) (eq-eqb (s .origin) (senderOf senders i) (sym origin ∙ e ∙ sender)))
+
+module _ (senders : List ℕ) (s : Stmt) (n j : ℕ) (count : n ≡ length senders) (is : j ≡ s .notice) where
+  pub one-outside : n ≤ j → false ≡ preparesOne senders s
+  unfolding preparesOne
+  one-outside l = sym (ap (λ b. b && prepares senders (s .notice) s) (le-ltb (s .notice) (length senders) (omega arith)))
+
+  pub one-inside : (r : Bool) → j < n → r ≡ prepares senders j s → r ≡ preparesOne senders s
+  unfolding preparesOne
+  one-inside r l e = e ∙ ap (λ i. prepares senders i s) is ∙ sym (ap (λ b. b && prepares senders (s .notice) s) (lt-ltb (s .notice) (length senders) (omega arith)))
+
+pub prepares-not : (senders : List ℕ) (i m : ℕ) (s : Stmt) (r : Bool) → r ≡ prepares senders i s → r ≡ false → false ≡ preparesIt senders i m s
 unfolding preparesIt
-prepares-not sender m s r e f = sym (ap (λ b. b && eqb (s .payload) m) (sym e ∙ f))
+prepares-not senders i m s r e f = sym (ap (λ b. b && eqb (payloadOf s) m) (sym e ∙ f))
 
-pub prepares-payload : (sender m p : ℕ) (s : Stmt) (r : Bool) → r ≡ prepares sender s → r ≡ true → p ≡ s .payload → eqb p m ≡ preparesIt sender m s
+pub prepares-payload : (senders : List ℕ) (i m p : ℕ) (W : List ℕ) (n : ℕ) (r : Bool) → r ≡ prepares senders i (stmtAt W n) → r ≡ true → p ≡ word W n payloadFrom → eqb p m ≡ preparesIt senders i m (stmtAt W n)
 unfolding preparesIt
-prepares-payload sender m p s r e f g = ap (λ x. eqb x m) g ∙ sym (ap (λ b. b && eqb (s .payload) m) (sym e ∙ f))
+prepares-payload senders i m p W n r e f g =
+    let six : stmtAt W n .kind ≡ 6 = says-prepares senders i (stmtAt W n) .sound (from-true (sym e ∙ f)) .kind in
+    ap (λ x. eqb x m) (g ∙ payload-plain W n (λ q. omega arith)) ∙ sym (ap (λ b. b && eqb (payloadOf (stmtAt W n)) m) (sym e ∙ f))
+
+module _ (senders : List ℕ) (s : Stmt) where
+  -- a prepare of some notice, and of notice j
+
+  one-of : (j : ℕ) → j < length senders → Prepare senders j (payloadOf s) s → preparesOne senders s ≡ true
+  unfolding preparesOne
+  one-of j l p = ap₂ _&&_ (lt-ltb (s .notice) (length senders) (omega (arith, p .notice)))
+      (passes (says-prepares senders (s .notice) s) (subst (λ i. Prepare senders i (payloadOf s) s) (sym (p .notice)) p))
+
+  pub one-not : preparesOne senders s ≡ false → (j : ℕ) → j < length senders → prepares senders j s ≡ false
+  one-not e j l = fails (says-prepares senders j s) (λ p. subst T (sym (one-of j l p) ∙ e) tt)
+
+  one-prepare : preparesOne senders s ≡ true → Prepare senders (s .notice) (payloadOf s) s
+  unfolding preparesOne
+  one-prepare e = says-and (says-self (ltb (s .notice) (length senders))) (says-prepares senders (s .notice) s) .sound (from-true e) .1
+
+  pub one-is : preparesOne senders s ≡ true → (j : ℕ) → prepares senders j s ≡ eqb (s .notice) j
+  one-is e j = says-unique (says-prepares senders j s) (says-map (λ q. subst (λ i. Prepare senders i (payloadOf s) s) q (one-prepare e)) (λ p. p .notice) (says-eqb {m = s .notice} {n = j}))
+
+  pub one-kind : preparesOne senders s ≡ true → s .kind ≡ 6
+  one-kind e = one-prepare e .kind
+
+-- ---- numbers below n
+
+module _ {p : ℕ → Bool} {P : ℕ → Type 0} (f : (c : ℕ) → Says (p c) (P c)) where
+  some-suc : (n : ℕ) → Says (someBelow n p) ((c : ℕ) × (c < n) × P c) → Says (someBelow n p || p n) ((c : ℕ) × (c < suc n) × P c)
+  some-suc n h = says-map to from (says-or h (f n))
+    where
+      to : ((c : ℕ) × (c < n) × P c) ⊎ P n → (c : ℕ) × (c < suc n) × P c
+      to (inl (c, l, q)) = (c, omega arith, q)
+      to (inr q) = (n, omega arith, q)
+
+      from : (c : ℕ) × (c < suc n) × P c → ((c : ℕ) × (c < n) × P c) ⊎ P n
+      from (c, l, q) = elim (ℕ-discrete c n) [ yes e ↦ inr (subst P e q) | no d ↦ inl (c, omega arith, q) ]
+
+  says-some : (n : ℕ) → Says (someBelow n p) ((c : ℕ) × (c < n) × P c)
+  unfolding someBelow
+  says-some zero = record { sound = λ t. absurd t; complete = λ (c, l, q). absurd (omega arith) }
+  says-some (suc n) = some-suc n (says-some n)
+
+some-cong : (n : ℕ) (p q : ℕ → Bool) → ((c : ℕ) → c < n → p c ≡ q c) → someBelow n p ≡ someBelow n q
+unfolding someBelow
+some-cong zero p q f = refl
+some-cong (suc n) p q f = ap₂ _||_ (some-cong n p q (λ c l. f c (omega arith))) (f n (omega arith))
 
 -- ---- the list, as it is written
 
--- one payload more
-listed-suc : (P : List ℕ) (n x m : ℕ) → n < length P → listed (set P n x) (n + 1) m ≡ (listed P n m || eqb x m)
+-- row c is of notice j and has the payload m
+abbrev pub Row : List ℕ → ℕ → ℕ → ℕ → Type 0
+Row K j m c = (keyAt K 1 c ≡ j) × (keyAt K 0 c ≡ m)
+
+says-listed : (K : List ℕ) (n j m : ℕ) → Says (listed K n j m) ((c : ℕ) × (c < n) × Row K j m c)
 unfolding listed
-listed-suc P n x m l =
-    ap (λ k. any (λ p. eqb p m) (table k (λ i. getD (set P n x) i 0))) (add-one n) ∙ any-suc (λ p. eqb p m) (λ i. getD (set P n x) i 0) n
-    ∙ ap₂ (λ t p. any (λ p. eqb p m) t || eqb p m) (table-cong n (λ i. getD (set P n x) i 0) (λ i. getD P i 0) (λ i h. getD-set-other P n i x 0 (λ e. omega arith))) (getD-set-same P n x 0 l)
+says-listed K n j m = says-some (λ c. says-and (says-eqb {m = keyAt K 1 c} {n = j}) (says-eqb {m = keyAt K 0 c} {n = m})) n
 
-listed-zero : (P : List ℕ) (m : ℕ) → listed P 0 m ≡ false
-unfolding listed
-listed-zero P m = any-zero (λ p. eqb p m) (λ i. getD P i 0)
+pub prepare-added : (W : List ℕ) (s : ℕ) {n m j w : ℕ} {K K₁ K₂ R R′ : List ℕ} → n < 512 → RowKeyed K 0 n m K₁ → RowKeyed K₁ 1 n w K₂ → RowLinked R 0 j n R′
+    → m ≡ word W s payloadFrom → w ≡ j → j ≡ stmtAt W s .notice → PrepareAdded (stmtAt W s) n K R K₂ R′
+prepare-added W s {n} {m} {j} {w} {K} {K₁} {K₂} {R} {R′} l a b put p q e = record {
+  payload = λ d. b .others 0 (omega arith) (λ z. omega arith) .key n l ∙ a .here ∙ p ∙ payload-plain W s d;
+  notice = b .here ∙ q ∙ e;
+  payloads = λ c h. b .others 0 (omega arith) (λ z. omega arith) .key c (omega arith) ∙ a .keys c (omega arith) (λ z. omega arith);
+  notices = λ c h. b .keys c (omega arith) (λ z. omega arith) ∙ a .others 1 (omega arith) (λ z. omega arith) .key c (omega arith);
+  linked = subst (λ j. RowLinked R 0 j n R′) e put;
+}
 
-counted-last : (P : List ℕ) (n : ℕ) → n ≤ 512 → length P ≡ 513 → payloadCount (set P 512 n) ≡ n
-counted-last P n l h = ap (λ k. min k 512) (getD-set-same P 512 n 0 (omega arith)) ∙ omega arith
+module _ {s : Stmt} {n : ℕ} {K R K′ R′ : List ℕ} (added : PrepareAdded s n K R K′ R′) where
+  listed-more : (s .kind ≡ 5 → ⊥) → (j m : ℕ) → listed K′ (n + 1) j m ≡ (listed K n j m || (eqb (s .notice) j && eqb (payloadOf s) m))
+  unfolding listed someBelow
+  listed-more d j m =
+      ap (λ k. someBelow k (λ c. eqb (keyAt K′ 1 c) j && eqb (keyAt K′ 0 c) m)) (add-one n)
+      ∙ ap₂ _||_ (some-cong n (λ c. eqb (keyAt K′ 1 c) j && eqb (keyAt K′ 0 c) m) (λ c. eqb (keyAt K 1 c) j && eqb (keyAt K 0 c) m)
+      (λ c l. ap₂ (λ a b. eqb a j && eqb b m) (added .notices c l) (added .payloads c l))) (ap₂ (λ a b. eqb a j && eqb b m) (added .notice) (added .payload d))
 
--- the count in the last place changes no payload
-listed-counted : (P : List ℕ) (n m : ℕ) → n ≤ 512 → length P ≡ 513 → listed (set P 512 n) (payloadCount (set P 512 n)) m ≡ listed P n m
-unfolding listed
-listed-counted P n m l h =
-    ap (λ k. any (λ p. eqb p m) (table k (λ i. getD (set P 512 n) i 0))) (counted-last P n l h)
-    ∙ ap (any (λ p. eqb p m)) (table-cong n (λ i. getD (set P 512 n) i 0) (λ i. getD P i 0) (λ i k. getD-set-other P 512 i n 0 (λ e. omega arith)))
+  linked-more : n < 512 → s .notice < 256 → Chained (keyAt K 1) R 0 n → Chained (keyAt K′ 1) R′ 0 (n + 1)
+  linked-more l h w = chained-new l h (added .notice) (added .linked) (chained-same (added .notices) w)
 
-module _ (W ids : List ℕ) (sender : ℕ) where
-  abbrev its : ℕ → Stmt → Bool
-  its m s = prepares sender s && eqb (s .payload) m
+module _ (W ids senders : List ℕ) where
+  abbrev its : ℕ → ℕ → Stmt → Bool
+  its j m s = prepares senders j s && eqb (payloadOf s) m
 
-  -- P has the n payloads that the sender prepared before i
-  pub record ListedTo (P : List ℕ) (n i : ℕ) : Type 0 where
-    pub long : length P ≡ 513
+  -- the n rows are what the senders prepared before i
+  pub record ListedTo (K R : List ℕ) (n i : ℕ) : Type 0 where
     pub most : n ≤ i
-    pub are : (m : ℕ) → any (its m) (recordUpTo W ids i) ≡ listed P n m
+    pub chained : Chained (keyAt K 1) R 0 n
+    pub are : (j m : ℕ) → j < length senders → any (its j m) (recordUpTo W ids i) ≡ listed K n j m
 
-  pub list-first : (P : List ℕ) → length P ≡ 513 → ListedTo P 0 0
-  list-first P l = record { long = l; most = omega arith; are = λ m. none-first W ids (its m) ∙ sym (listed-zero P m) }
+  listed-zero : (K : List ℕ) (j m : ℕ) → listed K 0 j m ≡ false
+  unfolding listed someBelow
+  listed-zero K j m = refl
 
-  pub list-skip : {P : List ℕ} {n i : ℕ} (r : Bool) → i < 512 → r ≡ prepares sender (entry W ids i) → r ≡ false → ListedTo P n i → ListedTo P n (i + 1)
-  list-skip {P} {n} {i} r l e f w = record {
-    long = w .long;
-    most = omega (arith, w .most);
-    are = λ m. any-next W ids (its m) i l ∙ ap₂ (λ a b. a || b && eqb (entry W ids i .payload) m) (w .are m) (sym e ∙ f) ∙ or-false (listed P n m);
-  }
+  pub list-first : {K R R′ : List ℕ} → SlotsCleared R 0 R′ → ListedTo K R′ 0 0
+  list-first {K} cleared = record { most = omega arith; chained = chained-first (cleared .empty); are = λ j m l. none-first W ids (its j m) ∙ sym (listed-zero K j m) }
 
-  pub list-more : {P : List ℕ} {n i : ℕ} (r : Bool) (x : ℕ) → i < 512 → r ≡ prepares sender (entry W ids i) → r ≡ true → x ≡ entry W ids i .payload → ListedTo P n i → ListedTo (set P n x) (n + 1) (i + 1)
-  list-more {P} {n} {i} r x l e f g w = record {
-    long = length-set P n x ∙ w .long;
-    most = omega (arith, w .most);
-    are = λ m. any-next W ids (its m) i l ∙ ap₂ _||_ (w .are m) (ap₂ (λ b p. b && eqb p m) (sym e ∙ f) (sym g)) ∙ sym (listed-suc P n x m (omega (arith, w .most, w .long)));
-  }
+  module _ {K R : List ℕ} {n i : ℕ} (r : Bool) (l : i < 512) (asked : r ≡ preparesOne senders (entry W ids i)) (w : ListedTo K R n i) where
+    pub list-skip : r ≡ false → ListedTo K R n (i + 1)
+    list-skip f = record {
+      most = omega (arith, w .most);
+      chained = w .chained;
+      are = λ j m h. any-next W ids (its j m) i l ∙ ap₂ (λ a b. a || b && eqb (payloadOf (entry W ids i)) m) (w .are j m h) (one-not senders (entry W ids i) (sym asked ∙ f) j h) ∙ or-false (listed K n j m);
+    }
 
-  -- the count goes into the last place
-  pub list-whole : (len : ℕ) {P : List ℕ} {n i : ℕ} → i ≡ min len 512 → ListedTo P n i → PreparedList sender (recordUpTo W ids len) (set P 512 n)
+    pub list-more : {K′ R′ : List ℕ} → r ≡ true → PrepareAdded (entry W ids i) n K R K′ R′ → ListedTo K′ R′ (n + 1) (i + 1)
+    list-more f added = record {
+      most = omega (arith, w .most);
+      chained = linked-more added (omega (arith, w .most)) (notice-small W _) (w .chained);
+      are = λ j m h. any-next W ids (its j m) i l
+          ∙ ap₂ (λ a b. a || b && eqb (payloadOf (entry W ids i)) m) (w .are j m h) (one-is senders (entry W ids i) (sym asked ∙ f) j)
+          ∙ sym (listed-more added (λ q. omega (arith, one-kind senders (entry W ids i) (sym asked ∙ f))) j m);
+    }
+
+  pub list-whole : (len : ℕ) {K R : List ℕ} {n i : ℕ} → i ≡ min len 512 → ListedTo K R n i → PreparedList senders (recordUpTo W ids len) K R n
   unfolding isPrepared
-  list-whole len {P} {n} {i} e w = record { are = λ m. ap (any (its m)) (sym (whole W ids len i e)) ∙ w .are m ∙ sym (listed-counted P n m (omega (arith, w .most)) (w .long)) }
+  list-whole len e w = record {
+    linked = record { few = omega (arith, w .most); chained = w .chained };
+    are = λ j m l. ap (any (its j m)) (sym (whole W ids len _ e)) ∙ w .are j m l;
+  }
 
 -- ---- the list, as it is asked
 
-module _ (P : List ℕ) (m : ℕ) where
-  -- none of the first i is m
-  pub record Unlisted (i : ℕ) : Type 0 where
-    pub so : listed P i m ≡ false
+module _ {K R : List ℕ} {n j : ℕ} (ok : Linked K R n) (small : j < 256) {x : ℕ} (newest : x ≡ newestAt R 0 j) where
+  new : Newest (keyAt K 1) n j (newestAt R 0 j)
+  new = ok .chained .slots j small
 
-  pub unlisted-first : Unlisted 0
-  unlisted-first = record { so = listed-zero P m }
+  -- a walk over the rows of notice j begins
+  pub walk-first : (P : ℕ → Type 0) → ((c : ℕ) → P c → keyAt K 1 c ≡ j) → Walked (keyAt K 1) j P n x
+  walk-first P within = record {
+    most = omega (arith, new .most);
+    here = λ p. ap (λ z. keyAt K 1 (z - 1)) newest ∙ new .here (omega arith);
+    none = λ c a b q. omega (arith, new .all c b (within c q));
+  }
 
-  pub unlisted-next : {i : ℕ} → (getD P i 0 ≡ m → ⊥) → Unlisted i → Unlisted (i + 1)
-  unfolding listed
-  unlisted-next {i} d w = record { so = any-more (λ p. eqb p m) (λ i. getD P i 0) i (w .so) (ne-eqb (getD P i 0) m d) }
+  pub newest-row : 0 < x → (x - 1 < n) × (keyAt K 1 (x - 1) ≡ j)
+  newest-row p = (omega (arith, new .most), ap (λ z. keyAt K 1 (z - 1)) newest ∙ new .here (omega arith))
 
-  pub listed-found : {i : ℕ} (n : ℕ) → i < n → getD P i 0 ≡ m → true ≡ listed P n m
-  unfolding listed
-  listed-found {i} n l e = sym (any-at (λ p. eqb p m) (λ i. getD P i 0) n l (eq-eqb (getD P i 0) m e))
+  pub no-row : x ≡ 0 → (c : ℕ) → c < n → keyAt K 1 c ≡ j → ⊥
+  no-row z c l q = omega (arith, new .all c l q)
 
-  pub listed-none : {i : ℕ} (n : ℕ) → i ≡ n → Unlisted i → false ≡ listed P n m
-  listed-none n e w = sym (subst (λ (k : ℕ). listed P k m ≡ false) e (w .so))
+module _ (K : List ℕ) (n j m : ℕ) {x : ℕ} (w : Walked (keyAt K 1) j (Row K j m) n x) where
+  pub listed-found : (p : ℕ) → 0 < x → p ≡ keyAt K 0 (x - 1) → p ≡ m → true ≡ listed K n j m
+  listed-found p l e q = sym (passes (says-listed K n j m) (x - 1, omega (arith, w .most), (w .here l, sym e ∙ q)))
 
-module _ (P : List ℕ) where
-  -- the first i are all the same
-  pub record Onefold (i : ℕ) : Type 0 where
-    pub so : twofold P i ≡ false
+  pub listed-none : x ≤ 0 → false ≡ listed K n j m
+  listed-none l = sym (fails (says-listed K n j m) (λ (c, h, r). w .none c (omega arith) h r))
 
-  pub onefold-first : Onefold 0
-  unfolding twofold
-  onefold-first = record { so = any-zero (λ p. not (eqb p (getD P 0 0))) (λ i. getD P i 0) }
+-- row c is of notice j and has another payload
+abbrev pub Other : List ℕ → ℕ → ℕ → ℕ → Type 0
+Other K j m c = (keyAt K 1 c ≡ j) × (keyAt K 0 c ≡ m → ⊥)
 
-  pub onefold-next : {i : ℕ} → getD P i 0 ≡ getD P 0 0 → Onefold i → Onefold (i + 1)
-  unfolding twofold
-  onefold-next {i} e w = record { so = any-more (λ p. not (eqb p (getD P 0 0))) (λ i. getD P i 0) i (w .so) (ap not (eq-eqb (getD P i 0) (getD P 0 0) e)) }
+abbrev Two : List ℕ → ℕ → ℕ → Type 0
+Two K n j = (c : ℕ) × (c < n) × ((d : ℕ) × (d < n) × (((keyAt K 1 c ≡ j) × (keyAt K 1 d ≡ j)) × (keyAt K 0 c ≢ keyAt K 0 d)))
 
-  pub twofold-found : {i : ℕ} (n : ℕ) → i < n → (getD P i 0 ≡ getD P 0 0 → ⊥) → true ≡ twofold P n
-  unfolding twofold
-  twofold-found {i} n l d = sym (any-at (λ p. not (eqb p (getD P 0 0))) (λ i. getD P i 0) n l (ap not (ne-eqb (getD P i 0) (getD P 0 0) d)))
+says-twofold : (K : List ℕ) (n j : ℕ) → Says (twofold K n j) (Two K n j)
+unfolding twofold
+says-twofold K n j = says-some (λ c. says-some (λ d. says-and (says-and (says-eqb {m = keyAt K 1 c} {n = j}) (says-eqb {m = keyAt K 1 d} {n = j})) (says-not (says-eqb {m = keyAt K 0 c} {n = keyAt K 0 d}))) n) n
 
-  pub twofold-none : {i : ℕ} (n : ℕ) → i ≡ n → Onefold i → false ≡ twofold P n
-  twofold-none n e w = sym (subst (λ (k : ℕ). twofold P k ≡ false) e (w .so))
+module _ {K R : List ℕ} {n j : ℕ} (ok : Linked K R n) (small : j < 256) {y : ℕ} (newest : y ≡ newestAt R 0 j) where
+  pub twofold-empty : y ≡ 0 → false ≡ twofold K n j
+  twofold-empty z = sym (fails (says-twofold K n j) (λ (c, l, (d, h, ((a, b), e))). no-row ok small newest z c l a))
 
--- ---- two payloads that the sender prepared
+  -- m is the payload of the newest row
+  module _ (m : ℕ) (some : 0 < y) (is : m ≡ keyAt K 0 (y - 1)) {x : ℕ} (w : Walked (keyAt K 1) j (Other K j m) n x) where
+    pub twofold-found : (p : ℕ) → 0 < x → p ≡ keyAt K 0 (x - 1) → (p ≡ m → ⊥) → true ≡ twofold K n j
+    twofold-found p l e d =
+        let (a, b) = newest-row ok small newest some in
+        sym (passes (says-twofold K n j) (x - 1, omega (arith, w .most), (y - 1, a, ((w .here l, b), λ q. d (e ∙ q ∙ sym is)))))
 
-module _ {sender : ℕ} {X : List Stmt} {P : List ℕ} (ok : PreparedList sender X P) where
-  abbrev all : List ℕ
-  all = table (payloadCount P) (λ i. getD P i 0)
+    pub twofold-none : x ≤ 0 → false ≡ twofold K n j
+    twofold-none l = sym (fails (says-twofold K n j) (λ (c, h, (d, k, ((a, b), e))). elim (ℕ-discrete (keyAt K 0 c) m) [
+      | yes q ↦ w .none d (omega arith) k (b, λ z. e (q ∙ sym z))
+      | no q ↦ w .none c (omega arith) h (a, q)
+    ]))
 
-  prepared-at : (i : ℕ) → i < payloadCount P → Prepared sender X (getD P i 0)
-  prepared-at i l = says-prepared sender X (getD P i 0) .sound (subst T (listed-found P (getD P i 0) (payloadCount P) l refl ∙ sym (ok .are (getD P i 0))) tt)
+-- ---- two payloads that the sender of notice j prepared
 
-  place : {m : ℕ} → Prepared sender X m → m ∈ all
-  unfolding listed
-  place {m} p =
-      let (x, i, e) = says-any (λ p. says-eqb {m = p} {n = m}) all .sound (subst T (ok .are m) (says-prepared sender X m .complete p)) in
-      subst (λ (x : ℕ). x ∈ all) e i
+module _ {senders : List ℕ} {X : List Stmt} {K R : List ℕ} {n : ℕ} (ok : PreparedList senders X K R n) (j : ℕ) (l : j < length senders) where
+  prepared-at : (c : ℕ) → c < n → keyAt K 1 c ≡ j → Prepared senders X j (keyAt K 0 c)
+  prepared-at c h e = says-prepared senders X j (keyAt K 0 c) .sound (subst T (sym (ok .are j (keyAt K 0 c) l)) (says-listed K n j (keyAt K 0 c) .complete (c, h, (e, refl))))
 
-  pub twofold-is : twofold P (payloadCount P) ≡ twoPrepares sender X
-  unfolding twofold
-  twofold-is = says-unique (says-map to from (says-any (λ p. says-not (says-eqb {m = p} {n = getD P 0 0})) all)) (says-twoPrepares sender X)
+  place : {m : ℕ} → Prepared senders X j m → (c : ℕ) × (c < n) × Row K j m c
+  place {m} p = says-listed K n j m .sound (subst T (ok .are j m l) (says-prepared senders X j m .complete p))
+
+  pub twofold-is : twofold K n j ≡ twoPrepares senders X j
+  twofold-is = says-unique (says-map to from (says-twofold K n j)) (says-twoPrepares senders X j)
     where
-      to : (p : ℕ) × (p ∈ all) × (p ≢ getD P 0 0) → (m m′ : ℕ) × (m ≢ m′) × Prepared sender X m × Prepared sender X m′
-      to (p, i, d) =
-          let (j, l, e) = table-out (payloadCount P) (λ i. getD P i 0) i in
-          (getD P j 0, getD P 0 0, (λ q. d (sym e ∙ q)), prepared-at j l, prepared-at 0 (omega arith))
+      to : Two K n j → (m m′ : ℕ) × (m ≢ m′) × Prepared senders X j m × Prepared senders X j m′
+      to (c, h, (d, k, ((a, b), e))) = (keyAt K 0 c, keyAt K 0 d, e, prepared-at c h a, prepared-at d k b)
 
-      from : (m m′ : ℕ) × (m ≢ m′) × Prepared sender X m × Prepared sender X m′ → (p : ℕ) × (p ∈ all) × (p ≢ getD P 0 0)
-      from (m, m′, d, a, b) = elim (ℕ-discrete m (getD P 0 0)) [
-        | yes e ↦ (m′, place b, λ q. d (e ∙ sym q))
-        | no q ↦ (m, place a, q)
-      ]
+      from : (m m′ : ℕ) × (m ≢ m′) × Prepared senders X j m × Prepared senders X j m′ → Two K n j
+      from (m, m′, e, p, q) =
+          let (c, h, (a, u)) = place p in
+          let (d, k, (b, v)) = place q in
+          (c, h, (d, k, ((a, b), λ z. e (sym u ∙ z ∙ v))))

@@ -1,20 +1,22 @@
 -- Laws of reports: each is what one step of a function of reports needs.
 -- Assumes nothing.
 use mathlib.Core.Path.{_≡_, refl, sym, ap, ap₂, subst, _∙_}
-use mathlib.Core.Bool.{Bool, true, false, not, _&&_, _||_, and-true, and-false, and-assoc}
+use mathlib.Core.Bool.{Bool, true, false, not, _&&_, _||_, and-true, and-false}
 use mathlib.Core.List.{List}
-use Prim.Native.Nat.{ℕ, _≤_}
+use Prim.Native.Nat.{ℕ, zero, suc, _+_, _≤_, _<_, min}
+use native.Mathlib.Decide.{decLt}
+use native.Mathlib.Numerals.{add-one}
 use native.Mathlib.Omega.{arith}
 use lib.Dec.{T, eqb}
 use lib.ListN.{length, getD}
 use borrow.Author.Tests.{eq-eqb, ne-eqb, ltb-false}
-use Rattle.protocol.specs.Sets.{bit}
-use Rattle.protocol.specs.Lists.{_∈_, any, all, filter, when}
+use Rattle.protocol.specs.Sets.{bit, every}
+use Rattle.protocol.specs.Lists.{_∈_, any, all, filter, first, when}
 use Rattle.protocol.specs.View.{View, Ring, sameView, member, within, below}
 use Rattle.protocol.specs.History.{top, holds}
-use Rattle.protocol.specs.Statement.{Stmt, isKind, reportsOn}
-use Rattle.protocol.specs.Evidence.{wished, candidate, candidates, greatest, certificates, isConflict, isCandidate, hasQuorum, signs, signedByQuorum, isPrepared, twoPrepares, isCertified, isCounted, isCountedOn, Certificate}
-use Rattle.protocol.proofs.Says.{says-map, says-unique, says-self, says-and, says-eqb, says-all, says-any}
+use Rattle.protocol.specs.Statement.{Group, Stmt, groupOf, isKind, reportsOn}
+use Rattle.protocol.specs.Evidence.{wished, candidate, candidates, greatest, certificates, isConflict, isCandidate, hasQuorum, signs, signedByQuorum, isCertified, isCountedFor, isCounted, isCountedOn, Certificate}
+use Rattle.protocol.proofs.Says.{from-true, says-map, says-unique, says-self, says-and, says-eqb, says-every, says-all, says-any}
 use Rattle.protocol.proofs.Found.{first-in, first-none}
 use Rattle.protocol.proofs.Histories.{sealed-short}
 use Rattle.protocol.proofs.Decided.{says-same, says-in, says-shown, says-certified}
@@ -22,86 +24,161 @@ use Rattle.protocol.proofs.Asked.{says-holds, candidates-exact, certificates-in
 use Rattle.views.specs.Sets.{IsSet}
 use Rattle.views.specs.View.{viewOf, ringOfWord, quorumHas, viewsOf}
 use Rattle.views.proofs.Tables.{views-count}
-use Rattle.views.proofs.Views.{fails, signed-by-set}
+use Rattle.views.proofs.Views.{passes, fails, signed-by-set}
+use Rattle.pool.specs.Pool.{toldBound, toldBarred, toldStored, toldPayload, toldKept, toldAt, stmtAt}
 use Rattle.evidence.specs.declared.Evidence.{Evidence}
-use Rattle.evidence.specs.Shown.{payloadCount, listed, twofold, PreparedList}
+use Rattle.evidence.specs.declared.Ring as declared
+use Rattle.evidence.specs.declared.reports.Judge.{Judge}
+use Rattle.evidence.specs.Shown.{listed, twofold, PreparedList}
 use Rattle.evidence.specs.Evidence.{Settled, reportedOn, reportedAll, countsBelow, reportsBelow}
-use Rattle.evidence.specs.Reports.{bindingHolds, keptHolds, countsBy, countsAt, hasReports, countsUnder}
+use Rattle.evidence.specs.Reports.{toldCount, bindingHolds, keptHolds, toldHolds, countsBy, countsAt, hasReports, countsUnder, Usable, TellsNothing, judgeOf}
 use Rattle.evidence.proofs.Listing.{any-filter, any-same}
+use Rattle.evidence.proofs.Senders.{told-in, told-out, told-barred, told-bound, told-free, told-stored, told-unstored}
 use Rattle.evidence.proofs.Payloads.{twofold-is}
 
--- ---- what a report says
+-- ---- what is told of a notice
 
-module _ (P : List ℕ) (b : ℕ) (s : Stmt) (e : b ≡ s .binding) where
+module _ (q : Judge) (K : List ℕ) (i : ℕ) (g : Group) where
   abbrev explained : Bool → Bool → Bool
-  explained x y = (not x || listed P (payloadCount P) (s .payload)) && (not y || twofold P (payloadCount P))
+  explained x y = (not x || listed K (q .known) i (g .payload)) && (not y || twofold K (q .known) i)
 
-  pub binding-bound : (p : ℕ) (r : Bool) → b ≡ 1 → p ≡ s .payload → r ≡ listed P (payloadCount P) p → r ≡ bindingHolds P s
+  -- the binding is explained, by its number
+  bound-is : g .binding ≡ 1 → bindingHolds q K i g ≡ listed K (q .known) i (g .payload)
   unfolding bindingHolds
-  binding-bound p r o q f = f ∙ ap (listed P (payloadCount P)) q ∙ sym (ap (λ x. explained (eqb x 1) (eqb x 2)) (sym e ∙ o) ∙ and-true (listed P (payloadCount P) (s .payload)))
+  bound-is o = ap (λ x. explained (eqb x 1) (eqb x 2)) o ∙ and-true (listed K (q .known) i (g .payload))
 
-  pub binding-barred : (two : Bool) → b ≡ 2 → two ≡ twofold P (payloadCount P) → two ≡ bindingHolds P s
+  barred-is : g .binding ≡ 2 → bindingHolds q K i g ≡ twofold K (q .known) i
   unfolding bindingHolds
-  binding-barred two o f = f ∙ sym (ap (λ x. explained (eqb x 1) (eqb x 2)) (sym e ∙ o))
+  barred-is o = ap (λ x. explained (eqb x 1) (eqb x 2)) o
 
-  pub binding-free : (b ≡ 1 → ⊥) → (b ≡ 2 → ⊥) → true ≡ bindingHolds P s
+  free-is : g .binding ≡ 0 → bindingHolds q K i g ≡ true
   unfolding bindingHolds
-  binding-free m n = sym (ap₂ explained (ne-eqb _ 1 (λ q. m (e ∙ q))) (ne-eqb _ 2 (λ q. n (e ∙ q))))
+  free-is o = ap (λ x. explained (eqb x 1) (eqb x 2)) o
 
-module _ (e : Evidence) (k : ℕ) (s : Stmt) (f : k ≡ s .stored) where
-  pub kept-none : (k ≡ 1 → ⊥) → true ≡ keptHolds e s
+module _ (q : Judge) (P : List ℕ) (i : ℕ) (g : Group) where
+  kept-is-none : g .stored ≡ 0 → keptHolds q P i g ≡ true
   unfolding keptHolds
-  kept-none n = sym (ap (λ b. not b || e .certified && eqb (s .kept) (e .payload)) (ne-eqb _ 1 (λ q. n (f ∙ q))))
+  kept-is-none o = ap (λ x. not (eqb x 1) || bit (q .certified) i && eqb (g .kept) (getD P i 0)) o
 
-  kept-one : k ≡ 1 → keptHolds e s ≡ (e .certified && eqb (s .kept) (e .payload))
+  kept-is : g .stored ≡ 1 → keptHolds q P i g ≡ (bit (q .certified) i && eqb (g .kept) (getD P i 0))
   unfolding keptHolds
-  kept-one o = ap (λ b. not b || e .certified && eqb (s .kept) (e .payload)) (eq-eqb _ 1 (sym f ∙ o))
+  kept-is o = ap (λ x. not (eqb x 1) || bit (q .certified) i && eqb (g .kept) (getD P i 0)) o
 
-  pub kept-lone : k ≡ 1 → e .certified ≡ false → false ≡ keptHolds e s
-  kept-lone o n = sym (kept-one o ∙ ap (λ b. b && eqb (s .kept) (e .payload)) n)
+-- by the sets and payloads of report s
+module _ (W : List ℕ) (s j : ℕ) (q : Judge) (P K : List ℕ) where
+  module _ {a : ℕ} {y : Bool} (is : a ≡ toldBarred W s) (asked : y ≡ bit a j) where
+    pub binding-barred : (two : Bool) → y ≡ true → two ≡ twofold K (q .known) j → two ≡ bindingHolds q K j (toldAt W s j)
+    binding-barred two e f = f ∙ sym (barred-is q K j (toldAt W s j) (told-barred W s j is asked e))
 
-  pub kept-payload : (p : ℕ) → k ≡ 1 → e .certified ≡ true → p ≡ s .kept → eqb p (e .payload) ≡ keptHolds e s
-  kept-payload p o y q = ap (λ x. eqb x (e .payload)) q ∙ sym (kept-one o ∙ ap (λ b. b && eqb (s .kept) (e .payload)) y)
+    module _ (clear : y ≡ false) {b : ℕ} {x : Bool} (also : b ≡ toldBound W s) (asked-too : x ≡ bit b j) where
+      pub binding-bound : (p : ℕ) (r : Bool) → x ≡ true → p ≡ toldPayload W s j → r ≡ listed K (q .known) j p → r ≡ bindingHolds q K j (toldAt W s j)
+      binding-bound p r e f g =
+          let (u, v) = told-bound W s j is asked clear also asked-too e in
+          g ∙ ap (listed K (q .known) j) (f ∙ sym v) ∙ sym (bound-is q K j (toldAt W s j) u)
+
+      pub binding-free : x ≡ false → true ≡ bindingHolds q K j (toldAt W s j)
+      binding-free e = sym (free-is q K j (toldAt W s j) (told-free W s j is asked clear also asked-too e))
+
+  module _ {a : ℕ} {y : Bool} (is : a ≡ toldStored W s) (asked : y ≡ bit a j) where
+    pub kept-none : y ≡ false → true ≡ keptHolds q P j (toldAt W s j)
+    kept-none e = sym (kept-is-none q P j (toldAt W s j) (told-unstored W s j is asked e))
+
+    module _ (stored : y ≡ true) (r : Bool) (certified : r ≡ bit (q .certified) j) where
+      kept-by : keptHolds q P j (toldAt W s j) ≡ (r && eqb (toldKept W s j) (getD P j 0))
+      kept-by =
+          let (u, v) = told-stored W s j is asked stored in
+          kept-is q P j (toldAt W s j) u ∙ ap₂ (λ b x. b && eqb x (getD P j 0)) (sym certified) v
+
+      pub kept-lone : r ≡ false → false ≡ keptHolds q P j (toldAt W s j)
+      kept-lone e = sym (kept-by ∙ ap (λ b. b && eqb (toldKept W s j) (getD P j 0)) e)
+
+      pub kept-payload : (x m : ℕ) → r ≡ true → x ≡ toldKept W s j → m ≡ getD P j 0 → eqb x m ≡ keptHolds q P j (toldAt W s j)
+      kept-payload x m e f g = ap₂ eqb f g ∙ sym (kept-by ∙ ap (λ b. b && eqb (toldKept W s j) (getD P j 0)) e)
+
+  -- both
+  module _ (b : Bool) (binding : b ≡ bindingHolds q K j (toldAt W s j)) where
+    pub told-unbound : b ≡ false → false ≡ toldHolds q P K j (toldAt W s j)
+    unfolding toldHolds
+    told-unbound e = sym (ap (λ b. b && keptHolds q P j (toldAt W s j)) (sym binding ∙ e))
+
+    pub told-kept : (k : Bool) → b ≡ true → k ≡ keptHolds q P j (toldAt W s j) → k ≡ toldHolds q P K j (toldAt W s j)
+    unfolding toldHolds
+    told-kept k e f = f ∙ sym (ap (λ b. b && keptHolds q P j (toldAt W s j)) (sym binding ∙ e))
+
+-- of all notices
+module _ (W : List ℕ) (s : ℕ) (q : Judge) (P K : List ℕ) where
+  abbrev heldAt : ℕ → Bool
+  heldAt i = toldHolds q P K i (groupOf (stmtAt W s) i)
+
+  -- nothing is told of notice i
+  still : (i : ℕ) → groupOf (stmtAt W s) i .binding ≡ 0 → groupOf (stmtAt W s) i .stored ≡ 0 → heldAt i ≡ true
+  unfolding toldHolds
+  still i b k = ap₂ _&&_ (free-is q K i (groupOf (stmtAt W s) i) b) (kept-is-none q P i (groupOf (stmtAt W s) i) k)
+
+  pub hold-nothing : TellsNothing W s → true ≡ every (q .notices) heldAt
+  hold-nothing t = sym (passes (says-every (λ i. says-self (heldAt i)) (q .notices)) (λ i l. from-true (still i (t .none i .0) (t .none i .1))))
+
+  -- those before j hold
+  pub record HeldTo (j : ℕ) : Type 0 where
+    pub so : every j heldAt ≡ true
+
+  pub hold-first : HeldTo 0
+  unfolding every
+  hold-first = record { so = refl }
+
+  -- n of the notices are told
+  module _ {c n : ℕ} (told : c ≡ toldCount W s) (lesser : n ≡ min c (q .notices)) where
+    hold-at : (j : ℕ) (r : Bool) → j < n → r ≡ toldHolds q P K j (toldAt W s j) → heldAt j ≡ r
+    hold-at j r l e = ap (toldHolds q P K j) (told-in W s j (omega arith)) ∙ sym e
+
+    pub hold-next : {j : ℕ} {r : Bool} → j < n → r ≡ toldHolds q P K j (toldAt W s j) → r ≡ true → HeldTo j → HeldTo (j + 1)
+    unfolding every
+    hold-next {j} {r} l e f w = record { so = rw add-one (ap₂ _&&_ (hold-at j r l e ∙ f) (w .so)) }
+
+    pub hold-not : {j : ℕ} {r : Bool} → j < n → r ≡ toldHolds q P K j (toldAt W s j) → r ≡ false → false ≡ every (q .notices) heldAt
+    hold-not {j} {r} l e f = sym (fails (says-every (λ i. says-self (heldAt i)) (q .notices)) (λ h. subst T (hold-at j r l e ∙ f) (h j (omega arith))))
+
+    pub hold-all : {j : ℕ} → j ≡ n → HeldTo j → true ≡ every (q .notices) heldAt
+    hold-all {j} e w = sym (passes (says-every (λ i. says-self (heldAt i)) (q .notices)) (λ i l. elim (decLt i j) [
+      | yes h ↦ says-every (λ i. says-self (heldAt i)) j .sound (from-true (w .so)) i h
+      | no h ↦ (let z = told-out W s i (omega arith) in from-true (still i (z .0) (z .1)))
+    ]))
 
 -- the tests of a report in their order: each that fails decides, and the last decides where the others hold
-module _ (e : Evidence) (C P : List ℕ) (s : Stmt) where
-  abbrev tests : Bool → Bool → Bool → Bool → Bool → Bool
-  tests m w l b k = (((m && w) && l) && b) && k
+module _ (q : Judge) (C P K : List ℕ) (s : Stmt) where
+  abbrev tests : Bool → Bool → Bool → Bool → Bool
+  tests m w l t = ((m && w) && l) && t
 
-  counts-parts : countsBy e C P s ≡ tests (member (s .at) (s .origin)) (within 16 (s .view) (viewOf (e .wished))) (holds (viewsOf C (e .count)) (s .views)) (bindingHolds P s) (keptHolds e s)
+  abbrev told : Bool
+  told = every (q .notices) (λ i. toldHolds q P K i (groupOf s i))
+
+  counts-parts : countsBy q C P K s ≡ tests (member (s .at) (s .origin)) (within 16 (s .view) (viewOf (q .wished))) (holds (viewsOf C (q .count)) (s .views)) told
   unfolding countsBy
   counts-parts = refl
 
   module _ (t o : ℕ) (m : Bool) (at : viewOf t ≡ s .at) (origin : o ≡ s .origin) (asked-m : m ≡ member (viewOf t) o) where
-    after-m : countsBy e C P s ≡ tests m (within 16 (s .view) (viewOf (e .wished))) (holds (viewsOf C (e .count)) (s .views)) (bindingHolds P s) (keptHolds e s)
-    after-m = counts-parts ∙ ap (λ m. tests m (within 16 (s .view) (viewOf (e .wished))) (holds (viewsOf C (e .count)) (s .views)) (bindingHolds P s) (keptHolds e s)) (sym (asked-m ∙ ap₂ member at origin))
+    after-m : countsBy q C P K s ≡ tests m (within 16 (s .view) (viewOf (q .wished))) (holds (viewsOf C (q .count)) (s .views)) told
+    after-m = counts-parts ∙ ap (λ m. tests m (within 16 (s .view) (viewOf (q .wished))) (holds (viewsOf C (q .count)) (s .views)) told) (sym (asked-m ∙ ap₂ member at origin))
 
-    pub counts-alien : m ≡ false → false ≡ countsBy e C P s
-    counts-alien n = sym (after-m ∙ ap (λ m. tests m (within 16 (s .view) (viewOf (e .wished))) (holds (viewsOf C (e .count)) (s .views)) (bindingHolds P s) (keptHolds e s)) n)
+    pub counts-alien : m ≡ false → false ≡ countsBy q C P K s
+    counts-alien n = sym (after-m ∙ ap (λ m. tests m (within 16 (s .view) (viewOf (q .wished))) (holds (viewsOf C (q .count)) (s .views)) told) n)
 
-    module _ (v : ℕ) (w : Bool) (yes-m : m ≡ true) (view : viewOf v ≡ s .view) (asked-w : w ≡ within 16 (viewOf v) (viewOf (e .wished))) where
-      after-w : countsBy e C P s ≡ tests true w (holds (viewsOf C (e .count)) (s .views)) (bindingHolds P s) (keptHolds e s)
-      after-w = after-m ∙ ap₂ (λ m w. tests m w (holds (viewsOf C (e .count)) (s .views)) (bindingHolds P s) (keptHolds e s)) yes-m (sym (asked-w ∙ ap (λ v. within 16 v (viewOf (e .wished))) view))
+    module _ (v : ℕ) (w : Bool) (yes-m : m ≡ true) (view : viewOf v ≡ s .view) (asked-w : w ≡ within 16 (viewOf v) (viewOf (q .wished))) where
+      after-w : countsBy q C P K s ≡ tests true w (holds (viewsOf C (q .count)) (s .views)) told
+      after-w = after-m ∙ ap₂ (λ m w. tests m w (holds (viewsOf C (q .count)) (s .views)) told) yes-m (sym (asked-w ∙ ap (λ v. within 16 v (viewOf (q .wished))) view))
 
-      pub counts-unwished : w ≡ false → false ≡ countsBy e C P s
-      counts-unwished n = sym (after-w ∙ ap (λ w. tests true w (holds (viewsOf C (e .count)) (s .views)) (bindingHolds P s) (keptHolds e s)) n)
+      pub counts-unwished : w ≡ false → false ≡ countsBy q C P K s
+      counts-unwished n = sym (after-w ∙ ap (λ w. tests true w (holds (viewsOf C (q .count)) (s .views)) told) n)
 
-      module _ (l : Bool) (yes-w : w ≡ true) (asked-l : l ≡ holds (viewsOf C (e .count)) (s .views)) where
-        after-l : countsBy e C P s ≡ tests true true l (bindingHolds P s) (keptHolds e s)
-        after-l = after-w ∙ ap₂ (λ w l. tests true w l (bindingHolds P s) (keptHolds e s)) yes-w (sym asked-l)
+      module _ (l : Bool) (yes-w : w ≡ true) (asked-l : l ≡ holds (viewsOf C (q .count)) (s .views)) where
+        after-l : countsBy q C P K s ≡ tests true true l told
+        after-l = after-w ∙ ap₂ (λ w l. tests true w l told) yes-w (sym asked-l)
 
-        pub counts-uncandid : l ≡ false → false ≡ countsBy e C P s
-        counts-uncandid n = sym (after-l ∙ ap (λ l. tests true true l (bindingHolds P s) (keptHolds e s)) n)
+        pub counts-uncandid : l ≡ false → false ≡ countsBy q C P K s
+        counts-uncandid n = sym (after-l ∙ ap (λ l. tests true true l told) n)
 
-        module _ (b : Bool) (yes-l : l ≡ true) (asked-b : b ≡ bindingHolds P s) where
-          after-b : countsBy e C P s ≡ tests true true true b (keptHolds e s)
-          after-b = after-l ∙ ap₂ (λ l b. tests true true l b (keptHolds e s)) yes-l (sym asked-b)
-
-          pub counts-unbound : b ≡ false → false ≡ countsBy e C P s
-          counts-unbound n = sym (after-b ∙ ap (λ b. tests true true true b (keptHolds e s)) n)
-
-          pub counts-kept : (k : Bool) → b ≡ true → k ≡ keptHolds e s → k ≡ countsBy e C P s
-          counts-kept k y f = f ∙ sym (after-b ∙ ap (λ b. tests true true true b (keptHolds e s)) y)
+        pub counts-told : (k : Bool) → l ≡ true → k ≡ told → k ≡ countsBy q C P K s
+        counts-told k y f = f ∙ sym (after-l ∙ ap (λ l. tests true true l told) y)
 
 -- ---- a set over the reports alone
 
@@ -109,67 +186,67 @@ pub kind-is : (k : ℕ) (s : Stmt) → k ≡ s .kind → eqb k 5 ≡ isKind 5 s
 unfolding isKind
 kind-is k s e = ap (λ x. eqb x 5) e
 
-module _ (e : Evidence) (C P : List ℕ) where
-  pub at-other : (u : View) (s : Stmt) → sameView (s .at) u ≡ false → countsAt e C P u s ≡ false
+module _ (q : Judge) (C P K : List ℕ) where
+  pub at-other : (u : View) (s : Stmt) → sameView (s .at) u ≡ false → countsAt q C P K u s ≡ false
   unfolding countsAt
-  at-other u s f = ap (λ b. b && countsBy e C P s) f
+  at-other u s f = ap (λ b. b && countsBy q C P K s) f
 
-  pub at-counted : (u : View) (s : Stmt) (r : Bool) → sameView (s .at) u ≡ true → r ≡ countsBy e C P s → r ≡ countsAt e C P u s
+  pub at-counted : (u : View) (s : Stmt) (r : Bool) → sameView (s .at) u ≡ true → r ≡ countsBy q C P K s → r ≡ countsAt q C P K u s
   unfolding countsAt
-  at-counted u s r f c = c ∙ sym (ap (λ b. b && countsBy e C P s) f)
+  at-counted u s r f c = c ∙ sym (ap (λ b. b && countsBy q C P K s) f)
 
   module _ (Y : List Stmt) (t u : ℕ) (b : Bool) (f : b ≡ below 16 (viewOf u) (viewOf t)) where
-    pub reported-above : b ≡ false → true ≡ hasReports e C P Y (viewOf t) (viewOf u)
+    pub reported-above : b ≡ false → true ≡ hasReports q C P K Y (viewOf t) (viewOf u)
     unfolding hasReports
-    reported-above g = sym (ap (λ b. not b || signedByQuorum 16 Y (viewOf u) (countsAt e C P (viewOf u))) (sym f ∙ g))
+    reported-above g = sym (ap (λ b. not b || signedByQuorum 16 Y (viewOf u) (countsAt q C P K (viewOf u))) (sym f ∙ g))
 
-    pub reported-quorum : (seen : ℕ) (r : Bool) → b ≡ true → IsSet seen (signs (countsAt e C P (viewOf u)) Y) → r ≡ quorumHas (viewOf u) (bit seen) → r ≡ hasReports e C P Y (viewOf t) (viewOf u)
+    pub reported-quorum : (seen : ℕ) (r : Bool) → b ≡ true → IsSet seen (signs (countsAt q C P K (viewOf u)) Y) → r ≡ quorumHas (viewOf u) (bit seen) → r ≡ hasReports q C P K Y (viewOf t) (viewOf u)
     unfolding hasReports
-    reported-quorum seen r g i q =
-        signed-by-set Y (viewOf u) (countsAt e C P (viewOf u)) seen r i q ∙ sym (ap (λ b. not b || signedByQuorum 16 Y (viewOf u) (countsAt e C P (viewOf u))) (sym f ∙ g))
+    reported-quorum seen r g i h =
+        signed-by-set Y (viewOf u) (countsAt q C P K (viewOf u)) seen r i h ∙ sym (ap (λ b. not b || signedByQuorum 16 Y (viewOf u) (countsAt q C P K (viewOf u))) (sym f ∙ g))
 
   -- the view asked after is view i of a list
-  pub has-reports-at : (Y : List Stmt) (t i u : ℕ) (L : List ℕ) (r : Bool) → u ≡ getD L i 0 → r ≡ hasReports e C P Y (viewOf t) (viewOf u) → hasReports e C P Y (viewOf t) (viewOf (getD L i 0)) ≡ r
-  has-reports-at Y t i u L r f g = ap (λ w. hasReports e C P Y (viewOf t) (viewOf w)) (sym f) ∙ sym g
+  pub has-reports-at : (Y : List Stmt) (t i u : ℕ) (L : List ℕ) (r : Bool) → u ≡ getD L i 0 → r ≡ hasReports q C P K Y (viewOf t) (viewOf u) → hasReports q C P K Y (viewOf t) (viewOf (getD L i 0)) ≡ r
+  has-reports-at Y t i u L r f g = ap (λ w. hasReports q C P K Y (viewOf t) (viewOf w)) (sym f) ∙ sym g
 
-  pub all-views : (Y : List Stmt) (t i n : ℕ) (L : List ℕ) → i ≡ n → all (hasReports e C P Y (viewOf t)) (viewsOf L i) ≡ true → all (hasReports e C P Y (viewOf t)) (viewsOf L n) ≡ true
-  all-views Y t i n L f g = subst (λ k. all (hasReports e C P Y (viewOf t)) (viewsOf L k) ≡ true) f g
+  pub all-views : (Y : List Stmt) (t i n : ℕ) (L : List ℕ) → i ≡ n → all (hasReports q C P K Y (viewOf t)) (viewsOf L i) ≡ true → all (hasReports q C P K Y (viewOf t)) (viewsOf L n) ≡ true
+  all-views Y t i n L f g = subst (λ k. all (hasReports q C P K Y (viewOf t)) (viewsOf L k) ≡ true) f g
 
 -- ---- a report that counts on a view below the top
 
-module _ (e : Evidence) (C P : List ℕ) (H : List View) (t k u : ℕ) (s : Stmt) (kind : k ≡ s .kind) where
-  pub under-kind : (k ≡ 5 → ⊥) → false ≡ countsUnder e C P H (viewOf t) s
+module _ (q : Judge) (C P K : List ℕ) (H : List View) (t k u : ℕ) (s : Stmt) (kind : k ≡ s .kind) where
+  pub under-kind : (k ≡ 5 → ⊥) → false ≡ countsUnder q C P K H (viewOf t) s
   unfolding countsUnder isKind
-  under-kind n = sym (ap (λ a. a && below 16 (s .at) (viewOf t) && any (sameView (s .at)) H && countsBy e C P s) (ne-eqb _ 5 (λ q. n (kind ∙ q))))
+  under-kind n = sym (ap (λ a. a && below 16 (s .at) (viewOf t) && any (sameView (s .at)) H && countsBy q C P K s) (ne-eqb _ 5 (λ z. n (kind ∙ z))))
 
   module _ (five : k ≡ 5) (at : viewOf u ≡ s .at) where
-    under-parts : countsUnder e C P H (viewOf t) s ≡ (below 16 (viewOf u) (viewOf t) && any (sameView (viewOf u)) H && countsBy e C P s)
+    under-parts : countsUnder q C P K H (viewOf t) s ≡ (below 16 (viewOf u) (viewOf t) && any (sameView (viewOf u)) H && countsBy q C P K s)
     unfolding countsUnder isKind
-    under-parts = ap₂ (λ a v. a && below 16 v (viewOf t) && any (sameView v) H && countsBy e C P s) (eq-eqb _ 5 (sym kind ∙ five)) (sym at)
+    under-parts = ap₂ (λ a v. a && below 16 v (viewOf t) && any (sameView v) H && countsBy q C P K s) (eq-eqb _ 5 (sym kind ∙ five)) (sym at)
 
-    pub under-above : (b : Bool) → b ≡ below 16 (viewOf u) (viewOf t) → b ≡ false → false ≡ countsUnder e C P H (viewOf t) s
-    under-above b f g = sym (under-parts ∙ ap (λ b. b && any (sameView (viewOf u)) H && countsBy e C P s) (sym f ∙ g))
+    pub under-above : (b : Bool) → b ≡ below 16 (viewOf u) (viewOf t) → b ≡ false → false ≡ countsUnder q C P K H (viewOf t) s
+    under-above b f g = sym (under-parts ∙ ap (λ b. b && any (sameView (viewOf u)) H && countsBy q C P K s) (sym f ∙ g))
 
     module _ (b i : Bool) (f : b ≡ below 16 (viewOf u) (viewOf t)) (yes : b ≡ true) (g : i ≡ any (sameView (viewOf u)) H) where
-      under-in : countsUnder e C P H (viewOf t) s ≡ (i && countsBy e C P s)
-      under-in = under-parts ∙ ap₂ (λ b i. b && i && countsBy e C P s) (sym f ∙ yes) (sym g)
+      under-in : countsUnder q C P K H (viewOf t) s ≡ (i && countsBy q C P K s)
+      under-in = under-parts ∙ ap₂ (λ b i. b && i && countsBy q C P K s) (sym f ∙ yes) (sym g)
 
-      pub under-outside : i ≡ false → false ≡ countsUnder e C P H (viewOf t) s
-      under-outside n = sym (under-in ∙ ap (λ i. i && countsBy e C P s) n)
+      pub under-outside : i ≡ false → false ≡ countsUnder q C P K H (viewOf t) s
+      under-outside n = sym (under-in ∙ ap (λ i. i && countsBy q C P K s) n)
 
-      pub under-counts : (r : Bool) → i ≡ true → r ≡ countsBy e C P s → r ≡ countsUnder e C P H (viewOf t) s
-      under-counts r y c = c ∙ sym (under-in ∙ ap (λ i. i && countsBy e C P s) y)
+      pub under-counts : (r : Bool) → i ≡ true → r ≡ countsBy q C P K s → r ≡ countsUnder q C P K H (viewOf t) s
+      under-counts r y c = c ∙ sym (under-in ∙ ap (λ i. i && countsBy q C P K s) y)
 
 -- ---- what the evidence tells
 
-module _ (init sender : ℕ) (X : List Stmt) (C Gr : List ℕ) (e : Evidence) (settled : Settled (ringOfWord init) sender X C Gr e) where
+module _ (init : ℕ) (senders : List ℕ) (X : List Stmt) (C Gr P : List ℕ) (e : Evidence) (settled : Settled (ringOfWord init) senders X C Gr P e) where
   abbrev R : Ring
   R = ringOfWord init
 
   abbrev G : List View
   G = viewsOf Gr (e .length)
 
-  no-conflict : T (not (isConflict R sender X))
+  no-conflict : T (not (isConflict R senders X))
   no-conflict = subst (λ b. T (not b)) (sym (settled .agree) ∙ settled .of .conflict) tt
 
   pub count-most : e .count ≤ 16
@@ -179,45 +256,55 @@ module _ (init sender : ℕ) (X : List Stmt) (C Gr : List ℕ) (e : Evidence) (s
       omega (arith, views-count C (e .count), ap length c)
 
   pub length-most : e .length ≤ 16
-  length-most = omega (arith, views-count Gr (e .length), ap length (settled .of .greatest (settled .agree)), sealed-short (greatest-holds R sender X no-conflict .0))
+  length-most = omega (arith, views-count Gr (e .length), ap length (settled .of .greatest (settled .agree)), sealed-short (greatest-holds R senders X no-conflict .0))
 
-  certified-by : (m : ℕ) → isCertified R sender X m ≡ (e .certified && eqb m (e .payload))
-  certified-by m = go (e .certified) refl
+  certified-by : (i m : ℕ) → i < length senders → isCertified R senders X i m ≡ (bit (e .certified) i && eqb m (getD P i 0))
+  certified-by i m l = go (bit (e .certified) i) refl
     where
-      go : (b : Bool) → e .certified ≡ b → isCertified R sender X m ≡ (b && eqb m (e .payload))
+      is : (b : Bool) → bit (e .certified) i ≡ b → when b (getD P i 0) ≡ first (certificates R senders X i)
+      is b f = ap (λ b. when b (getD P i 0)) (sym f) ∙ settled .of .certificate (settled .agree) i l
+
+      go : (b : Bool) → bit (e .certified) i ≡ b → isCertified R senders X i m ≡ (b && eqb m (getD P i 0))
       go true f =
-          let i = first-in (certificates R sender X) (sym (settled .of .certificate (settled .agree)) ∙ ap (λ b. when b (e .payload)) f) in
-          let c = certificates-out R sender X i in
-          says-unique (says-certified R sender X m) (says-map (λ q. subst (Certificate R sender X) (sym q) c) (λ d. one-payload R sender X no-conflict d c) says-eqb)
-      go false f = fails (says-certified R sender X m) (λ c.
-          first-none (certificates R sender X) (sym (settled .of .certificate (settled .agree)) ∙ ap (λ b. when b (e .payload)) f) (certificates-in R sender X c))
+          let c = certificates-out R senders X (first-in (certificates R senders X i) (sym (is true f))) in
+          says-unique (says-certified R senders X i m) (says-map (λ q. subst (Certificate R senders X i) (sym q) c) (λ d. one-payload R senders X no-conflict l d c) says-eqb)
+      go false f = fails (says-certified R senders X i m) (λ c. first-none (certificates R senders X i) (sym (is false f)) (certificates-in R senders X c))
 
   all-candidates : (l : List View) → all (isCandidate R X) l ≡ holds (candidates R X) l
   all-candidates l =
       says-unique (says-all (λ v. says-shown R X (candidate v)) l)
       (says-map (λ h v m. candidates-exact R X v .0 (h v m)) (λ h v m. candidates-exact R X v .1 (h v m)) (says-holds (candidates R X) l))
 
-  shift : (a b c d : Bool) → (((a && b) && c) && d) ≡ ((a && (b && c)) && d)
-  shift a b c d = ap (λ x. x && d) (and-assoc a b c)
+  module _ (ring : declared.Ring) (notices : min (ring .notices) 64 ≡ length senders) (K Rw : List ℕ) (known : ℕ) (prepared : PreparedList senders X K Rw known) where
+    abbrev q : Judge
+    q = judgeOf ring e known
 
-  module _ (P : List ℕ) (prepared : PreparedList sender X P) where
+    -- by what the code computes
+    pub usable : (by : Judge) → by ≡ q → Usable by K Rw
+    usable by is = subst (λ q. Usable q K Rw) (sym is) (record { count = count-most; notices = omega arith; linked = prepared .linked })
+
     -- what the binding, the kept payload and all of a report are judged by is what the record shows
 
-    binding-is : (s : Stmt) → ((not (eqb (s .binding) 1) || isPrepared sender X (s .payload)) && (not (eqb (s .binding) 2) || twoPrepares sender X)) ≡ bindingHolds P s
-    unfolding bindingHolds
-    binding-is s = ap₂ (λ a b. (not (eqb (s .binding) 1) || a) && (not (eqb (s .binding) 2) || b)) (prepared .are (s .payload)) (sym (twofold-is prepared))
+    told-is : (i : ℕ) (g : Group) → i < length senders → toldHolds q P K i g ≡ isCountedFor R senders X i g
+    unfolding toldHolds bindingHolds keptHolds isCountedFor
+    told-is i g l = sym (
+        ap₂ (λ a b. ((not (eqb (g .binding) 1) || a) && (not (eqb (g .binding) 2) || b)) && (not (eqb (g .stored) 1) || isCertified R senders X i (g .kept))) (prepared .are i (g .payload) l) (sym (twofold-is prepared i l))
+        ∙ ap (λ c. ((not (eqb (g .binding) 1) || listed K known i (g .payload)) && (not (eqb (g .binding) 2) || twofold K known i)) && (not (eqb (g .stored) 1) || c)) (certified-by i (g .kept) l)
+        )
 
-    kept-is : (s : Stmt) → (not (eqb (s .stored) 1) || isCertified R sender X (s .kept)) ≡ keptHolds e s
-    unfolding keptHolds
-    kept-is s = ap (λ b. not (eqb (s .stored) 1) || b) (certified-by (s .kept))
+    every-same : (n : ℕ) (f h : ℕ → Bool) → ((i : ℕ) → i < n → f i ≡ h i) → every n f ≡ every n h
+    unfolding every
+    every-same zero f h w = refl
+    every-same (suc n) f h w = ap₂ _&&_ (w n (omega arith)) (every-same n f h (λ i l. w i (omega arith)))
 
-    pub counts-is : (s : Stmt) → countsBy e C P s ≡ isCounted R sender X s
+    pub counts-is : (s : Stmt) → countsBy q C P K s ≡ isCounted R senders X s
     unfolding isCounted countsBy
     counts-is s = sym (
-        shift ((member (s .at) (s .origin) && within 16 (s .view) (wished R X)) && all (isCandidate R X) (s .views)) (not (eqb (s .binding) 1) || isPrepared sender X (s .payload)) (not (eqb (s .binding) 2) || twoPrepares sender X) (not (eqb (s .stored) 1) || isCertified R sender X (s .kept))
-        ∙ ap₂ (λ w l. (((member (s .at) (s .origin) && within 16 (s .view) w) && l) && ((not (eqb (s .binding) 1) || isPrepared sender X (s .payload)) && (not (eqb (s .binding) 2) || twoPrepares sender X))) && (not (eqb (s .stored) 1) || isCertified R sender X (s .kept)))
+        ap₂ (λ w l. ((member (s .at) (s .origin) && within 16 (s .view) w) && l) && every (length senders) (λ i. isCountedFor R senders X i (groupOf s i)))
         (sym (settled .of .wished)) (all-candidates (s .views) ∙ ap (λ l. holds l (s .views)) (sym (settled .of .candidates (settled .agree) (settled .few))))
-        ∙ ap₂ (λ b k. (((member (s .at) (s .origin) && within 16 (s .view) (viewOf (e .wished))) && holds (viewsOf C (e .count)) (s .views)) && b) && k) (binding-is s) (kept-is s)
+        ∙ ap (λ b. ((member (s .at) (s .origin) && within 16 (s .view) (viewOf (e .wished))) && holds (viewsOf C (e .count)) (s .views)) && b)
+        (every-same (length senders) (λ i. isCountedFor R senders X i (groupOf s i)) (λ i. toldHolds q P K i (groupOf s i)) (λ i l. sym (told-is i (groupOf s i) l))
+        ∙ ap (λ n. every n (λ i. toldHolds q P K i (groupOf s i))) (sym notices))
         )
 
     swap : (k o a c : Bool) → (k && (o && (a && c))) ≡ (o && ((k && a) && c))
@@ -225,49 +312,49 @@ module _ (init sender : ℕ) (X : List Stmt) (C Gr : List ℕ) (e : Evidence) (s
     swap false o a c = sym (and-false o)
 
     -- who signed one of the reports alone that counts on u
-    signs-is : (u : View) (k : ℕ) → signs (countsAt e C P u) (filter (isKind 5) X) k ≡ signs (isCountedOn R sender X u) X k
+    signs-is : (u : View) (k : ℕ) → signs (countsAt q C P K u) (filter (isKind 5) X) k ≡ signs (isCountedOn R senders X u) X k
     unfolding signs countsAt isCountedOn reportsOn isKind
     signs-is u k =
-        any-filter (isKind 5) (λ s. eqb (s .origin) k && countsAt e C P u s) X
-        ∙ any-same (λ s. isKind 5 s && (eqb (s .origin) k && countsAt e C P u s)) (λ s. eqb (s .origin) k && isCountedOn R sender X u s) X
-        (λ s. swap (eqb (s .kind) 5) (eqb (s .origin) k) (sameView (s .at) u) (countsBy e C P s) ∙ ap (λ c. eqb (s .origin) k && ((eqb (s .kind) 5 && sameView (s .at) u) && c)) (counts-is s))
+        any-filter (isKind 5) (λ s. eqb (s .origin) k && countsAt q C P K u s) X
+        ∙ any-same (λ s. isKind 5 s && (eqb (s .origin) k && countsAt q C P K u s)) (λ s. eqb (s .origin) k && isCountedOn R senders X u s) X
+        (λ s. swap (eqb (s .kind) 5) (eqb (s .origin) k) (sameView (s .at) u) (countsBy q C P K s) ∙ ap (λ c. eqb (s .origin) k && ((eqb (s .kind) 5 && sameView (s .at) u) && c)) (counts-is s))
 
     module _ (t : ℕ) (topped : viewOf t ≡ top R G) where
       is-top : viewOf t ≡ top R (greatest R X)
       is-top = topped ∙ ap (top R) (settled .of .greatest (settled .agree))
 
-      reported-is : (u : View) → hasReports e C P (filter (isKind 5) X) (viewOf t) u ≡ reportedOn R sender X u
+      reported-is : (u : View) → hasReports q C P K (filter (isKind 5) X) (viewOf t) u ≡ reportedOn R senders X u
       unfolding hasReports reportedOn signedByQuorum
-      reported-is u = ap₂ (λ b q. not b || q) (ap (below 16 u) is-top) (λ i. hasQuorum 16 u (λ k. signs-is u k i))
+      reported-is u = ap₂ (λ b z. not b || z) (ap (below 16 u) is-top) (λ i. hasQuorum 16 u (λ k. signs-is u k i))
 
       all-same : (p q : View → Bool) → ((v : View) → p v ≡ q v) → (l : List View) → all p l ≡ all q l
       all-same p q h l i = all (λ v. h v i) l
 
-      pub reported-all : (Y : List Stmt) → Y ≡ filter (isKind 5) X → (b : Bool) → all (hasReports e C P Y (viewOf t)) G ≡ b → b ≡ reportedAll R sender X
+      pub reported-all : (by : Judge) → by ≡ q → (Y : List Stmt) → Y ≡ filter (isKind 5) X → (b : Bool) → all (hasReports by C P K Y (viewOf t)) G ≡ b → b ≡ reportedAll R senders X
       unfolding reportedAll
-      reported-all Y y b f =
-          sym f ∙ ap (λ Y. all (hasReports e C P Y (viewOf t)) G) y ∙ all-same (hasReports e C P (filter (isKind 5) X) (viewOf t)) (reportedOn R sender X) reported-is G
-          ∙ ap (all (reportedOn R sender X)) (settled .of .greatest (settled .agree))
+      reported-all by is Y y b f =
+          sym f ∙ ap (λ q. all (hasReports q C P K Y (viewOf t)) G) is ∙ ap (λ Y. all (hasReports q C P K Y (viewOf t)) G) y ∙ all-same (hasReports q C P K (filter (isKind 5) X) (viewOf t)) (reportedOn R senders X) reported-is G
+          ∙ ap (all (reportedOn R senders X)) (settled .of .greatest (settled .agree))
 
       same : G ≡ greatest R X
       same = settled .of .greatest (settled .agree)
 
-      under-is : (s : Stmt) → countsUnder e C P G (viewOf t) s ≡ countsBelow R sender X s
+      under-is : (s : Stmt) → countsUnder q C P K G (viewOf t) s ≡ countsBelow R senders X s
       unfolding countsUnder countsBelow isCountedOn reportsOn isKind
       under-is s =
           ap (λ c. ((eqb (s .kind) 5 && below 16 (s .at) (viewOf t)) && any (sameView (s .at)) G) && c) (counts-is s)
-          ∙ says-unique (says-and (says-and (says-and (says-eqb {m = s .kind} {n = 5}) (says-self (below 16 (s .at) (viewOf t)))) (says-in {v = s .at} {H = G})) (says-self (isCounted R sender X s)))
-          (says-map from to (says-any (λ v. says-and (says-self (below 16 v (top R (greatest R X)))) (says-and (says-and (says-eqb {m = s .kind} {n = 5}) (says-same {u = s .at} {v = v})) (says-self (isCounted R sender X s)))) (greatest R X)))
+          ∙ says-unique (says-and (says-and (says-and (says-eqb {m = s .kind} {n = 5}) (says-self (below 16 (s .at) (viewOf t)))) (says-in {v = s .at} {H = G})) (says-self (isCounted R senders X s)))
+          (says-map from to (says-any (λ v. says-and (says-self (below 16 v (top R (greatest R X)))) (says-and (says-and (says-eqb {m = s .kind} {n = 5}) (says-same {u = s .at} {v = v})) (says-self (isCounted R senders X s)))) (greatest R X)))
         where
-          to : (((s .kind ≡ 5) × T (below 16 (s .at) (viewOf t))) × (s .at ∈ G)) × T (isCounted R sender X s)
-              → (v : View) × (v ∈ greatest R X) × (T (below 16 v (top R (greatest R X))) × (((s .kind ≡ 5) × (s .at ≡ v)) × T (isCounted R sender X s)))
+          to : (((s .kind ≡ 5) × T (below 16 (s .at) (viewOf t))) × (s .at ∈ G)) × T (isCounted R senders X s)
+              → (v : View) × (v ∈ greatest R X) × (T (below 16 v (top R (greatest R X))) × (((s .kind ≡ 5) × (s .at ≡ v)) × T (isCounted R senders X s)))
           to (((k, b), m), c) = (s .at, subst (λ l. s .at ∈ l) same m, (subst (λ x. T (below 16 (s .at) x)) is-top b, ((k, refl), c)))
 
-          from : (v : View) × (v ∈ greatest R X) × (T (below 16 v (top R (greatest R X))) × (((s .kind ≡ 5) × (s .at ≡ v)) × T (isCounted R sender X s)))
-              → (((s .kind ≡ 5) × T (below 16 (s .at) (viewOf t))) × (s .at ∈ G)) × T (isCounted R sender X s)
-          from (v, m, (b, ((k, q), c))) =
-              (((k, subst (λ x. T (below 16 (s .at) x)) (sym is-top) (subst (λ v. T (below 16 v (top R (greatest R X)))) (sym q) b)), subst (λ l. s .at ∈ l) (sym same) (subst (λ v. v ∈ greatest R X) (sym q) m)), c)
+          from : (v : View) × (v ∈ greatest R X) × (T (below 16 v (top R (greatest R X))) × (((s .kind ≡ 5) × (s .at ≡ v)) × T (isCounted R senders X s)))
+              → (((s .kind ≡ 5) × T (below 16 (s .at) (viewOf t))) × (s .at ∈ G)) × T (isCounted R senders X s)
+          from (v, m, (b, ((k, z), c))) =
+              (((k, subst (λ x. T (below 16 (s .at) x)) (sym is-top) (subst (λ v. T (below 16 v (top R (greatest R X)))) (sym z) b)), subst (λ l. s .at ∈ l) (sym same) (subst (λ v. v ∈ greatest R X) (sym z) m)), c)
 
-      pub reports-below : filter (countsUnder e C P G (viewOf t)) X ≡ reportsBelow R sender X
+      pub reports-below : (by : Judge) → by ≡ q → filter (countsUnder by C P K G (viewOf t)) X ≡ reportsBelow R senders X
       unfolding reportsBelow
-      reports-below i = filter (λ s. under-is s i) X
+      reports-below by is = ap (λ q. filter (countsUnder q C P K G (viewOf t)) X) is ∙ (λ i. filter (λ s. under-is s i) X)

@@ -4,20 +4,22 @@ use mathlib.Core.Path.{_≡_, refl, sym, ap, ap₂, subst, _∙_}
 use mathlib.Core.Logic.{_⊎_, inl, inr}
 use mathlib.Core.Bool.{Bool, true, false, not, _||_}
 use mathlib.Core.List.{List, [], _∷_}
-use Prim.Native.Nat.{ℕ, _/_, _%_, _<_}
+use Prim.Native.Nat.{ℕ, _/_, _%_, _≤_, _<_}
 use native.Mathlib.Omega.{arith}
 use lib.Dec.{T, eqb, eqb→eq}
-use lib.ListN.{getD}
+use lib.ListN.{length, getD}
+use Rattle.protocol.specs.Sets.{every}
 use Rattle.protocol.specs.Lists.{any, pairwise}
 use Rattle.protocol.specs.View.{View, comparable}
 use Rattle.protocol.specs.History.{sameViews, holds}
 use Rattle.protocol.specs.Statement.{Stmt}
-use Rattle.protocol.specs.Evidence.{wished, candidate, sealed, Candidate, initial, chosen, isCandidate, candidates, sealedHistories, certificates, isConflict, isStored, greatest}
+use Rattle.protocol.specs.Evidence.{wished, candidate, sealed, Candidate, initial, chosen, isCandidate, candidates, sealedHistories, certificates, isConflict, greatest}
 use Rattle.protocol.specs.Grounds.{isTop}
 use Rattle.protocol.proofs.Says.{Says, says-self, says-and, says-or, says-eqb, says-any}
 use Rattle.protocol.proofs.Bits.{Fits}
 use Rattle.protocol.proofs.Quorums.{someone}
 use Rattle.protocol.proofs.Decided.{says-sames, says-shown}
+use Rattle.protocol.proofs.Numbered.{listOf-out}
 use Rattle.protocol.proofs.Asked.{greatest-holds}
 use Rattle.views.specs.View.{viewOf, ringOfWord, viewsOf, wordOf}
 use Rattle.pool.specs.Pool.{recordIn}
@@ -28,9 +30,9 @@ use Rattle.ranking.specs.declared.Summit.{Summit}
 use Rattle.evidence.specs.declared.certificates.Certified.{Certified}
 use Rattle.ranking.specs.Slots.{choiceMark}
 use Rattle.ranking.specs.Ranking.{MarkedChoices, MarkedAgreements, CandidatesOf, HistoriesOf}
-use Rattle.evidence.specs.Shown.{CertificatesOf}
+use Rattle.evidence.specs.Shown.{CertificatesOf, StoredOf}
 use Rattle.evidence.specs.Evidence.{EvidenceOf}
-use Rattle.ranking.proofs.Members.{table-in, table-out}
+use Rattle.ranking.proofs.Members.{listOf-in}
 use Rattle.ranking.proofs.Ranks.{record-fits}
 use Rattle.ranking.proofs.Summits.{held-same}
 
@@ -55,11 +57,11 @@ module _ (W ids : List ℕ) (init : ℕ) (K R : List ℕ) (choiceCount agreement
   some-of : (p : ℕ → Bool) (n : ℕ) → T (any p (upTo n)) → (i : ℕ) × (i < n) × T (p i)
   some-of p n t =
       let (i, m, h) = says-any (λ i. says-self (p i)) (upTo n) .sound t in
-      let (j, l, e) = table-out n (λ i. i) m in
+      let (j, l, e) = listOf-out n (λ i. i) m in
       (i, omega arith, h)
 
   of-some : (p : ℕ → Bool) (n i : ℕ) → i < n → T (p i) → T (any p (upTo n))
-  of-some p n i l h = says-any (λ i. says-self (p i)) (upTo n) .complete (i, table-in n (λ i. i) i l, h)
+  of-some p n i l h = says-any (λ i. says-self (p i)) (upTo n) .complete (i, listOf-in n (λ i. i) i l, h)
 
   -- a candidate is the view of a word
   word-of : {v : View} → Candidate (ringOfWord init) X v → (v ≡ viewOf init) ⊎ ((w : ℕ) × IsWord w × (viewOf w ≡ v))
@@ -120,40 +122,40 @@ none true b c e = absurd (subst T e tt)
 none false true c e = absurd (subst T e tt)
 none false false c e = (refl, refl, e)
 
-conflict-of : (init sender : ℕ) (X : List Stmt) {a b c : Bool} → a ≡ not (pairwise (comparable 16) (candidates (ringOfWord init) X))
-    → b ≡ not (pairwise (λ H K. holds H K || holds K H) (sealedHistories (ringOfWord init) X)) → c ≡ not (pairwise eqb (certificates (ringOfWord init) sender X))
-    → (a || b || c) ≡ isConflict (ringOfWord init) sender X
+conflict-of : (init : ℕ) (senders : List ℕ) (X : List Stmt) {a b c : Bool} → a ≡ not (pairwise (comparable 16) (candidates (ringOfWord init) X))
+    → b ≡ not (pairwise (λ H K. holds H K || holds K H) (sealedHistories (ringOfWord init) X)) → c ≡ not (every (length senders) (λ i. pairwise eqb (certificates (ringOfWord init) senders X i)))
+    → (a || b || c) ≡ isConflict (ringOfWord init) senders X
 unfolding isConflict
-conflict-of init sender X e f g = ap₂ (λ x y. x || y) (ap₂ _||_ e f) g
+conflict-of init senders X e f g = ap₂ (λ x y. x || y) (ap₂ _||_ e f) g
 
-pub tied : (wish : ℕ) (r : Ranked) (h : Summit) (c : Certified) (stored b : Bool) → b ≡ (r .conflict || h .conflict || c .conflict)
-    → (init sender : ℕ) (X : List Stmt) (C G : List ℕ) → viewOf wish ≡ wished (ringOfWord init) X → CandidatesOf init X C r → HistoriesOf init X G h → CertificatesOf init sender X c
-    → stored ≡ isStored (ringOfWord init) X (c .payload)
-    → EvidenceOf (ringOfWord init) sender X C G (record {
+pub tied : (wish : ℕ) (r : Ranked) (h : Summit) (c : Certified) (stored : ℕ) (b : Bool) → b ≡ (r .conflict || h .conflict || c .conflict)
+    → (init : ℕ) (senders : List ℕ) (X : List Stmt) (C G P : List ℕ) → length senders ≤ 64 → viewOf wish ≡ wished (ringOfWord init) X → CandidatesOf init X C r → HistoriesOf init X G h
+    → CertificatesOf init senders X P c → StoredOf init X (c .some) P stored
+    → EvidenceOf (ringOfWord init) senders X C G P (record {
       conflict = b;
       many = r .many;
       wished = wish;
       count = r .count;
       length = h .length;
       certified = c .some;
-      payload = c .payload;
       stored = stored;
     })
-tied wish r h c stored b e init sender X C G w p q s t = record {
+tied wish r h c stored b e init senders X C G P most w p q s t = record {
   wished = w;
   conflict = is;
   many = λ f. p .many (parts f .0);
   candidates = λ f. p .views (parts f .0);
   greatest = λ f.
-      let (g, k) = greatest-holds (ringOfWord init) sender X (subst (λ b. T (not b)) (sym f ∙ is) tt) in
+      let (g, k) = greatest-holds (ringOfWord init) senders X (subst (λ b. T (not b)) (sym f ∙ is) tt) in
       let z = parts f .1 in
       held-same init X (q .sealed z) g (q .holds z (greatest (ringOfWord init) X) g) (k (viewsOf G (h .length)) (q .sealed z));
   certificate = λ f. s .certificate (parts f .2);
-  stored = λ f y. t;
+  stored = λ f i l. t .are i (omega arith);
+  within = s .within;
 }
   where
-    is : b ≡ isConflict (ringOfWord init) sender X
-    is = e ∙ conflict-of init sender X (p .conflict) (q .conflict) (s .conflict)
+    is : b ≡ isConflict (ringOfWord init) senders X
+    is = e ∙ conflict-of init senders X (p .conflict) (q .conflict) (s .conflict)
 
     parts : b ≡ false → (r .conflict ≡ false) × (h .conflict ≡ false) × (c .conflict ≡ false)
     parts f = none (r .conflict) (h .conflict) (c .conflict) (sym e ∙ f)

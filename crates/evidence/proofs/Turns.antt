@@ -8,10 +8,10 @@ use Rattle.protocol.specs.Turn.{G, T, isReported, countedReports}
 use Rattle.evidence.specs.Evidence.{reportedOn, reportedAll, countsBelow, reportsBelow}
 
 module _ (c : Controller) (X : List Stmt) where
-  pub reported-turn : isReported c X ≡ reportedAll (c .ring) (c .sender) X
+  pub reported-turn : isReported c X ≡ reportedAll (c .ring) (c .senders) X
   unfolding isReported reportedAll reportedOn G T
   reported-turn = refl
 
-  pub counted-turn : countedReports c X ≡ reportsBelow (c .ring) (c .sender) X
+  pub counted-turn : countedReports c X ≡ reportsBelow (c .ring) (c .senders) X
   unfolding countedReports reportsBelow countsBelow G T
   counted-turn = refl

@@ -4,25 +4,27 @@ use mathlib.Core.Path.{_≡_, refl, sym, ap, subst, _∙_}
 use mathlib.Core.Logic.{inl, inr}
 use mathlib.Core.Bool.{Bool, false, not}
 use mathlib.Core.List.{List, [], _∷_, map, List·Memᴰ·head, List·Memᴰ·tail}
-use Prim.Native.Nat.{ℕ}
+use mathlib.Core.Option.{none}
+use Prim.Native.Nat.{ℕ, _≤_}
 use native.Mathlib.Omega.{arith}
 use lib.Dec.{T, ltb}
-use lib.ListN.{length, set}
+use lib.ListN.{length, getD, set}
 use Rattle.protocol.specs.Lists.{if_then_else_, _∈_, any, filter, first, when}
 use Rattle.protocol.specs.View.{View}
 use Rattle.protocol.specs.Statement.{Stmt, isKind}
-use Rattle.protocol.specs.Evidence.{wished, candidate, initial, chosen, start, agreed, Candidate, isCandidate, insert, insertAll, candidates, Sealed, certificates, isStored}
-use Rattle.protocol.proofs.Says.{says-eqb, says-any}
+use Rattle.protocol.specs.Evidence.{wished, candidate, initial, chosen, start, agreed, Candidate, isCandidate, insert, insertAll, candidates, Sealed, certificates}
+use Rattle.protocol.proofs.Says.{says-eqb, says-every, says-any}
+use Rattle.protocol.proofs.Bits.{bit-zero}
 use Rattle.protocol.proofs.Quorums.{someone}
 use Rattle.protocol.proofs.Histories.{within-of}
-use Rattle.protocol.proofs.Decided.{says-kind, says-shown, says-stored}
+use Rattle.protocol.proofs.Decided.{says-kind, says-shown}
 use Rattle.protocol.proofs.Asked.{says-pairwise, candidates-exact, certificates-out}
 use Rattle.views.specs.View.{viewOf, ringOfWord}
 use Rattle.views.proofs.Views.{passes, fails}
 use Rattle.votes.specs.Votes.{isVote}
 use Rattle.votes.proofs.Alike.{Vote, says-vote}
 use Rattle.ranking.specs.Ranking.{CandidatesOf, HistoriesOf}
-use Rattle.evidence.specs.Shown.{CertificatesOf}
+use Rattle.evidence.specs.Shown.{CertificatesOf, StoredOf}
 use Rattle.evidence.specs.Evidence.{EvidenceOf}
 use Rattle.ranking.proofs.Ranks.{says-comparable}
 use Rattle.ranking.proofs.Summits.{alone-views, alone}
@@ -33,9 +35,9 @@ unfolding filter
 filter-none p [] h = refl
 filter-none p (a ∷ l) h = ap (λ b. if b then a ∷ filter p l else filter p l) (h a (List·Memᴰ·head refl)) ∙ filter-none p l (λ b m. h b (List·Memᴰ·tail m))
 
-module _ (init : ℕ) (X : List Stmt) (none : any isVote X ≡ false) where
+module _ (init : ℕ) (X : List Stmt) (voteless : any isVote X ≡ false) where
   silent : {s : Stmt} → s ∈ X → Vote s → ⊥
-  silent {s} m v = subst T none (says-any says-vote X .complete (s, m, v))
+  silent {s} m v = subst T voteless (says-any says-vote X .complete (s, m, v))
 
   only-candidate : {v : View} → Candidate (ringOfWord init) X v → v ≡ viewOf init
   only-candidate (initial e) = e
@@ -66,25 +68,26 @@ module _ (init : ℕ) (X : List Stmt) (none : any isVote X ≡ false) where
   histories-of G long = alone init X [] [] [] 0 (record { sound = λ a l. absurd (omega arith); complete = λ H k. inl (only-sealed k) }) G 0 long refl
       (record { most = omega arith; none = λ a l. absurd (omega arith); is = λ l. absurd (omega arith) })
 
-  certificates-of : (sender : ℕ) → CertificatesOf init sender X (record { conflict = false; some = false; payload = 0 })
-  certificates-of sender = record {
-    conflict = ap not (sym (passes (says-pairwise (λ a b. says-eqb {m = a} {n = b}) (certificates (ringOfWord init) sender X)) (λ a i. absurd (uncertified i))));
-    certificate = λ z. go (certificates (ringOfWord init) sender X) refl;
+  certificates-of : (senders P : List ℕ) → CertificatesOf init senders X P (record { conflict = false; some = 0 })
+  certificates-of senders P = record {
+    conflict = ap not (sym (passes (says-every (λ i. says-pairwise (λ a b. says-eqb {m = a} {n = b}) (certificates (ringOfWord init) senders X i)) (length senders)) (λ i l a u. absurd (uncertified i a u))));
+    certificate = λ z i l. ap (λ b. when b (getD P i 0)) (bit-zero i) ∙ go i (certificates (ringOfWord init) senders X i) refl;
+    within = λ i l. bit-zero i;
   }
     where
-      uncertified : {m : ℕ} → m ∈ certificates (ringOfWord init) sender X → ⊥
-      uncertified i = let (_, (s, m, _, a)) = someone (certificates-out (ringOfWord init) sender X i .acked) in silent m (inl (inr (a .kind)))
+      uncertified : (i m : ℕ) → m ∈ certificates (ringOfWord init) senders X i → ⊥
+      uncertified i m u = let (_, (s, p, _, a)) = someone (certificates-out (ringOfWord init) senders X {i = i} {m = m} u .acked) in silent p (inl (inr (a .kind)))
 
-      go : (l : List ℕ) → certificates (ringOfWord init) sender X ≡ l → when false 0 ≡ first l
-      go [] h = refl
-      go (m ∷ l) h = absurd (uncertified (subst (λ l. m ∈ l) (sym h) (List·Memᴰ·head refl)))
+      go : (i : ℕ) (l : List ℕ) → certificates (ringOfWord init) senders X i ≡ l → none ≡ first l
+      go i [] h = refl
+      go i (m ∷ l) h = absurd (uncertified i m (subst (λ l. m ∈ l) (sym h) (List·Memᴰ·head refl)))
 
-  unstored : (m : ℕ) → false ≡ isStored (ringOfWord init) X m
-  unstored m = sym (fails (says-stored (ringOfWord init) X m) (λ (H, h, q). let (_, (s, i, _, a)) = someone q in silent i (inr (a .kind))))
+  stored-of : (P : List ℕ) → StoredOf init X 0 P 0
+  stored-of P = record { are = λ i l y. absurd (subst T (sym y ∙ bit-zero i) tt) }
 
-  pub unvoted : (wish sender : ℕ) (C G : List ℕ) {C′ G′ : List ℕ} → (length C ≡ 16) × (C′ ≡ set C 0 init) → (length G ≡ 16) × (G′ ≡ set G 0 init) → viewOf wish ≡ wished (ringOfWord init) X
-      → EvidenceOf (ringOfWord init) sender X C′ G′ (record { conflict = false; many = false; wished = wish; count = 1; length = 1; certified = false; payload = 0; stored = false })
-  unvoted wish sender C G {C′} {G′} (c, d) (g, h) w =
-      tied wish (record { conflict = false; many = false; count = 1 }) (record { conflict = false; length = 1 }) (record { conflict = false; some = false; payload = 0 }) false false refl init sender X C′ G′ w
+  pub unvoted : (wish : ℕ) (senders C G P : List ℕ) {C′ G′ : List ℕ} → length senders ≤ 64 → (length C ≡ 16) × (C′ ≡ set C 0 init) → (length G ≡ 16) × (G′ ≡ set G 0 init) → viewOf wish ≡ wished (ringOfWord init) X
+      → EvidenceOf (ringOfWord init) senders X C′ G′ P (record { conflict = false; many = false; wished = wish; count = 1; length = 1; certified = 0; stored = 0 })
+  unvoted wish senders C G P {C′} {G′} most (c, d) (g, h) w =
+      tied wish (record { conflict = false; many = false; count = 1 }) (record { conflict = false; length = 1 }) (record { conflict = false; some = 0 }) 0 false refl init senders X C′ G′ P most w
       (subst (λ C. CandidatesOf init X C (record { conflict = false; many = false; count = 1 })) (sym d) (candidates-of C c))
-      (subst (λ G. HistoriesOf init X G (record { conflict = false; length = 1 })) (sym h) (histories-of G g)) (certificates-of sender) (unstored 0)
+      (subst (λ G. HistoriesOf init X G (record { conflict = false; length = 1 })) (sym h) (histories-of G g)) (certificates-of senders P) (stored-of P)

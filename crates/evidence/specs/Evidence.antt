@@ -4,40 +4,45 @@ use mathlib.Core.Path.{_≡_}
 use mathlib.Core.Bool.{Bool, true, false, not, _&&_, _||_}
 use mathlib.Core.List.{List}
 use mathlib.Core.Option.{Option}
-use Prim.Native.Nat.{ℕ, _<_}
+use Prim.Native.Nat.{ℕ, _≤_, _<_}
 use lib.Dec.{ltb}
 use lib.ListN.{getD, length}
+use Rattle.protocol.specs.Sets.{bit}
 use Rattle.protocol.specs.Lists.{any, all, filter, first, when}
 use Rattle.protocol.specs.View.{View, Ring, below}
 use Rattle.protocol.specs.History.{top}
 use Rattle.protocol.specs.Statement.{Stmt}
 use Rattle.protocol.specs.Evidence.{wished, candidates, greatest, certificates, isConflict, isStored, signedByQuorum, isCountedOn}
+use Rattle.protocol.specs.Turn.{mergeAll}
 use Rattle.views.specs.View.{viewOf, viewIn, ringOfWord, viewsOf}
 use Rattle.evidence.specs.declared.Evidence.{Evidence}
+use Rattle.evidence.specs.declared.Notice.{Notice}
 use Rattle.evidence.specs.declared.Ring as declared
+use Rattle.evidence.specs.Notices.{bindingHeld}
 
 -- The ring that a struct stands for.
 abbrev pub ringIs : declared.Ring → Ring
 ringIs r = ringOfWord (r .init)
 
--- The payload of the certificate, if there is one.
-abbrev pub certificateOf : Evidence → Option ℕ
-certificateOf e = when (e .certified) (e .payload)
+-- The payload of the certificate for notice i, if there is one: word i of P, where the set of the certified has i.
+abbrev pub certificateAt : Evidence → List ℕ → ℕ → Option ℕ
+certificateAt e P i = when (bit (e .certified) i) (getD P i 0)
 
--- e is the evidence of X, with the words of the candidates in C and those of the greatest history in G. Only wished and the conflict are told where there is a
--- conflict, and the candidates where they are at most sixteen.
-pub record EvidenceOf (R : Ring) (sender : ℕ) (X : List Stmt) (C G : List ℕ) (e : Evidence) : Type 0 where
+-- e is the evidence of X, with the words of the candidates in C, those of the greatest history in G and the payloads of the certificates in P. Only wished and the
+-- conflict are told where there is a conflict, and the candidates where they are at most sixteen.
+pub record EvidenceOf (R : Ring) (senders : List ℕ) (X : List Stmt) (C G P : List ℕ) (e : Evidence) : Type 0 where
   pub wished : viewOf (e .wished) ≡ wished R X
-  pub conflict : e .conflict ≡ isConflict R sender X
+  pub conflict : e .conflict ≡ isConflict R senders X
   pub many : e .conflict ≡ false → e .many ≡ ltb 16 (length (candidates R X))
   pub candidates : e .conflict ≡ false → e .many ≡ false → viewsOf C (e .count) ≡ candidates R X
   pub greatest : e .conflict ≡ false → viewsOf G (e .length) ≡ greatest R X
-  pub certificate : e .conflict ≡ false → certificateOf e ≡ first (certificates R sender X)
-  pub stored : e .conflict ≡ false → e .certified ≡ true → e .stored ≡ isStored R X (e .payload)
+  pub certificate : e .conflict ≡ false → (i : ℕ) → i < length senders → certificateAt e P i ≡ first (certificates R senders X i)
+  pub stored : e .conflict ≡ false → (i : ℕ) → i < length senders → bit (e .certified) i ≡ true → bit (e .stored) i ≡ isStored R X i (getD P i 0)
+  pub within : (i : ℕ) → length senders ≤ i → bit (e .certified) i ≡ false
 
 -- e is the evidence of X, and a turn goes on: there is no conflict, and there are not too many candidates.
-pub record Settled (R : Ring) (sender : ℕ) (X : List Stmt) (C G : List ℕ) (e : Evidence) : Type 0 where
-  pub of : EvidenceOf R sender X C G e
+pub record Settled (R : Ring) (senders : List ℕ) (X : List Stmt) (C G P : List ℕ) (e : Evidence) : Type 0 where
+  pub of : EvidenceOf R senders X C G P e
   pub agree : e .conflict ≡ false
   pub few : e .many ≡ false
 
@@ -47,10 +52,10 @@ pub record Narrow (list : List ℕ) (n : ℕ) : Type 0 where
 
 -- ---- what the reports of X come to
 
-module _ (R : Ring) (sender : ℕ) (X : List Stmt) where
+module _ (R : Ring) (senders : List ℕ) (X : List Stmt) where
   -- The view u of the greatest history has a quorum of counted reports, if it lies below the top.
   unfoldable pub reportedOn : View → Bool
-  reportedOn u = not (below (R .width) u (top R (greatest R X))) || signedByQuorum (R .width) X u (isCountedOn R sender X u)
+  reportedOn u = not (below (R .width) u (top R (greatest R X))) || signedByQuorum (R .width) X u (isCountedOn R senders X u)
 
   -- Turn's `isReported`: each view of the greatest history below its top has one.
   unfoldable pub reportedAll : Bool
@@ -58,8 +63,12 @@ module _ (R : Ring) (sender : ℕ) (X : List Stmt) where
 
   -- The report s counts, on such a view.
   unfoldable pub countsBelow : Stmt → Bool
-  countsBelow s = any (λ u. below (R .width) u (top R (greatest R X)) && isCountedOn R sender X u s) (greatest R X)
+  countsBelow s = any (λ u. below (R .width) u (top R (greatest R X)) && isCountedOn R senders X u s) (greatest R X)
 
   -- Turn's `countedReports`.
   unfoldable pub reportsBelow : List Stmt
   reportsBelow = filter countsBelow X
+
+-- The notices in H′ have the bindings of those in H, merged with what the reports Y tell of each.
+pub record MergedAll (H : List Notice) (Y : List Stmt) (H′ : List Notice) : Type 0 where
+  pub at : (i : ℕ) → bindingHeld H′ i ≡ mergeAll i (bindingHeld H i) Y

@@ -1,22 +1,36 @@
 // Bindings, and how those that reports tell are merged.
 ghost use mathlib.Core.Path.{_≡_};
-ghost use Rattle.protocol.specs.Statement.{bindingOf};
+ghost use Prim.Native.Nat.{_≤_};
+ghost use Rattle.protocol.specs.Statement.{bindingOf, groupOf};
 ghost use Rattle.protocol.specs.Turn.{merge};
 ghost use Rattle.pool.specs.Pool.{stmtAt};
-ghost use Rattle.statements.specs.Meaning.{bindingIs};
+ghost use Rattle.statements.specs.Block.{bindingIs};
+ghost use Rattle.evidence.specs.Reports.{toldCount};
 use pool::POOL_WORDS;
 use statements::Binding;
 
-// The binding that report s tells.
-pub fn told(words: &[u64; POOL_WORDS], s: u16) -> Binding
-    ensures { λ r. ⌜ bindingIs r ≡ bindingOf (stmtAt (now (words .entry)) s) ⌝ }
+// Of how many notices statement s tells: only a report tells of any.
+pub fn told_count(words: &[u64; POOL_WORDS], s: u16) -> usize
+    ensures { λ r. ⌜ (r ≡ toldCount (now (words .entry)) s) × (r ≤ 64) ⌝ }
 {
-    let b = pool::binding(words, s);
-    if b == 1 {
-        return Binding::Bound(pool::payload(words, s));
+    if pool::kind(words, s) != 5 {
+        return 0;
     }
-    if b == 2 {
+    pool::groups(words, s)
+}
+
+// The binding that statement s tells of notice j.
+pub fn told(words: &[u64; POOL_WORDS], s: u16, j: usize) -> Binding
+    ensures { λ r. ⌜ bindingIs r ≡ bindingOf (groupOf (stmtAt (now (words .entry)) s) j) ⌝ }
+{
+    if told_count(words, s) <= j {
+        return Binding::Unbound;
+    }
+    if statements::has(pool::barred(words, s), j) {
         return Binding::Barred;
+    }
+    if statements::has(pool::bound(words, s), j) {
+        return Binding::Bound(pool::told_payload(words, s, j));
     }
     Binding::Unbound
 }

@@ -1,34 +1,40 @@
-// The certificate, and whether its payload is stored: what quorums of sealed tops acked and stored.
+// The certificates, and whether their payloads are stored: what quorums of sealed tops acked and stored.
 ghost use mathlib.Core.Path.{_≡_};
+ghost use mathlib.Core.Bool.{_&&_};
 ghost use mathlib.Core.List.{List};
-ghost use Prim.Native.Nat.{ℕ, _<_};
-ghost use Rattle.protocol.specs.Evidence.{signs, isStored};
+ghost use Prim.Native.Nat.{ℕ, _<_, min};
+ghost use lib.Dec.{eqb};
+ghost use Rattle.protocol.specs.Evidence.{signs};
 ghost use Rattle.views.specs.Sets.{IsSet};
-ghost use Rattle.views.specs.View.{ringOfWord};
 ghost use Rattle.pool.specs.Pool.{stmtAt, recordLen, recordIn};
-ghost use Rattle.votes.specs.Votes.{alike, entry, placeOf, tagOf, signersOf, GroupsIn};
-ghost use Rattle.sealing.specs.Memos.{Judged};
-ghost use Rattle.evidence.specs.Shown.{isBacked, Ended, BackedIn, AckedOf, PreparedList, certifiesBy, storesIt, CertificatesOf};
+ghost use Rattle.votes.specs.Votes.{alike, entry, placeOf, tagOf, tagBy, signersOf, GroupsIn};
+ghost use Rattle.sealing.specs.Memos.{VerdictsHeld};
+ghost use Rattle.evidence.specs.Notices.{sendersOf};
+ghost use Rattle.evidence.specs.Shown.{isBacked, Ended, BackedIn, AckedOf, Linked, PreparedList, certifiesBy, storesOne, OneCertificate, CertificatesOf, StoredOf};
+use crate::notices;
 use crate::prepares;
-use crate::prepares::PAYLOADS;
 use pool::POOL_WORDS;
 use pool::RECORD;
 use sealing::MEMO;
+use statements::NOTICES;
 use tables::KEYS;
 use tables::ROWS;
 use votes::GROUPS;
 
-// The payload that has a certificate, if one has, or that two have.
+// The kind of a group's votes is the lowest byte of its tag.
+const KIND: u64 = 256;
+
+// The notices that have a certificate, as a set, or that one has certificates for two payloads.
 pub struct Certified {
     pub conflict: bool,
-    pub some: bool,
-    pub payload: u64,
+    pub some: u64,
 }
 
-// What quorums of sealed tops acked: several payloads, or one, or none.
+// What quorums of sealed tops acked: one payload of one notice, or none, or more.
 struct Acked {
     many: bool,
     some: bool,
+    notice: usize,
     payload: u64,
 }
 
@@ -53,10 +59,10 @@ fn is_backed(
     memo: &[u8; MEMO],
     x: u64,
 ) -> bool
-    requires { ⌜ Judged (now words) (recordIn (now words) (now ids)) init (now keys) (now rows) (now memo) × (placeOf x < recordLen (now ids)) × (tagOf x ≡ entry (now words) (now ids) (placeOf x) .kind) × IsSet (signersOf x) (signs (alike (entry (now words) (now ids) (placeOf x))) (recordIn (now words) (now ids))) ⌝ }
+    requires { ⌜ VerdictsHeld (now words) (recordIn (now words) (now ids)) init (now keys) (now rows) (now memo) × (placeOf x < recordLen (now ids)) × (tagOf x ≡ tagBy (entry (now words) (now ids) (placeOf x))) × IsSet (signersOf x) (signs (alike (entry (now words) (now ids) (placeOf x))) (recordIn (now words) (now ids))) ⌝ }
     ensures { λ r. ⌜ r ≡ isBacked init (recordIn (now (words .entry)) (now (ids .entry))) (entry (now (words .entry)) (now (ids .entry)) (placeOf x)) ⌝ }
 {
-    let k = votes::tag_of(x);
+    let k = votes::tag_of(x) % KIND;
     if k < 7 {
         return false;
     }
@@ -81,7 +87,7 @@ pub fn keep_backed(
     memo: &[u8; MEMO],
     groups: &mut [u64; GROUPS],
 ) -> usize
-    requires { ⌜ Judged (now words) (recordIn (now words) (now ids)) init (now keys) (now rows) (now memo) × Ended (now words) (now ids) (now groups) ⌝ }
+    requires { ⌜ VerdictsHeld (now words) (recordIn (now words) (now ids)) init (now keys) (now rows) (now memo) × Ended (now words) (now ids) (now groups) ⌝ }
     ensures { λ r. ⌜ BackedIn (now (words .entry)) (now (ids .entry)) init (now (groups .exit)) r ⌝ }
 {
     votes::groups_room(groups);
@@ -103,51 +109,67 @@ pub fn keep_backed(
     n
 }
 
-// Whether statement s is an ack of one of the payloads.
-fn is_certifying(words: &[u64; POOL_WORDS], prepared: &[u64; PAYLOADS], s: u16) -> bool
-    ensures { λ r. ⌜ r ≡ certifiesBy (now (prepared .entry)) (stmtAt (now (words .entry)) s) ⌝ }
+// Whether statement s is an ack of one of the known rows of what was prepared.
+fn is_certifying(
+    words: &[u64; POOL_WORDS],
+    count: usize,
+    keys: &[u64; KEYS],
+    rows: &[u16; ROWS],
+    known: usize,
+    s: u16,
+) -> bool
+    requires { ⌜ Linked (now keys) (now rows) known ⌝ }
+    ensures { λ r. ⌜ r ≡ certifiesBy (min count 64) (now (keys .entry)) known (stmtAt (now (words .entry)) s) ⌝ }
 {
     if pool::kind(words, s) != 7 {
         return false;
     }
-    prepares::is_listed(prepared, pool::payload(words, s))
+    let j = notices::notice_of(words, s);
+    if j >= statements::few(count) {
+        return false;
+    }
+    prepares::is_listed(keys, rows, known, j, pool::payload(words, s))
 }
 
-// The certificate, from the list of what the sender prepared.
+// The certificates, from the list of what the senders prepared.
 fn certify(
     words: &[u64; POOL_WORDS],
     ids: &[u16; RECORD],
     init: u64,
-    sender: u8,
+    count: usize,
+    senders: &[u8; NOTICES],
     groups: &[u64; GROUPS],
     n: usize,
-    prepared: &[u64; PAYLOADS],
+    keys: &[u64; KEYS],
+    rows: &[u16; ROWS],
+    known: usize,
+    certs: &mut [u64; NOTICES],
 ) -> Certified
-    requires { ⌜ BackedIn (now words) (now ids) init (now groups) n × PreparedList sender (recordIn (now words) (now ids)) (now prepared) ⌝ }
-    ensures { λ r. ⌜ CertificatesOf init sender (recordIn (now (words .entry)) (now (ids .entry))) r ⌝ }
+    requires { ⌜ BackedIn (now words) (now ids) init (now groups) n × PreparedList (sendersOf (now senders) count) (recordIn (now words) (now ids)) (now keys) (now rows) known ⌝ }
+    ensures { λ r. ⌜ CertificatesOf init (sendersOf (now (senders .entry)) count) (recordIn (now (words .entry)) (now (ids .entry))) (now (certs .exit)) r ⌝ }
 {
-    let mut some = false;
-    let mut payload = 0u64;
+    notices::words_room(certs);
+    let mut some = 0u64;
     let mut g = 0usize;
     while g < n {
         let f = votes::place_of(groups[g]);
         let s = ids[f];
-        if !is_certifying(words, prepared, s) {
+        if !is_certifying(words, count, keys, rows, known, s) {
             g += 1;
             continue;
         }
+        let j = notices::notice_of(words, s);
         let m = pool::payload(words, s);
-        if !some {
-            some = true;
-            payload = m;
+        if !statements::has(some, j) {
+            some = statements::with_notice(some, j);
+            certs[j] = m;
             g += 1;
             continue;
         }
-        if m != payload {
+        if m != certs[j] {
             return Certified {
                 conflict: true,
                 some,
-                payload,
             };
         }
         g += 1;
@@ -155,28 +177,20 @@ fn certify(
     Certified {
         conflict: false,
         some,
-        payload,
     }
 }
 
-// The certificate, where quorums acked several payloads.
-fn certify_many(
-    words: &[u64; POOL_WORDS],
-    ids: &[u16; RECORD],
-    init: u64,
-    sender: u8,
-    groups: &[u64; GROUPS],
-    n: usize,
-) -> Certified
-    requires { ⌜ BackedIn (now words) (now ids) init (now groups) n ⌝ }
-    ensures { λ r. ⌜ CertificatesOf init sender (recordIn (now (words .entry)) (now (ids .entry))) r ⌝ }
+// Whether a notice and a payload are the same as others.
+fn is_same(j: usize, m: u64, notice: usize, payload: u64) -> bool
+    ensures { λ r. ⌜ r ≡ (eqb j notice && eqb m payload) ⌝ }
 {
-    let mut prepared = [0u64; PAYLOADS];
-    prepares::list(words, ids, sender, &mut prepared);
-    certify(words, ids, init, sender, groups, n, &prepared)
+    if j != notice {
+        return false;
+    }
+    m == payload
 }
 
-// The payload that quorums of sealed tops acked, if they acked one alone.
+// The payload and the notice that quorums of sealed tops acked, if they acked one alone.
 fn only_acked(
     words: &[u64; POOL_WORDS],
     ids: &[u16; RECORD],
@@ -185,9 +199,10 @@ fn only_acked(
     n: usize,
 ) -> Acked
     requires { ⌜ BackedIn (now words) (now ids) init (now groups) n ⌝ }
-    ensures { λ r. ⌜ AckedOf (now (words .entry)) (now (ids .entry)) (now (groups .entry)) n (r .many) (r .some) (r .payload) ⌝ }
+    ensures { λ r. ⌜ AckedOf (now (words .entry)) (now (ids .entry)) (now (groups .entry)) n (r .many) (r .some) (r .notice) (r .payload) ⌝ }
 {
     let mut some = false;
+    let mut notice = 0usize;
     let mut payload = 0u64;
     let mut g = 0usize;
     while g < n {
@@ -197,17 +212,20 @@ fn only_acked(
             g += 1;
             continue;
         }
+        let j = notices::notice_of(words, s);
         let m = pool::payload(words, s);
         if !some {
             some = true;
+            notice = j;
             payload = m;
             g += 1;
             continue;
         }
-        if m != payload {
+        if !is_same(j, m, notice, payload) {
             return Acked {
                 many: true,
                 some,
+                notice,
                 payload,
             };
         }
@@ -216,71 +234,119 @@ fn only_acked(
     Acked {
         many: false,
         some,
+        notice,
         payload,
     }
 }
 
-// The certificate of a record, of which `groups` has the acks and stores by a quorum of a sealed top.
-pub fn certificate(
+// The certificate of notice j, if its sender prepared m, which is all that quorums acked.
+fn certify_one(
+    words: &[u64; POOL_WORDS],
+    ids: &[u16; RECORD],
+    count: usize,
+    senders: &[u8; NOTICES],
+    j: usize,
+    m: u64,
+    certs: &mut [u64; NOTICES],
+) -> u64
+    ensures { λ r. ⌜ OneCertificate (sendersOf (now (senders .entry)) count) (recordIn (now (words .entry)) (now (ids .entry))) j m (now (certs .exit)) r ⌝ }
+{
+    notices::words_room(certs);
+    if j >= statements::few(count) {
+        return 0;
+    }
+    if !prepares::is_prepared(words, ids, count, senders, j, m) {
+        return 0;
+    }
+    certs[j] = m;
+    statements::with_notice(0, j)
+}
+
+// The certificates of a record, of which `groups` has the acks and stores by a quorum of a sealed top. Most often one payload of one notice is acked, and one scan of
+// the record asks whether it was prepared; otherwise the tables, which are free, hold what was prepared from here on.
+pub fn certificates(
     words: &[u64; POOL_WORDS],
     ids: &[u16; RECORD],
     init: u64,
-    sender: u8,
+    count: usize,
+    senders: &[u8; NOTICES],
     groups: &[u64; GROUPS],
     n: usize,
+    keys: &mut [u64; KEYS],
+    rows: &mut [u16; ROWS],
+    certs: &mut [u64; NOTICES],
 ) -> Certified
     requires { ⌜ BackedIn (now words) (now ids) init (now groups) n ⌝ }
-    ensures { λ r. ⌜ CertificatesOf init sender (recordIn (now (words .entry)) (now (ids .entry))) r ⌝ }
+    ensures { λ r. ⌜ CertificatesOf init (sendersOf (now (senders .entry)) count) (recordIn (now (words .entry)) (now (ids .entry))) (now (certs .exit)) r ⌝ }
 {
     let a = only_acked(words, ids, init, groups, n);
     if a.many {
-        return certify_many(words, ids, init, sender, groups, n);
+        let known = prepares::list(words, ids, count, senders, keys, rows);
+        return certify(
+            words,
+            ids,
+            init,
+            count,
+            senders,
+            groups,
+            n,
+            keys,
+            rows,
+            known,
+            certs,
+        );
     }
     if !a.some {
         return Certified {
             conflict: false,
-            some: false,
-            payload: 0,
+            some: 0,
         };
     }
-    let m = a.payload;
-    let some = prepares::is_prepared(words, ids, sender, m);
+    let some = certify_one(words, ids, count, senders, a.notice, a.payload, certs);
     Certified {
         conflict: false,
         some,
-        payload: m,
     }
 }
 
-// Whether statement s is a store of m.
-fn stores_it(words: &[u64; POOL_WORDS], s: u16, m: u64) -> bool
-    ensures { λ r. ⌜ r ≡ storesIt m (stmtAt (now (words .entry)) s) ⌝ }
+// Whether statement s is a store of what has a certificate.
+fn stores_one(words: &[u64; POOL_WORDS], s: u16, some: u64, certs: &[u64; NOTICES]) -> bool
+    ensures { λ r. ⌜ r ≡ storesOne some (now (certs .entry)) (stmtAt (now (words .entry)) s) ⌝ }
 {
     if pool::kind(words, s) != 8 {
         return false;
     }
-    pool::payload(words, s) == m
+    let j = notices::notice_of(words, s);
+    if !statements::has(some, j) {
+        return false;
+    }
+    pool::payload(words, s) == notices::word_of(certs, j)
 }
 
-// Whether a quorum of a sealed top stored m.
-pub fn is_stored(
+// The certified notices of which quorums of sealed tops stored the payload.
+pub fn stored(
     words: &[u64; POOL_WORDS],
     ids: &[u16; RECORD],
     init: u64,
     groups: &[u64; GROUPS],
     n: usize,
-    m: u64,
-) -> bool
+    some: u64,
+    certs: &[u64; NOTICES],
+) -> u64
     requires { ⌜ BackedIn (now words) (now ids) init (now groups) n ⌝ }
-    ensures { λ r. ⌜ r ≡ isStored (ringOfWord init) (recordIn (now (words .entry)) (now (ids .entry))) m ⌝ }
+    ensures { λ r. ⌜ StoredOf init (recordIn (now (words .entry)) (now (ids .entry))) some (now (certs .entry)) r ⌝ }
 {
+    let mut seen = 0u64;
     let mut g = 0usize;
     while g < n {
         let f = votes::place_of(groups[g]);
-        if stores_it(words, ids[f], m) {
-            return true;
+        let s = ids[f];
+        if !stores_one(words, s, some, certs) {
+            g += 1;
+            continue;
         }
+        seen = statements::with_notice(seen, notices::notice_of(words, s));
         g += 1;
     }
-    false
+    seen
 }

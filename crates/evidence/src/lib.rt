@@ -1,29 +1,38 @@
-// What a record shows, once a turn: the candidates, the greatest sealed history, the certificate, and which reports count.
+// What a record shows, once a turn: the candidates, the greatest sealed history, the certificates, and which reports count.
 mod binding;
 mod certificates;
+mod merging;
+mod notices;
 mod prepares;
 mod reports;
 mod summary;
 
-pub use reports::merged;
+pub use merging::merged;
+pub use notices::word_of;
 pub use reports::reported;
+use statements::Binding;
 pub use summary::of_record;
 
-// What of a ring never changes: its initial view, as a word, and who sends.
+// What of a ring never changes: its initial view, as a word, and how many notices it has. Who sends each of them is lent beside it.
 pub struct Ring {
     pub init: u64,
-    pub sender: u8,
+    pub notices: usize,
 }
 
-// What a record shows, beside two lists of views as words: wished; whether there is a conflict; whether there are more than sixteen candidates, and else how
-// many of the list of candidates count; how many of that of the greatest history count; the payload that has a certificate, and whether it is stored.
+// What a controller holds of a notice.
+pub struct Notice {
+    pub binding: Binding,
+}
+
+// What a record shows, beside two lists of views as words and the payloads of the certificates: wished; whether there is a conflict; whether there are more than
+// sixteen candidates, and else how many of the list of candidates count; how many of that of the greatest history count; and, as sets of notices, which have a
+// certificate, and of which its payload is stored.
 pub struct Evidence {
     pub conflict: bool,
     pub many: bool,
     pub wished: u64,
     pub count: usize,
     pub length: usize,
-    pub certified: bool,
-    pub payload: u64,
-    pub stored: bool,
+    pub certified: u64,
+    pub stored: u64,
 }

@@ -1,30 +1,42 @@
-// Which reports count, whether each view below the top has a quorum of them, and what they bind to.
+// Which reports count, and whether each view below the top has a quorum of them.
 ghost use mathlib.Core.Path.{_≡_};
-ghost use Prim.Native.Nat.{_≤_, _<_};
-ghost use lib.ListN.{length};
+ghost use mathlib.Core.Bool.{true};
+ghost use Prim.Native.Nat.{_≤_, _<_, min};
+ghost use Rattle.protocol.specs.Sets.{every};
 ghost use Rattle.protocol.specs.Lists.{any, filter};
 ghost use Rattle.protocol.specs.View.{sameView, member};
 ghost use Rattle.protocol.specs.History.{holds, top};
-ghost use Rattle.protocol.specs.Statement.{isKind};
+ghost use Rattle.protocol.specs.Statement.{groupOf, isKind};
 ghost use Rattle.protocol.specs.Evidence.{signs};
-ghost use Rattle.protocol.specs.Turn.{mergeAll};
 ghost use Rattle.protocol.proofs.Bits.{Fits};
 ghost use Rattle.views.specs.Sets.{IsSet};
 ghost use Rattle.views.specs.View.{viewOf, ringOfWord, viewsOf};
-ghost use Rattle.pool.specs.Pool.{stmtAt, recordIn};
-ghost use Rattle.statements.specs.Meaning.{bindingIs};
-ghost use Rattle.evidence.specs.Evidence.{ringIs, Settled, reportedAll, reportsBelow};
-ghost use Rattle.evidence.specs.Reports.{bindingHolds, keptHolds, countsBy, countsAt, hasReports, countsUnder};
+ghost use Rattle.pool.specs.Pool.{toldAt, stmtAt, recordIn};
+ghost use Rattle.evidence.specs.Evidence.{ringIs, Settled, reportedAll};
+ghost use Rattle.evidence.specs.Notices.{sendersOf};
+ghost use Rattle.evidence.specs.Reports.{bindingHolds, keptHolds, toldHolds, countsBy, countsAt, hasReports, countsUnder, TellsNothing, Usable, judgeOf};
 use crate::Evidence;
 use crate::Ring;
 use crate::binding;
+use crate::notices;
 use crate::prepares;
-use crate::prepares::PAYLOADS;
 use pool::CAPACITY;
 use pool::POOL_WORDS;
 use pool::RECORD;
-use statements::Binding;
+use statements::NOTICES;
+use tables::KEYS;
+use tables::ROWS;
 use views::View;
+
+// What a report is judged by, beside the lists that are lent: wished; how many of the list of candidates count; the notices that have a certificate; how many
+// notices there are; and how many rows of what was prepared are known.
+pub struct Judge {
+    pub wished: u64,
+    pub count: usize,
+    pub certified: u64,
+    pub notices: usize,
+    pub known: usize,
+}
 
 // Whether k is a member of v.
 fn is_member(v: u64, k: u64) -> bool
@@ -49,8 +61,21 @@ fn is_in(list: &[u64; View::LIMIT], n: usize, v: u64) -> bool
     false
 }
 
+// The same of a view that may well stand at place p: the histories of honest reports list the candidates in their order.
+fn is_in_near(list: &[u64; View::LIMIT], n: usize, p: usize, v: u64) -> bool
+    requires { ⌜ n ≤ 16 ⌝ }
+    ensures { λ r. ⌜ r ≡ any (sameView (viewOf v)) (viewsOf (now (list .entry)) n) ⌝ }
+{
+    if p < n {
+        if views::list_at(list, p) == v {
+            return true;
+        }
+    }
+    is_in(list, n, v)
+}
+
 // The last of the first n views; the initial view, if there is none.
-fn top_of(list: &[u64; View::LIMIT], n: usize, init: u64) -> u64
+pub fn top_of(list: &[u64; View::LIMIT], n: usize, init: u64) -> u64
     requires { ⌜ n ≤ 16 ⌝ }
     ensures { λ r. ⌜ viewOf r ≡ top (ringOfWord init) (viewsOf (now (list .entry)) n) ⌝ }
 {
@@ -68,7 +93,7 @@ fn all_in(words: &[u64; POOL_WORDS], s: u16, list: &[u64; View::LIMIT], n: usize
     let c = pool::count(words, s);
     let mut p = 0usize;
     while p < c {
-        if !is_in(list, n, pool::nth(words, s, p)) {
+        if !is_in_near(list, n, p, pool::nth(words, s, p)) {
             return false;
         }
         p += 1;
@@ -76,57 +101,132 @@ fn all_in(words: &[u64; POOL_WORDS], s: u16, list: &[u64; View::LIMIT], n: usize
     true
 }
 
-// Whether the binding of report s is explained by what the sender prepared.
-fn binding_holds(words: &[u64; POOL_WORDS], prepared: &[u64; PAYLOADS], s: u16) -> bool
-    ensures { λ r. ⌜ r ≡ bindingHolds (now (prepared .entry)) (stmtAt (now (words .entry)) s) ⌝ }
+// Whether the binding that report s tells of notice j is explained by what its sender prepared.
+fn binding_holds(
+    words: &[u64; POOL_WORDS],
+    q: Judge,
+    keys: &[u64; KEYS],
+    rows: &[u16; ROWS],
+    s: u16,
+    j: usize,
+) -> bool
+    requires { ⌜ (j < 64) × Usable q (now keys) (now rows) ⌝ }
+    ensures { λ r. ⌜ r ≡ bindingHolds q (now (keys .entry)) j (toldAt (now (words .entry)) s j) ⌝ }
 {
-    let b = pool::binding(words, s);
-    if b == 1 {
-        return prepares::is_listed(prepared, pool::payload(words, s));
+    if statements::has(pool::barred(words, s), j) {
+        return prepares::is_twofold(keys, rows, q.known, j);
     }
-    if b == 2 {
-        return prepares::is_twofold(prepared);
+    if statements::has(pool::bound(words, s), j) {
+        return prepares::is_listed(keys, rows, q.known, j, pool::told_payload(words, s, j));
     }
     true
 }
 
-// Whether the payload that report s kept, if it kept one, has a certificate.
-fn kept_holds(words: &[u64; POOL_WORDS], e: Evidence, s: u16) -> bool
-    ensures { λ r. ⌜ r ≡ keptHolds e (stmtAt (now (words .entry)) s) ⌝ }
+// Whether the payload that report s tells is kept of notice j, if one is, is that of its certificate.
+fn kept_holds(words: &[u64; POOL_WORDS], q: Judge, certs: &[u64; NOTICES], s: u16, j: usize) -> bool
+    requires { ⌜ j < 64 ⌝ }
+    ensures { λ r. ⌜ r ≡ keptHolds q (now (certs .entry)) j (toldAt (now (words .entry)) s j) ⌝ }
 {
-    if pool::stored(words, s) != 1 {
+    if !statements::has(pool::stored(words, s), j) {
         return true;
     }
-    if !e.certified {
+    if !statements::has(q.certified, j) {
         return false;
     }
-    pool::kept(words, s) == e.payload
+    pool::told_kept(words, s, j) == notices::word_of(certs, j)
+}
+
+// Whether what report s tells of notice j holds.
+fn told_holds(
+    words: &[u64; POOL_WORDS],
+    q: Judge,
+    certs: &[u64; NOTICES],
+    keys: &[u64; KEYS],
+    rows: &[u16; ROWS],
+    s: u16,
+    j: usize,
+) -> bool
+    requires { ⌜ (j < 64) × Usable q (now keys) (now rows) ⌝ }
+    ensures { λ r. ⌜ r ≡ toldHolds q (now (certs .entry)) (now (keys .entry)) j (toldAt (now (words .entry)) s j) ⌝ }
+{
+    if !binding_holds(words, q, keys, rows, s, j) {
+        return false;
+    }
+    kept_holds(words, q, certs, s, j)
+}
+
+// Whether statement s tells nothing of any notice that would have to hold.
+fn tells_nothing(words: &[u64; POOL_WORDS], s: u16) -> bool
+    ensures { λ r. ⌜ (r ≡ true → TellsNothing (now (words .entry)) s) ⌝ }
+{
+    if pool::bound(words, s) != 0 {
+        return false;
+    }
+    if pool::barred(words, s) != 0 {
+        return false;
+    }
+    pool::stored(words, s) == 0
+}
+
+// The lesser of two numbers.
+fn lesser(a: usize, b: usize) -> usize
+    ensures { λ r. ⌜ r ≡ min a b ⌝ }
+{
+    if a < b {
+        return a;
+    }
+    b
+}
+
+// Whether all that statement s tells of the notices of the ring holds. Most reports tell of no binding and of nothing stored.
+fn all_hold(
+    words: &[u64; POOL_WORDS],
+    q: Judge,
+    certs: &[u64; NOTICES],
+    keys: &[u64; KEYS],
+    rows: &[u16; ROWS],
+    s: u16,
+) -> bool
+    requires { ⌜ Usable q (now keys) (now rows) ⌝ }
+    ensures { λ r. ⌜ r ≡ every (q .notices) (λ i. toldHolds q (now (certs .entry)) (now (keys .entry)) i (groupOf (stmtAt (now (words .entry)) s) i)) ⌝ }
+{
+    if tells_nothing(words, s) {
+        return true;
+    }
+    let n = lesser(binding::told_count(words, s), q.notices);
+    let mut j = 0usize;
+    while j < n {
+        if !told_holds(words, q, certs, keys, rows, s, j) {
+            return false;
+        }
+        j += 1;
+    }
+    true
 }
 
 // Whether report s counts.
 fn counts(
     words: &[u64; POOL_WORDS],
-    e: Evidence,
+    q: Judge,
     candidates: &[u64; View::LIMIT],
-    prepared: &[u64; PAYLOADS],
+    certs: &[u64; NOTICES],
+    keys: &[u64; KEYS],
+    rows: &[u16; ROWS],
     s: u16,
 ) -> bool
-    requires { ⌜ e .count ≤ 16 ⌝ }
-    ensures { λ r. ⌜ r ≡ countsBy e (now (candidates .entry)) (now (prepared .entry)) (stmtAt (now (words .entry)) s) ⌝ }
+    requires { ⌜ Usable q (now keys) (now rows) ⌝ }
+    ensures { λ r. ⌜ r ≡ countsBy q (now (candidates .entry)) (now (certs .entry)) (now (keys .entry)) (stmtAt (now (words .entry)) s) ⌝ }
 {
     if !is_member(pool::at(words, s), pool::origin(words, s)) {
         return false;
     }
-    if !views::within_view(pool::view(words, s), e.wished) {
+    if !views::within_view(pool::view(words, s), q.wished) {
         return false;
     }
-    if !all_in(words, s, candidates, e.count) {
+    if !all_in(words, s, candidates, q.count) {
         return false;
     }
-    if !binding_holds(words, prepared, s) {
-        return false;
-    }
-    kept_holds(words, e, s)
+    all_hold(words, q, certs, keys, rows, s)
 }
 
 // Lists the reports of the record, which are few, so that what asks for reports reads no others.
@@ -151,14 +251,16 @@ fn reports_in(words: &[u64; POOL_WORDS], ids: &[u16; RECORD], listed: &mut [u16;
 // Who signed a report on u that counts, of those listed.
 fn reporters(
     words: &[u64; POOL_WORDS],
-    e: Evidence,
+    q: Judge,
     candidates: &[u64; View::LIMIT],
-    prepared: &[u64; PAYLOADS],
+    certs: &[u64; NOTICES],
+    keys: &[u64; KEYS],
+    rows: &[u16; ROWS],
     listed: &[u16; RECORD],
     u: u64,
 ) -> u32
-    requires { ⌜ e .count ≤ 16 ⌝ }
-    ensures { λ r. ⌜ IsSet r (signs (countsAt e (now (candidates .entry)) (now (prepared .entry)) (viewOf u)) (recordIn (now (words .entry)) (now (listed .entry)))) ⌝ }
+    requires { ⌜ Usable q (now keys) (now rows) ⌝ }
+    ensures { λ r. ⌜ IsSet r (signs (countsAt q (now (candidates .entry)) (now (certs .entry)) (now (keys .entry)) (viewOf u)) (recordIn (now (words .entry)) (now (listed .entry)))) ⌝ }
 {
     let end = pool::record_length(listed);
     let mut seen: u32 = 0;
@@ -169,7 +271,7 @@ fn reporters(
             i += 1;
             continue;
         }
-        let hit = counts(words, e, candidates, prepared, s);
+        let hit = counts(words, q, candidates, certs, keys, rows, s);
         seen = views::note(seen, hit, pool::origin(words, s));
         i += 1;
     }
@@ -179,21 +281,36 @@ fn reporters(
 // Whether u, if it lies below the top t of the greatest history, has a quorum of listed reports that count.
 fn is_reported_on(
     words: &[u64; POOL_WORDS],
-    e: Evidence,
+    q: Judge,
     candidates: &[u64; View::LIMIT],
-    prepared: &[u64; PAYLOADS],
+    certs: &[u64; NOTICES],
+    keys: &[u64; KEYS],
+    rows: &[u16; ROWS],
     listed: &[u16; RECORD],
     t: u64,
     u: u64,
 ) -> bool
-    requires { ⌜ e .count ≤ 16 ⌝ }
-    ensures { λ r. ⌜ r ≡ hasReports e (now (candidates .entry)) (now (prepared .entry)) (recordIn (now (words .entry)) (now (listed .entry))) (viewOf t) (viewOf u) ⌝ }
+    requires { ⌜ Usable q (now keys) (now rows) ⌝ }
+    ensures { λ r. ⌜ r ≡ hasReports q (now (candidates .entry)) (now (certs .entry)) (now (keys .entry)) (recordIn (now (words .entry)) (now (listed .entry))) (viewOf t) (viewOf u) ⌝ }
 {
     if !views::below_view(u, t) {
         return true;
     }
-    let seen = reporters(words, e, candidates, prepared, listed, u);
+    let seen = reporters(words, q, candidates, certs, keys, rows, listed, u);
     views::quorum_in(u, seen)
+}
+
+// What reports are judged by in a ring, with the evidence e and the rows of what was prepared that are known.
+pub fn judge_by(ring: Ring, e: Evidence, known: usize) -> Judge
+    ensures { λ q. ⌜ q ≡ judgeOf ring e known ⌝ }
+{
+    Judge {
+        wished: e.wished,
+        count: e.count,
+        certified: e.certified,
+        notices: statements::few(ring.notices),
+        known,
+    }
 }
 
 // Whether each view of the greatest history below its top has a quorum of reports that count.
@@ -201,15 +318,19 @@ pub fn reported(
     words: &[u64; POOL_WORDS],
     ids: &[u16; RECORD],
     ring: Ring,
+    senders: &[u8; NOTICES],
     e: Evidence,
     candidates: &[u64; View::LIMIT],
     greatest: &[u64; View::LIMIT],
+    certs: &[u64; NOTICES],
 ) -> bool
-    requires { ⌜ Settled (ringIs ring) (ring .sender) (recordIn (now words) (now ids)) (now candidates) (now greatest) e ⌝ }
-    ensures { λ r. ⌜ r ≡ reportedAll (ringIs ring) (ring .sender) (recordIn (now (words .entry)) (now (ids .entry))) ⌝ }
+    requires { ⌜ Settled (ringIs ring) (sendersOf (now senders) (ring .notices)) (recordIn (now words) (now ids)) (now candidates) (now greatest) (now certs) e ⌝ }
+    ensures { λ r. ⌜ r ≡ reportedAll (ringIs ring) (sendersOf (now (senders .entry)) (ring .notices)) (recordIn (now (words .entry)) (now (ids .entry))) ⌝ }
 {
-    let mut prepared = [0u64; PAYLOADS];
-    prepares::list(words, ids, ring.sender, &mut prepared);
+    let mut keys = [0u64; KEYS];
+    let mut rows = [0u16; ROWS];
+    let known = prepares::list(words, ids, ring.notices, senders, &mut keys, &mut rows);
+    let q = judge_by(ring, e, known);
     let mut listed = [0u16; RECORD];
     reports_in(words, ids, &mut listed);
     let n = e.length;
@@ -217,7 +338,7 @@ pub fn reported(
     let mut i = 0usize;
     while i < n {
         let u = views::list_at(greatest, i);
-        if !is_reported_on(words, e, candidates, &prepared, &listed, t, u) {
+        if !is_reported_on(words, q, candidates, certs, &keys, &rows, &listed, t, u) {
             return false;
         }
         i += 1;
@@ -225,18 +346,21 @@ pub fn reported(
     true
 }
 
-// Whether statement s is a report that counts, on a view of the greatest history below its top t.
-fn counts_below(
+// Whether statement s is a report that counts, on one of the first n views of the greatest history, below its top t.
+pub fn counts_below(
     words: &[u64; POOL_WORDS],
-    e: Evidence,
+    q: Judge,
     candidates: &[u64; View::LIMIT],
     greatest: &[u64; View::LIMIT],
-    prepared: &[u64; PAYLOADS],
+    n: usize,
+    certs: &[u64; NOTICES],
+    keys: &[u64; KEYS],
+    rows: &[u16; ROWS],
     t: u64,
     s: u16,
 ) -> bool
-    requires { ⌜ (e .count ≤ 16) × (e .length ≤ 16) ⌝ }
-    ensures { λ r. ⌜ r ≡ countsUnder e (now (candidates .entry)) (now (prepared .entry)) (viewsOf (now (greatest .entry)) (e .length)) (viewOf t) (stmtAt (now (words .entry)) s) ⌝ }
+    requires { ⌜ (n ≤ 16) × Usable q (now keys) (now rows) ⌝ }
+    ensures { λ r. ⌜ r ≡ countsUnder q (now (candidates .entry)) (now (certs .entry)) (now (keys .entry)) (viewsOf (now (greatest .entry)) n) (viewOf t) (stmtAt (now (words .entry)) s) ⌝ }
 {
     if pool::kind(words, s) != 5 {
         return false;
@@ -245,38 +369,8 @@ fn counts_below(
     if !views::below_view(u, t) {
         return false;
     }
-    if !is_in(greatest, e.length, u) {
+    if !is_in(greatest, n, u) {
         return false;
     }
-    counts(words, e, candidates, prepared, s)
-}
-
-// The binding `own`, merged with those of the reports that count on the views of the greatest history below its top.
-pub fn merged(
-    words: &[u64; POOL_WORDS],
-    ids: &[u16; RECORD],
-    ring: Ring,
-    e: Evidence,
-    candidates: &[u64; View::LIMIT],
-    greatest: &[u64; View::LIMIT],
-    own: Binding,
-) -> Binding
-    requires { ⌜ Settled (ringIs ring) (ring .sender) (recordIn (now words) (now ids)) (now candidates) (now greatest) e ⌝ }
-    ensures { λ r. ⌜ bindingIs r ≡ mergeAll (bindingIs own) (reportsBelow (ringIs ring) (ring .sender) (recordIn (now (words .entry)) (now (ids .entry)))) ⌝ }
-{
-    let mut prepared = [0u64; PAYLOADS];
-    prepares::list(words, ids, ring.sender, &mut prepared);
-    let t = top_of(greatest, e.length, ring.init);
-    let mut b = own;
-    let mut i = pool::record_length(ids);
-    while 0 < i {
-        i -= 1;
-        let s = ids[i];
-        if !counts_below(words, e, candidates, greatest, &prepared, t, s) {
-            continue;
-        }
-        let next = binding::both(binding::told(words, s), b);
-        b = next;
-    }
-    b
+    counts(words, q, candidates, certs, keys, rows, s)
 }

@@ -2,17 +2,18 @@
 ghost use mathlib.Core.Path.{_≡_};
 ghost use mathlib.Core.Bool.{false, _||_};
 ghost use mathlib.Core.List.{List};
-ghost use Prim.Native.Nat.{ℕ};
+ghost use Prim.Native.Nat.{ℕ, _≤_};
 ghost use lib.ListN.{length, set};
 ghost use Rattle.protocol.specs.Lists.{any};
 ghost use Rattle.protocol.specs.Statement.{Stmt};
-ghost use Rattle.protocol.specs.Evidence.{wished, isStored};
+ghost use Rattle.protocol.specs.Evidence.{wished};
 ghost use Rattle.views.specs.View.{viewOf, ringOfWord};
 ghost use Rattle.pool.specs.Pool.{recordIn};
 ghost use Rattle.votes.specs.Votes.{isVote};
 ghost use Rattle.ranking.specs.Ranking.{CandidatesOf, HistoriesOf};
-ghost use Rattle.evidence.specs.Shown.{CertificatesOf};
+ghost use Rattle.evidence.specs.Shown.{CertificatesOf, StoredOf};
 ghost use Rattle.evidence.specs.Evidence.{ringIs, EvidenceOf};
+ghost use Rattle.evidence.specs.Notices.{sendersOf};
 use crate::Evidence;
 use crate::Ring;
 use crate::certificates;
@@ -22,6 +23,7 @@ use pool::RECORD;
 use ranking::Ranked;
 use ranking::Summit;
 use sealing::MEMO;
+use statements::NOTICES;
 use tables::KEYS;
 use tables::ROWS;
 use views::View;
@@ -41,8 +43,8 @@ fn one_of(a: bool, b: bool, c: bool) -> bool
 }
 
 // The evidence, put together from its parts.
-fn tie(wish: u64, r: Ranked, h: Summit, c: Certified, stored: bool) -> Evidence
-    ensures { λ e. ⌜ ((init sender : ℕ) (X : List Stmt) (C G : List ℕ) → viewOf wish ≡ wished (ringOfWord init) X → CandidatesOf init X C r → HistoriesOf init X G h → CertificatesOf init sender X c → stored ≡ isStored (ringOfWord init) X (c .payload) → EvidenceOf (ringOfWord init) sender X C G e) ⌝ }
+fn tie(wish: u64, r: Ranked, h: Summit, c: Certified, stored: u64) -> Evidence
+    ensures { λ e. ⌜ ((init : ℕ) (senders : List ℕ) (X : List Stmt) (C G P : List ℕ) → length senders ≤ 64 → viewOf wish ≡ wished (ringOfWord init) X → CandidatesOf init X C r → HistoriesOf init X G h → CertificatesOf init senders X P c → StoredOf init X (c .some) P stored → EvidenceOf (ringOfWord init) senders X C G P e) ⌝ }
 {
     let conflict = one_of(r.conflict, h.conflict, c.conflict);
     Evidence {
@@ -52,20 +54,22 @@ fn tie(wish: u64, r: Ranked, h: Summit, c: Certified, stored: bool) -> Evidence
         count: r.count,
         length: h.length,
         certified: c.some,
-        payload: c.payload,
         stored,
     }
 }
 
-// The evidence of a record, from its votes. The tables serve the gathering first, since each array that is declared is cleared, which takes time.
+// The evidence of a record, from its votes. The tables serve the gathering first and the search for what was prepared last, since each array that is declared is
+// cleared, which takes time.
 fn of_votes(
     words: &[u64; POOL_WORDS],
     ids: &[u16; RECORD],
     ring: Ring,
+    senders: &[u8; NOTICES],
     candidates: &mut [u64; View::LIMIT],
     greatest: &mut [u64; View::LIMIT],
+    certs: &mut [u64; NOTICES],
 ) -> Evidence
-    ensures { λ e. ⌜ EvidenceOf (ringIs ring) (ring .sender) (recordIn (now (words .entry)) (now (ids .entry))) (now (candidates .exit)) (now (greatest .exit)) e ⌝ }
+    ensures { λ e. ⌜ EvidenceOf (ringIs ring) (sendersOf (now (senders .entry)) (ring .notices)) (recordIn (now (words .entry)) (now (ids .entry))) (now (candidates .exit)) (now (greatest .exit)) (now (certs .exit)) e ⌝ }
 {
     let init = ring.init;
     let mut keys = [0u64; KEYS];
@@ -79,8 +83,19 @@ fn of_votes(
     let h = ranking::climb(words, &rows, &memo, counts.agreements, init, greatest);
     certificates::end(&mut groups, found.groups);
     let n = certificates::keep_backed(words, ids, init, &keys, &rows, &memo, &mut groups);
-    let c = certificates::certificate(words, ids, init, ring.sender, &groups, n);
-    let stored = certificates::is_stored(words, ids, init, &groups, n, c.payload);
+    let c = certificates::certificates(
+        words,
+        ids,
+        init,
+        ring.notices,
+        senders,
+        &groups,
+        n,
+        &mut keys,
+        &mut rows,
+        certs,
+    );
+    let stored = certificates::stored(words, ids, init, &groups, n, c.some, certs);
     tie(found.wished, r, h, c, stored)
 }
 
@@ -99,7 +114,7 @@ fn unvoted(
     candidates: &mut [u64; View::LIMIT],
     greatest: &mut [u64; View::LIMIT],
 ) -> Evidence
-    ensures { λ e. ⌜ ((sender : ℕ) (X : List Stmt) → any isVote X ≡ false → viewOf wish ≡ wished (ringOfWord init) X → EvidenceOf (ringOfWord init) sender X (now (candidates .exit)) (now (greatest .exit)) e) ⌝ }
+    ensures { λ e. ⌜ ((senders : List ℕ) (X : List Stmt) (P : List ℕ) → length senders ≤ 64 → any isVote X ≡ false → viewOf wish ≡ wished (ringOfWord init) X → EvidenceOf (ringOfWord init) senders X (now (candidates .exit)) (now (greatest .exit)) P e) ⌝ }
 {
     start(candidates, init);
     start(greatest, init);
@@ -109,25 +124,26 @@ fn unvoted(
         wished: wish,
         count: 1,
         length: 1,
-        certified: false,
-        payload: 0,
-        stored: false,
+        certified: 0,
+        stored: 0,
     }
 }
 
-// The evidence of a record, with its candidates and its greatest history in the two lists. Where there are no votes, none of the memory is cleared that they are
-// gathered in.
+// The evidence of a record, with its candidates, its greatest history and the payloads of its certificates in the three lists. Where there are no votes, none of the
+// memory is cleared that they are gathered in.
 pub fn of_record(
     words: &[u64; POOL_WORDS],
     ids: &[u16; RECORD],
     ring: Ring,
+    senders: &[u8; NOTICES],
     candidates: &mut [u64; View::LIMIT],
     greatest: &mut [u64; View::LIMIT],
+    certs: &mut [u64; NOTICES],
 ) -> Evidence
-    ensures { λ e. ⌜ EvidenceOf (ringIs ring) (ring .sender) (recordIn (now (words .entry)) (now (ids .entry))) (now (candidates .exit)) (now (greatest .exit)) e ⌝ }
+    ensures { λ e. ⌜ EvidenceOf (ringIs ring) (sendersOf (now (senders .entry)) (ring .notices)) (recordIn (now (words .entry)) (now (ids .entry))) (now (candidates .exit)) (now (greatest .exit)) (now (certs .exit)) e ⌝ }
 {
     if votes::has_votes(words, ids) {
-        return of_votes(words, ids, ring, candidates, greatest);
+        return of_votes(words, ids, ring, senders, candidates, greatest, certs);
     }
     unvoted(
         votes::wished_by(words, ids, ring.init),

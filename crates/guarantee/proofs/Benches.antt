@@ -23,21 +23,25 @@ use Rattle.schedule.specs.Line.{Line}
 use Rattle.bench.specs.Bench.{Seat, emptySeat, Bench, seat, missing, step}
 use Rattle.guarantee.specs.Events.{follower, isFollower, eventsOf}
 use Rattle.guarantee.proofs.Laws.{either}
-use Rattle.guarantee.proofs.Seats.{seatOf, Setup, InRing, Seated, Yields, Proper, keeps}
+use Rattle.guarantee.proofs.Seats.{seatOf, Fit, Clean, Setup, InRing, Seated, Yields, Proper, keeps}
 use Rattle.guarantee.proofs.Pools.{grown-more}
 use Rattle.guarantee.proofs.Lines.{Legible, Acts, NoTurn, turn-only, After, out, filled, Calls, Effect, rests, calls, gives, lies, Valid, yes-follows, no-follows, effect}
 
 module _ (u : Setup) {b : Bench} (ok : Valid u b) where
-  open Setup u using (members, sender, faulty)
+  open Setup u using (members, senders, faulty)
+
+  fit-in : (s : Stmt) → Fit (b .notices) s → Fit (length senders) s
+  fit-in s f = subst (λ n. Fit n s) (ok .notices) f
 
   -- ---- what it keeps
 
   -- where the seat of k is x, and S has gone to the pool
   valid-after : (k : ℕ) (x : Seat) {S : List Stmt} {b′ : Bench} → k < 16 → After b k x S b′ → InRing u k (x .controller) → ((s : Stmt) → s ∈ x .statements → (s ∈ b .pool) ⊎ (s ∈ S))
-      → ((s : Stmt) → s ∈ S → T (fieldRules controllers s)) → Valid u b′
+      → Clean (length senders) S → Valid u b′
   valid-after k x {S} {b′} near a inRing known clean = record {
     isSetUp = a .isSetUp ∙ ok .isSetUp;
     marks = a .marks ∙ ok .marks;
+    notices = a .notices ∙ ok .notices;
     long = ap length (a .seats) ∙ length-set (b .seats) k x ∙ ok .long;
     clean = λ s m. elim (a .pool .only s m) [ inl i ↦ ok .clean s i | inr i ↦ clean s i ];
     different = a .pool .different (ok .different);
@@ -54,7 +58,7 @@ module _ (u : Setup) {b : Bench} (ok : Valid u b) where
   pub left-by : (k : ℕ) → k < 16 → (a : Call) → Proper (b .pool) a → Yields u (b .pool) k (out b k a)
   left-by k near a proper = keeps u (b .pool) (ok .clean) k near (seat b k .controller) (seat b k .statements) (ok .each k near) (hasRoom (b .pool)) a proper
 
-  pub step-valid : (l : Option Line) → Legible l → Valid u (step b l .bench)
+  pub step-valid : (l : Option Line) → Legible (b .notices) l → Valid u (step b l .bench)
   step-valid l g = go (effect u ok l g)
     where
       go : Effect b l → Valid u (step b l .bench)
@@ -66,7 +70,7 @@ module _ (u : Setup) {b : Bench} (ok : Valid u b) where
           (λ s m. absurd (List·Memᴰ·not-nil m))
       go (lies s c) =
           let o = ok .each 0 (omega arith) in
-          valid-after 0 (seat b 0) (omega arith) (c .after) (o .inRing) (λ x m. inl (o .known x m)) (λ x m. subst (λ x. T (fieldRules controllers x)) (sym (List·Memᴰ·eq-of-singleton m)) (c .clean))
+          valid-after 0 (seat b 0) (omega arith) (c .after) (o .inRing) (λ x m. inl (o .known x m)) (λ x m. subst (Fit (length senders)) (sym (List·Memᴰ·eq-of-singleton m)) (fit-in s (c .clean)))
 
   -- the pool grows at its end
   pub grows : (l : Option Line) → Effect b l → (D : List Stmt) × (step b l .bench .pool ≡ b .pool ++ D)
@@ -85,7 +89,7 @@ module _ (u : Setup) {b : Bench} (ok : Valid u b) where
     -- a proper call on a rule-follower, which the line does if it is a turn; or a signing by a rule-breaker
     abbrev pub Admitted : Event → Type 0
     Admitted (call k a) = T (follower faulty k) × Proper (b .pool) a × (NoTurn a ⊎ Calls b l k a)
-    Admitted (signing s) = T (not (follower faulty (s .origin))) × T (fieldRules controllers s)
+    Admitted (signing s) = T (not (follower faulty (s .origin))) × T (fieldRules controllers (length senders) s)
 
     abbrev All : List Event → Type 0
     All E = (e : Event) → e ∈ E → Admitted e
@@ -94,11 +98,11 @@ module _ (u : Setup) {b : Bench} (ok : Valid u b) where
     admitted (rests r) = subst All (sym (r .events)) (λ e m. absurd (List·Memᴰ·not-nil m))
     admitted (calls k a c) = subst All (sym (c .events)) (either All (isFollower b k) (λ f e m. subst Admitted (sym (List·Memᴰ·eq-of-singleton m)) (yes-follows u ok k f, c .proper, inr c))
         (λ f e m. let (s, i, q) = Memᴰ·of-map signing (signedIn (out b k a .answer)) m in
-        let (clean, origin) = left-by k (c .near) a (c .proper) .signs s i in
-        subst Admitted q (subst (λ j. T (not (follower faulty j))) (sym origin) (subst (λ x. T (not x)) (sym (no-follows u ok k f)) tt), clean)))
+        let (fit, origin) = left-by k (c .near) a (c .proper) .signs s i in
+        subst Admitted q (subst (λ j. T (not (follower faulty j))) (sym origin) (subst (λ x. T (not x)) (sym (no-follows u ok k f)) tt), fit .fields)))
     admitted (gives k c) = subst All (sym (c .events)) (either All (isFollower b k)
         (λ f e m. let (s, i, q) = Memᴰ·of-map (λ s. call k (addCall s)) (missing b k) m in subst Admitted q (yes-follows u ok k f, missing-in k s i, inl tt)) (λ f e m. absurd (List·Memᴰ·not-nil m)))
-    admitted (lies s c) = subst All (sym (c .events)) (λ e m. subst Admitted (sym (List·Memᴰ·eq-of-singleton m)) (marked-breaks (s .origin) (subst (λ x. T (bit x (s .origin))) (ok .marks) (c .marked)), c .clean))
+    admitted (lies s c) = subst All (sym (c .events)) (λ e m. subst Admitted (sym (List·Memᴰ·eq-of-singleton m)) (marked-breaks (s .origin) (subst (λ x. T (bit x (s .origin))) (ok .marks) (c .marked)), fit-in s (c .clean) .fields))
 
     -- a row that only a turn prints comes of a line that is a turn
     pub acting-line : Effect b l → Acts (step b l .reply .answer) → Calls b l (step b l .reply .who) turnCall

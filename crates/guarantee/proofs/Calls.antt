@@ -15,10 +15,10 @@ use Rattle.protocol.specs.Call.{setupAllowed, started, setup}
 use Rattle.protocol.specs.Pool.{numberOf, pooled, hasRoom}
 use Rattle.protocol.specs.Run.{Call, turnCall, outcome, call, Run, event, returned, controllerOf, recordOf, TurnAnswers, IsRun}
 use Rattle.protocol.specs.Promises.{observed, Promises, NoConflict}
+use Rattle.protocol.proofs.Numbered.{listOf-cong}
 use Rattle.protocol.proofs.Steps.{Next, waits, acts, Start, starts, begun, called, next}
 use Rattle.protocol.proofs.Promises.{promises, no-conflict}
 use Rattle.protocol.proofs.Carried.{carried, carried-no-conflict}
-use Rattle.views.proofs.Tables.{table-cong}
 use Rattle.pool.specs.Pool.{stmtAt, recordUpTo as recordAt, recordLen, recordIn, poolOf, AllIn, Grows}
 use Rattle.pool.specs.Changes.{Emptied}
 use Rattle.engine.specs.declared.Controller.{Controller}
@@ -36,7 +36,7 @@ use Rattle.guarantee.specs.Calls.{Engine, EngineRun, EngineRuns, EngineA
 grown-record : {W W′ : List ℕ} → Grows W W′ → (R : List ℕ) → AllIn W R → (recordIn W′ R ≡ recordIn W R) × AllIn W′ R
 unfolding recordAt AllIn
 grown-record {W} {W′} g R w = (
-  table-cong (recordLen R) (λ i. stmtAt W′ (getD R i 0)) (λ i. stmtAt W (getD R i 0)) (λ i l. g .same _ (w i l)),
+  listOf-cong (recordLen R) (λ i. stmtAt W′ (getD R i 0)) (λ i. stmtAt W (getD R i 0)) (λ i l. g .same _ (w i l)),
   λ i l. let a = w i l in let b = g .more in omega arith,
 )
 
@@ -82,7 +82,7 @@ module _ {W R left R′ W′ : List ℕ} {c : Controller} {o : controller.Outcom
       go Taken e = rw e
       go (Signed i) e = rw e (signed-same i e)
       go (Entered v) e = rw e
-      go (Delivered x) e = rw e
+      go (Delivered i x) e = rw e
       go Left e = rw e
       go Quiet e = rw e
       go (Refused q) e = rw e
@@ -96,12 +96,12 @@ pub record Agrees (run : Run) (k : ℕ) (e : ℕ → Engine) (n : ℕ) : Type 0 
   pub whole : AllIn (e n .pool) (e n .ids)
 
 -- a setup that is taken leaves nothing of what was before
-setup-anew : (k members sender : ℕ) (X : List Stmt) → Start k members sender → setup controller.notSetUp X k members sender ≡ setup controller.notSetUp [] k members sender
+setup-anew : (k members : ℕ) (senders : List ℕ) (X : List Stmt) → Start k members senders → setup controller.notSetUp X k members senders ≡ setup controller.notSetUp [] k members senders
 unfolding setup
-setup-anew k members sender X (starts t e) = go (setupAllowed k members sender) t
+setup-anew k members senders X (starts t e) = go (setupAllowed k members senders) t
   where
     result : Bool → List Stmt → controller.Outcome
-    result b X = if not b then record { answer = controller.refused controller.badSetup; controller = controller.notSetUp; statements = X } else record { answer = controller.taken; controller = started k members sender; statements = [] }
+    result b X = if not b then record { answer = controller.refused controller.badSetup; controller = controller.notSetUp; statements = X } else record { answer = controller.taken; controller = started k members senders; statements = [] }
 
     go : (b : Bool) → T b → result b X ≡ result b []
     go true t = refl
@@ -121,14 +121,14 @@ module _ {run : Run} (is : IsRun run) {k : ℕ} (ok : T (run .follows k)) {e : �
       let s = engine .started in
       let f = engine .fresh in
       let b = begun is k (is .numbered k ok) in
-      let o : setup (controllerIs (f .last .controller)) (recordIn (f .pool) (f .ids)) k (run .members) (run .sender) ≡ returned run k 0
-      = ap (λ d. setup d (recordIn (f .pool) (f .ids)) k (run .members) (run .sender)) (engine .unset) ∙ setup-anew k (run .members) (run .sender) _ b in
+      let o : setup (controllerIs (f .last .controller)) (recordIn (f .pool) (f .ids)) k (run .members) (run .senders) ≡ returned run k 0
+      = ap (λ d. setup d (recordIn (f .pool) (f .ids)) k (run .members) (run .senders)) (engine .unset) ∙ setup-anew k (run .members) (run .senders) _ b in
       let t : returned run k 0 .answer ≡ controller.taken = is .started k (is .numbered k ok) in
       let n = subst (λ p. NumbersAfter (f .pool) (f .ids) (startedOf p) (e 0 .ids)) (ap (λ x. x .answer) o ∙ t) (s .called .numbers) in
       let (x, w) = no-numbers (e 0 .pool) (f .ids) (e 0 .ids) n in
       record { controller = s .called .controller ∙ ap (λ x. x .controller) o; statements = x ∙ sym (started-empty b); whole = w }
     where
-      started-empty : Start k (run .members) (run .sender) → returned run k 0 .statements ≡ []
+      started-empty : Start k (run .members) (run .senders) → returned run k 0 .statements ≡ []
       started-empty (starts t e) = ap (λ x. x .statements) e
 
   -- THE ENGINE RUNS THE PROTOCOL: after any number of events its controller and record are the run's

@@ -28,13 +28,15 @@ use Rattle.engine.specs.Promise.{Change, unchanged, emptied, grown, PoolAfter, 
 use Rattle.guarantee.specs.Calls.{Engine, EngineCalls, EngineRun}
 use Rattle.guarantee.proofs.Memory.{at, memory, fits, numbers, within, short, stmt-at, pool-is, memory-more, grows, pushed, empty-again, few, record-is, all-in}
 
--- What there is of one controller after an event: the pool that the event left, what its host then put into it, what the last call on the controller answered, the controller
--- that this returned, and the numbers of its record.
+-- What there is of one controller after an event: the pool that the event left, what its host then put into it, what the last call on the controller answered, what the
+-- controller that this returned means and what it is, and the numbers of its record. (What a controller has of each notice is a function of its number, which an array does not compute to.)
 pub record State : Type 0 where
   pub left : List Stmt
   pub more : List Stmt
   pub answer : Answer
+  pub meaning : controller.Controller
   pub controller : Controller
+  pub means : controllerIs controller ≡ meaning
   pub ids : List ℕ
 
 abbrev pub poolIn : State → List Stmt
@@ -49,7 +51,7 @@ abbrev answerIn : List Stmt → Answer → controller.Answer
 answerIn P Taken = controller.taken
 answerIn P (Signed n) = controller.signed (at P n)
 answerIn P (Entered v) = controller.entered (viewIs v)
-answerIn P (Delivered m) = controller.delivered m
+answerIn P (Delivered i m) = controller.delivered i m
 answerIn P Left = controller.left
 answerIn P Quiet = controller.quiet
 answerIn P (Refused r) = controller.refused (refusalIs r)
@@ -59,7 +61,7 @@ abbrev numbered : List Stmt → List Stmt → Answer → Bool
 numbered P P′ Taken = true
 numbered P P′ (Signed n) = ltb n (length P′) && eqb n (numberOf (at P′ n) P)
 numbered P P′ (Entered v) = true
-numbered P P′ (Delivered m) = true
+numbered P P′ (Delivered i m) = true
 numbered P P′ Left = true
 numbered P P′ Quiet = true
 numbered P P′ (Refused r) = false
@@ -97,7 +99,7 @@ pub record Result : Type 0 where
 
 unfoldable pub computed : State → Call → State → Result
 computed s k t =
-    let o = outcome (hasRoom (poolIn s)) (controllerIs (s .controller)) (map (at (poolIn s)) (s .ids)) k in
+    let o = outcome (hasRoom (poolIn s)) (s .meaning) (map (at (poolIn s)) (s .ids)) k in
     record {
       outcome = o;
       ids = numbersAfter (poolIn s) (s .ids) (changeOf k (o .answer));
@@ -107,7 +109,7 @@ computed s k t =
 
 unfoldable pub claimed : State → Result
 claimed t = record {
-  outcome = record { answer = answerIn (t .left) (t .answer); controller = controllerIs (t .controller); statements = map (at (t .left)) (t .ids) };
+  outcome = record { answer = answerIn (t .left) (t .answer); controller = t .meaning; statements = map (at (t .left)) (t .ids) };
   ids = t .ids;
   left = t .left;
   right = true;
@@ -129,7 +131,7 @@ module _ (P P′ : List Stmt) (f : T (fits P)) (f′ : T (fits P′)) where
   answer-in Taken t = refl
   answer-in (Signed n) t = ap controller.signed (stmt-at P′ f′ n (says-and (says-leb {m = suc n} {n = length P′}) (says-self (eqb n (numberOf (at P′ n) P))) .sound t .0))
   answer-in (Entered v) t = refl
-  answer-in (Delivered m) t = refl
+  answer-in (Delivered i m) t = refl
   answer-in Left t = refl
   answer-in Quiet t = refl
 
@@ -139,7 +141,7 @@ module _ (P P′ : List Stmt) (f : T (fits P)) (f′ : T (fits P′)) where
       ap Signed (says-and (says-self (ltb n (length P′))) (says-eqb {m = n} {n = numberOf (at P′ n) P}) .sound t .1 ∙ ap₂ numberOf q (sym (pool-is P f)))
   number-in Taken t s e = absurd (let z : _≡_ {A = ℕ} 0 1 = cc in omega arith)
   number-in (Entered v) t s e = absurd (let z : _≡_ {A = ℕ} 0 1 = cc in omega arith)
-  number-in (Delivered m) t s e = absurd (let z : _≡_ {A = ℕ} 0 1 = cc in omega arith)
+  number-in (Delivered i m) t s e = absurd (let z : _≡_ {A = ℕ} 0 1 = cc in omega arith)
   number-in Left t s e = absurd (let z : _≡_ {A = ℕ} 0 1 = cc in omega arith)
   number-in Quiet t s e = absurd (let z : _≡_ {A = ℕ} 0 1 = cc in omega arith)
 
@@ -166,14 +168,14 @@ allowed-parts P l u = says-and (says-self (fits P)) (says-self (within P l)) .so
 
 module _ (s t : State) (k : Call) (e : Acts s k t) (from : T (allowed (poolIn s) (s .ids))) (to : T (allowed (poolIn t) (t .ids))) where
   abbrev o : controller.Outcome
-  o = outcome (hasRoom (poolIn s)) (controllerIs (s .controller)) (map (at (poolIn s)) (s .ids)) k
+  o = outcome (hasRoom (poolIn s)) (s .meaning) (map (at (poolIn s)) (s .ids)) k
 
   right : (T (numbered (poolIn s) (t .left) (t .answer)) × T (begins (changeOf k (o .answer)) (s .ids))) × T (allowed (t .left) (t .ids))
   unfolding computed claimed
   right = says-and (says-and (says-self (numbered (poolIn s) (t .left) (t .answer))) (says-self (begins (changeOf k (o .answer)) (s .ids)))) (says-self (allowed (t .left) (t .ids))) .sound (subst T (sym (ap (λ d. d .right) e)) tt)
 
   meets : Meets (memory (poolIn s)) (numbers (s .ids)) (s .controller) o (changeOf k (o .answer)) (engineIn t .last) (memory (t .left)) (numbers (t .ids))
-  unfolding controllerIs computed claimed
+  unfolding computed claimed
   meets =
       let (f, w) = allowed-parts (poolIn s) (s .ids) from in
       let ((n, b), u) = right in
@@ -181,7 +183,7 @@ module _ (s t : State) (k : Call) (e : Acts s k t) (from : T (allowed (poolIn s)
       record {
         answer = answer-in (poolIn s) (t .left) f f′ (t .answer) n ∙ ap (λ d. d .outcome .answer) (sym e);
         number = λ x h. number-in (poolIn s) (t .left) f f′ (t .answer) n x (ap (λ d. d .outcome .answer) (sym e) ∙ h);
-        controller = ap (λ d. d .outcome .controller) (sym e);
+        controller = t .means ∙ ap (λ d. d .outcome .controller) (sym e);
         numbers = numbers-after (poolIn s) (t .left) f f′ (s .ids) (t .ids) (few (poolIn s) (s .ids) f w) (changeOf k (o .answer)) b (ap (λ d. d .ids) (sym e));
         statements = λ _. (record-is (t .left) (t .ids) f′ w′ ∙ ap (λ d. d .outcome .statements) (sym e), all-in (t .left) (t .ids) f′ w′);
         pool = pool-after (poolIn s) (t .left) f f′ (changeOf k (o .answer)) (ap (λ d. d .left) (sym e));
@@ -189,13 +191,13 @@ module _ (s t : State) (k : Call) (e : Acts s k t) (from : T (allowed (poolIn s)
       }
 
   pub calls : EngineCalls (engineIn s) k (engineIn t)
-  unfolding controllerIs
   calls =
       let (f, w) = allowed-parts (poolIn s) (s .ids) from in
       record {
         left = memory (t .left);
         called = subst (λ o. Meets (memory (poolIn s)) (numbers (s .ids)) (s .controller) o (changeOf k (o .answer)) (engineIn t .last) (memory (t .left)) (numbers (t .ids)))
-            (sym (ap₂ (λ Q X. outcome (hasRoom Q) (controllerIs (s .controller)) X k) (pool-is (poolIn s) f) (record-is (poolIn s) (s .ids) f w))) meets;
+            (sym (ap₂ (λ Q X. outcome (hasRoom Q) (controllerIs (s .controller)) X k) (pool-is (poolIn s) f) (record-is (poolIn s) (s .ids) f w)
+            ∙ ap (λ c. outcome (hasRoom (poolIn s)) c (map (at (poolIn s)) (s .ids)) k) (s .means))) meets;
         grows = grows (t .left) (t .more) (allowed-parts (t .left) (t .ids) (right .1) .0) (allowed-parts (poolIn t) (t .ids) to .0);
       }
 
@@ -270,13 +272,12 @@ has-room P f x = ap (λ b. any (sameStmt x) P || b) (lt-ltb (length P) 512 (shor
 
 module _ (run : Run) (k : ℕ) (fresh s : State) (ts : List State) where
   -- THE CALLS ON CONTROLLER k ARE THE ENGINE'S: its setup and then the run's events, over states that are written out
-  pub engine-run : controllerIs (fresh .controller) ≡ controller.notSetUp → Path k (call k (setupCall k (run .members) (run .sender)) ∷ run .events) fresh (s ∷ ts)
+  pub engine-run : controllerIs (fresh .controller) ≡ controller.notSetUp → Path k (call k (setupCall k (run .members) (run .senders)) ∷ run .events) fresh (s ∷ ts)
       → T (allAllowed fresh (s ∷ ts)) → ((n : ℕ) (x : Stmt) → run .room n x ≡ true) → EngineRun run k (λ n. engineIn (stateAt s ts n))
-  unfolding controllerIs
   engine-run e p u room = record {
     fresh = engineIn fresh;
     unset = e;
-    started = called 0 (setupCall k (run .members) (run .sender)) refl;
+    started = called 0 (setupCall k (run .members) (run .senders)) refl;
     room = λ n c _ i x. (room n x ∙ sym (has-room _ (fit n) x) ∙ ap (λ P. hasRoom P x) (sym (pool-is _ (fit n)))) i;
     called = λ n c h. called (suc n) c h;
     others = λ n h.
@@ -289,7 +290,7 @@ module _ (run : Run) (k : ℕ) (fresh s : State) (ts : List State) where
   }
     where
       all-events : List Event
-      all-events = call k (setupCall k (run .members) (run .sender)) ∷ run .events
+      all-events = call k (setupCall k (run .members) (run .senders)) ∷ run .events
 
       called : (n : ℕ) (c : Call) → getElem? all-events n ≡ some (call k c)
           → EngineCalls (engineIn (stateAt fresh (s ∷ ts) n)) c (engineIn (stateAt fresh (s ∷ ts) (suc n)))

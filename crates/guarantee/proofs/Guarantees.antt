@@ -13,7 +13,8 @@ use Rattle.guarantee.proofs.Calls.{calls-keep, calls-no-conflict}
 use Rattle.guarantee.proofs.Hosts.{hosts-keep, hosts-no-conflict}
 use Rattle.guarantee.proofs.Printed.{guaranteed, left-in-memory}
 
--- The rows that are printed for any schedule, as bytes, where a setup is taken and few members of each sealed top are marked faulty.
+-- The rows that are printed for any schedule, as bytes, with the replies that they show, where a setup is taken and few members of each sealed top are marked faulty;
+-- and what the rows alone tell.
 pub of-rows : Guarantee
 of-rows = guaranteed
 
@@ -33,6 +34,6 @@ of-calls is e engines = (calls-keep is e engines, calls-no-conflict is e engines
 pub of-runs : {run : Run} → IsRun run → Promises (observed run) × NoConflict (observed run)
 of-runs is = (promises is, no-conflict is)
 
--- And where the sender follows the rules, nobody who does is ever barred.
+-- And where the sender of a notice follows the rules, nobody who does is ever barred from it.
 pub never : {run : Run} → IsRun run → NeverBarred run
 never is = never-barred is

@@ -23,7 +23,7 @@ use Rattle.engine.specs.declared.Answer.the-variants.{Taken, Signed, Entered, D
 use Rattle.engine.specs.Meaning.{answerIs, refusalIs}
 use Rattle.pool.specs.Pool.{recordIn}
 use Rattle.host.specs.Memory.{controllerAt}
-use Rattle.host.specs.Host.{answerNumber, valueNumber}
+use Rattle.host.specs.Host.{answerNumber, valueNumber, noticeNumber}
 use Rattle.guarantee.specs.Hosts.{Host, HostRun, HostRuns, said, HostAnswers, hostCalls}
 use Rattle.guarantee.specs.Calls.{Engine, EngineCalls, EngineWaits, EngineRun}
 use Rattle.guarantee.proofs.Laws.{refusal-at}
@@ -45,12 +45,12 @@ view-of-word v t = go (fits t .joined) (fits t .left)
         ap₂ (λ j l. record { joined = j; left = l }) x y
 
 -- (a view that is entered is one of the ring)
-answer-said : (W : List ℕ) (a : Answer) → ((v : View) → answerIs W a ≡ controller.entered v → T (isView controllers v)) → said W (answerNumber a) (valueNumber a) ≡ answerIs W a
+answer-said : (W : List ℕ) (a : Answer) → ((v : View) → answerIs W a ≡ controller.entered v → T (isView controllers v)) → said W (answerNumber a) (valueNumber a) (noticeNumber a) ≡ answerIs W a
 unfolding said answerNumber valueNumber answerIs
 answer-said W Taken f = refl
 answer-said W (Signed n) f = refl
 answer-said W (Entered v) f = ap controller.entered (view-of-word (viewIs v) (f (viewIs v) refl))
-answer-said W (Delivered m) f = refl
+answer-said W (Delivered i m) f = refl
 answer-said W Left f = refl
 answer-said W Quiet f = refl
 answer-said W (Refused q) f = ap controller.refused (refusal-at (refusalIs q))
@@ -100,23 +100,25 @@ module _ {run : Run} (is : IsRun run) {k : ℕ} (ok : T (run .follows k)) {h : �
           record { last = ap (λ F. record { answer = told n; controller = controllerAt F }) (w .fields); ids = w .ids; grows = w .grows }
 
   -- the host got the numbers of what the engine answered
-  numbers : (n : ℕ) (c : Call) → event run n ≡ some (call k c) → (h (suc n) .answer ≡ answerNumber (told (suc n))) × (h (suc n) .value ≡ valueNumber (told (suc n)))
+  numbers : (n : ℕ) (c : Call) → event run n ≡ some (call k c)
+      → (h (suc n) .answer ≡ answerNumber (told (suc n))) × (h (suc n) .value ≡ valueNumber (told (suc n))) × (h (suc n) .notice ≡ noticeNumber (told (suc n)))
   unfolding toldBy told
   numbers n c e = go (next is k ok n)
     where
-      head : {a b : ℕ} → a ∷ [] ≡ b ∷ [] → a ≡ b
-      head p = cc
+      both : {a b c d : ℕ} → a ∷ b ∷ [] ≡ c ∷ d ∷ [] → (a ≡ c) × (b ≡ d)
+      both p = (cc, cc)
 
-      go : (x : Next is k n) → (h (suc n) .answer ≡ answerNumber (toldBy n x (told n))) × (h (suc n) .value ≡ valueNumber (toldBy n x (told n)))
-      go (acts d f _) = let s = host .called n d f in (s .called .answered, head (s .called .valued))
+      go : (x : Next is k n)
+          → (h (suc n) .answer ≡ answerNumber (toldBy n x (told n))) × (h (suc n) .value ≡ valueNumber (toldBy n x (told n))) × (h (suc n) .notice ≡ noticeNumber (toldBy n x (told n)))
+      go (acts d f _) = let s = host .called n d f in let (p, q) = both (s .called .valued) in (s .called .answered, p, q)
       go (waits _ f) = absurd (f c e)
 
   -- so they say what the run's turn answers
-  pub said-so : (n : ℕ) → event run n ≡ some (call k turnCall) → said (h (suc n) .pool) (h (suc n) .answer) (h (suc n) .value) ≡ returned run k (suc n) .answer
+  pub said-so : (n : ℕ) → event run n ≡ some (call k turnCall) → said (h (suc n) .pool) (h (suc n) .answer) (h (suc n) .value) (h (suc n) .notice) ≡ returned run k (suc n) .answer
   said-so n e =
       let a = answers is ok engine-run n e in
-      let (p, q) = numbers n turnCall e in
-      ap₂ (said (h (suc n) .pool)) p q ∙ answer-said (h (suc n) .pool) (told (suc n)) (λ v f. entered-view v (record { isTurn = e; answers = sym a ∙ f })) ∙ a
+      let (p, q, i) = numbers n turnCall e in
+      ap₂ (λ f x. f x) (ap₂ (said (h (suc n) .pool)) p q) i ∙ answer-said (h (suc n) .pool) (told (suc n)) (λ v f. entered-view v (record { isTurn = e; answers = sym a ∙ f })) ∙ a
     where
       entered-view : (v : View) → TurnAnswers run n k (controller.entered v) → T (isView controllers v)
       entered-view v t = let (H, s, q) = entered-top is ok t in subst (λ u. T (isView controllers u)) q (top-is-view is s)

@@ -1,4 +1,4 @@
--- A schedule with a liar meets the premises: a ring of four in which 3 is marked faulty and signs acks for two payloads; 0 sends 7, and delivers it.
+-- A schedule with a liar and two notices meets the premises: a ring of four in which 3 is marked faulty and signs acks of both notices; 0 sends 7 as notice 1, and delivers it.
 -- Assumes nothing.
 use mathlib.Core.Path.{_≡_, refl, sym, subst}
 use mathlib.Core.Bool.{not, _&&_}
@@ -21,26 +21,29 @@ use Rattle.protocol.proofs.Says.{says-not, says-all}
 use Rattle.protocol.proofs.Decided.{says-kind}
 use Rattle.protocol.proofs.Quorums.{someone}
 use Rattle.text.specs.Text.{digits, decText, hexText}
-use Rattle.statements.specs.Text.{parted, text, viewText}
-use Rattle.views.specs.Table.{table}
-use Rattle.schedule.specs.Line.{Line, setup, send, all, turn, lie, lines, ReadAll}
-use Rattle.bench.specs.Bench.{setUp, giveTo, giveAll, afterTurn, turnAt, lieOf, step}
-use Rattle.bench.specs.Rows.{rowText, rowsFrom, Printed}
+use Rattle.statements.specs.Text.{parted, text, groupParts, viewText}
+use Rattle.schedule.specs.Line.{Line, setup, send, all, turn, lie, lines}
+use Rattle.bench.specs.Bench.{newBench, shownSender, setUp, giveTo, giveAll, afterTurn, turnAt, lieOf, step}
+use Rattle.bench.specs.Rows.{rowText, rowsFrom, ReadAll, Printed}
 use Rattle.examples.proofs.Opened.{opened}
 use Rattle.guarantee.specs.Events.{afterLine, after}
-use Rattle.guarantee.specs.Rows.{InText, finalPool, FewFaulty, Says, SetUpBy, Kept}
+use Rattle.guarantee.specs.Rows.{InText, ShownRow, finalPool, FewFaulty, Says, SetupTaken, Kept, ReadOff}
 use Rattle.guarantee.proofs.Printed.{guaranteed}
 
 abbrev four : View
 four = initialView 15
 
+-- Notice 0 is of 1, notice 1 of 0.
+abbrev senders : List ℕ
+senders = 1 ∷ 0 ∷ []
+
 abbrev schedule : List ℕ
 schedule =
-    115 ∷ 101 ∷ 116 ∷ 117 ∷ 112 ∷ 44 ∷ 48 ∷ 48 ∷ 48 ∷ 102 ∷ 44 ∷ 48 ∷ 44 ∷ 48 ∷ 48 ∷ 48 ∷ 56 ∷ 10 ∷
-    115 ∷ 101 ∷ 110 ∷ 100 ∷ 44 ∷ 48 ∷ 44 ∷ 55 ∷ 10 ∷
+    115 ∷ 101 ∷ 116 ∷ 117 ∷ 112 ∷ 44 ∷ 48 ∷ 48 ∷ 48 ∷ 102 ∷ 44 ∷ 50 ∷ 44 ∷ 49 ∷ 44 ∷ 48 ∷ 44 ∷ 48 ∷ 48 ∷ 48 ∷ 56 ∷ 10 ∷
+    115 ∷ 101 ∷ 110 ∷ 100 ∷ 44 ∷ 48 ∷ 44 ∷ 49 ∷ 44 ∷ 55 ∷ 10 ∷
     116 ∷ 117 ∷ 114 ∷ 110 ∷ 44 ∷ 48 ∷ 10 ∷
-    108 ∷ 105 ∷ 101 ∷ 44 ∷ 55 ∷ 44 ∷ 51 ∷ 44 ∷ 48 ∷ 48 ∷ 48 ∷ 102 ∷ 48 ∷ 48 ∷ 48 ∷ 48 ∷ 44 ∷ 48 ∷ 48 ∷ 48 ∷ 48 ∷ 48 ∷ 48 ∷ 48 ∷ 48 ∷ 44 ∷ 48 ∷ 44 ∷ 55 ∷ 44 ∷ 48 ∷ 44 ∷ 48 ∷ 44 ∷ 48 ∷ 10 ∷
-    108 ∷ 105 ∷ 101 ∷ 44 ∷ 55 ∷ 44 ∷ 51 ∷ 44 ∷ 48 ∷ 48 ∷ 48 ∷ 102 ∷ 48 ∷ 48 ∷ 48 ∷ 48 ∷ 44 ∷ 48 ∷ 48 ∷ 48 ∷ 48 ∷ 48 ∷ 48 ∷ 48 ∷ 48 ∷ 44 ∷ 48 ∷ 44 ∷ 56 ∷ 44 ∷ 48 ∷ 44 ∷ 48 ∷ 44 ∷ 48 ∷ 10 ∷
+    108 ∷ 105 ∷ 101 ∷ 44 ∷ 55 ∷ 44 ∷ 51 ∷ 44 ∷ 48 ∷ 48 ∷ 48 ∷ 102 ∷ 48 ∷ 48 ∷ 48 ∷ 48 ∷ 44 ∷ 48 ∷ 48 ∷ 48 ∷ 48 ∷ 48 ∷ 48 ∷ 48 ∷ 48 ∷ 44 ∷ 49 ∷ 44 ∷ 48 ∷ 44 ∷ 55 ∷ 44 ∷ 48 ∷ 44 ∷ 48 ∷ 44 ∷ 48 ∷ 10 ∷
+    108 ∷ 105 ∷ 101 ∷ 44 ∷ 55 ∷ 44 ∷ 51 ∷ 44 ∷ 48 ∷ 48 ∷ 48 ∷ 102 ∷ 48 ∷ 48 ∷ 48 ∷ 48 ∷ 44 ∷ 48 ∷ 48 ∷ 48 ∷ 48 ∷ 48 ∷ 48 ∷ 48 ∷ 48 ∷ 44 ∷ 48 ∷ 44 ∷ 48 ∷ 44 ∷ 56 ∷ 44 ∷ 48 ∷ 44 ∷ 48 ∷ 44 ∷ 48 ∷ 10 ∷
     116 ∷ 117 ∷ 114 ∷ 110 ∷ 44 ∷ 48 ∷ 10 ∷
     97 ∷ 108 ∷ 108 ∷ 44 ∷ 49 ∷ 10 ∷
     116 ∷ 117 ∷ 114 ∷ 110 ∷ 44 ∷ 49 ∷ 10 ∷
@@ -48,14 +51,14 @@ schedule =
     116 ∷ 117 ∷ 114 ∷ 110 ∷ 44 ∷ 48 ∷ 10 ∷
     97 ∷ 108 ∷ 108 ∷ 44 ∷ 49 ∷ 10 ∷
     116 ∷ 117 ∷ 114 ∷ 110 ∷ 44 ∷ 49 ∷ 10 ∷
-    108 ∷ 105 ∷ 101 ∷ 44 ∷ 56 ∷ 44 ∷ 51 ∷ 44 ∷ 48 ∷ 48 ∷ 48 ∷ 102 ∷ 48 ∷ 48 ∷ 48 ∷ 48 ∷ 44 ∷ 48 ∷ 48 ∷ 48 ∷ 48 ∷ 48 ∷ 48 ∷ 48 ∷ 48 ∷ 44 ∷ 48 ∷ 44 ∷ 55 ∷ 44 ∷ 48 ∷ 44 ∷ 48 ∷ 44 ∷ 48 ∷ 10 ∷
+    108 ∷ 105 ∷ 101 ∷ 44 ∷ 56 ∷ 44 ∷ 51 ∷ 44 ∷ 48 ∷ 48 ∷ 48 ∷ 102 ∷ 48 ∷ 48 ∷ 48 ∷ 48 ∷ 44 ∷ 48 ∷ 48 ∷ 48 ∷ 48 ∷ 48 ∷ 48 ∷ 48 ∷ 48 ∷ 44 ∷ 49 ∷ 44 ∷ 48 ∷ 44 ∷ 55 ∷ 44 ∷ 48 ∷ 44 ∷ 48 ∷ 44 ∷ 48 ∷ 10 ∷
     97 ∷ 108 ∷ 108 ∷ 44 ∷ 48 ∷ 10 ∷
     116 ∷ 117 ∷ 114 ∷ 110 ∷ 44 ∷ 48 ∷ 10 ∷ []
 
 abbrev out : List ℕ
 out =
     108 ∷ 105 ∷ 110 ∷ 101 ∷ 44 ∷ 119 ∷ 104 ∷ 111 ∷ 44 ∷ 97 ∷ 110 ∷ 115 ∷ 119 ∷ 101 ∷ 114 ∷ 44 ∷ 118 ∷ 97 ∷ 108 ∷ 117 ∷ 101 ∷ 10 ∷
-    49 ∷ 44 ∷ 48 ∷ 44 ∷ 116 ∷ 97 ∷ 107 ∷ 101 ∷ 110 ∷ 44 ∷ 48 ∷ 10 ∷
+    49 ∷ 44 ∷ 49 ∷ 44 ∷ 116 ∷ 97 ∷ 107 ∷ 101 ∷ 110 ∷ 44 ∷ 48 ∷ 10 ∷
     50 ∷ 44 ∷ 48 ∷ 44 ∷ 116 ∷ 97 ∷ 107 ∷ 101 ∷ 110 ∷ 44 ∷ 48 ∷ 10 ∷
     51 ∷ 44 ∷ 48 ∷ 44 ∷ 115 ∷ 105 ∷ 103 ∷ 110 ∷ 101 ∷ 100 ∷ 44 ∷ 48 ∷ 10 ∷
     52 ∷ 44 ∷ 51 ∷ 44 ∷ 116 ∷ 97 ∷ 107 ∷ 101 ∷ 110 ∷ 44 ∷ 49 ∷ 10 ∷
@@ -73,15 +76,15 @@ out =
 
 abbrev reading : List (Option Line)
 reading =
-    some (setup 15 0 8) ∷ some (send 0 7) ∷ some (turn 0) ∷ some (lie (ack 3 four 7)) ∷ some (lie (ack 3 four 8)) ∷ some (turn 0) ∷ some (all 1) ∷ some (turn 1)
-    ∷ some (all 0) ∷ some (turn 0) ∷ some (all 1) ∷ some (turn 1) ∷ some (lie (store 3 four 7)) ∷ some (all 0) ∷ some (turn 0) ∷ []
+    some (setup 15 senders 8) ∷ some (send 0 1 7) ∷ some (turn 0) ∷ some (lie (ack 3 four 1 7)) ∷ some (lie (ack 3 four 0 8)) ∷ some (turn 0) ∷ some (all 1) ∷ some (turn 1)
+    ∷ some (all 0) ∷ some (turn 0) ∷ some (all 1) ∷ some (turn 1) ∷ some (lie (store 3 four 1 7)) ∷ some (all 0) ∷ some (turn 0) ∷ []
 
-reads : ReadAll (lines schedule) reading
-unfolding opened lines parted text viewText digits decText hexText
+reads : ReadAll newBench (lines schedule) reading
+unfolding opened lines parted text groupParts viewText digits decText hexText
 reads = (
-  (omega arith, omega arith, omega arith, refl),
+  (omega arith, omega arith, (omega arith, (omega arith, tt)), omega arith, refl),
   (
-    (omega arith, omega arith, refl),
+    (omega arith, omega arith, omega arith, refl),
     (
       (omega arith, refl),
       (
@@ -105,13 +108,14 @@ reads = (
 )
 
 pub printed : Printed schedule out
-unfolding opened table numberOf pooled hasRoom setUp giveTo giveAll afterTurn turnAt lieOf step rowText rowsFrom lines parted viewText digits decText hexText
+unfolding opened numberOf pooled hasRoom shownSender setUp giveTo giveAll afterTurn turnAt lieOf step rowText rowsFrom lines parted viewText digits decText hexText
 printed = record { reading = reading; reads = λ h. reads; prints = refl }
 
 -- in the first view one of four is marked, and nobody agrees on another
-tests : T (leb (count controllers (λ k. member four k && bit 8 k)) ((memberCount controllers four - 1) / 3)) × T (everyOne (λ s. not (isKind 4 s)) (finalPool reading)) × (getElem? (finalPool reading) 0 ≡ some (prepare 0 7))
-unfolding opened table numberOf pooled hasRoom setUp giveTo giveAll afterTurn turnAt lieOf step afterLine after
-tests = (tt, tt, refl)
+tests : T (leb (count controllers (λ k. member four k && bit 8 k)) ((memberCount controllers four - 1) / 3)) × T (everyOne (λ s. not (isKind 4 s)) (finalPool reading)) × (getElem? (finalPool reading) 0 ≡ some (prepare 0 1 7))
+    × (step (after reading 14) (some (turn 0)) .reply ≡ record { who = 0; answer = delivered 1 7; number = 0 })
+unfolding opened numberOf pooled hasRoom shownSender setUp giveTo giveAll afterTurn turnAt lieOf step afterLine after
+tests = (tt, tt, refl, refl)
 
 few : FewFaulty reading 15 8
 unfolding top last
@@ -125,27 +129,32 @@ few = record { few = go }
         let (k, (s, m, _, a)) = someone q in
         absurd (says-all (λ s. says-not (says-kind 4 s)) (finalPool reading) .sound (tests .1) s m (a .kind))
 
-rows : (getElem? (lines out) 1 ≡ some (rowText 1 (record { who = 0; answer = taken; number = 0 })))
-    × (getElem? (lines out) 3 ≡ some (rowText 3 (record { who = 0; answer = signed (prepare 0 7); number = 0 })))
-    × (getElem? (lines out) 15 ≡ some (rowText 15 (record { who = 0; answer = delivered 7; number = 0 })))
+rows : (getElem? (lines out) 1 ≡ some (rowText 1 (record { who = 1; answer = taken; number = 0 })))
+    × (getElem? (lines out) 3 ≡ some (rowText 3 (record { who = 0; answer = signed (prepare 0 1 7); number = 0 })))
+    × (getElem? (lines out) 15 ≡ some (rowText 15 (record { who = 0; answer = delivered 1 7; number = 0 })))
 unfolding lines rowText parted digits decText
 rows = (refl, refl, refl)
 
-begins : SetUpBy reading (InText out) 0 15 0 8
+begins : SetupTaken reading (InText out) 0 15 senders 8
 begins = record { line = refl; taken = record { number = 0; row = rows .0; names = tt } }
 
 pub record Facts : Type 0 where
-  setUp : SetUpBy reading (InText out) 0 15 0 8
+  setUp : SetupTaken reading (InText out) 0 15 senders 8
   few : FewFaulty reading 15 8
-  prepared : Says reading (InText out) 2 0 (signed (prepare 0 7))
-  delivers : Says reading (InText out) 14 0 (delivered 7)
-  kept : Kept reading (InText out) 15 0 8
+  prepared : Says reading (InText out) 2 0 (signed (prepare 0 1 7))
+  delivers : Says reading (ShownRow reading out) 14 0 (delivered 1 7)
+  kept : Kept reading (ShownRow reading out) 15 senders 8
+  readOff : ReadOff reading out 15 senders 8
+
+holds : Kept reading (ShownRow reading out) 15 senders 8 × ReadOff reading out 15 senders 8
+holds = guaranteed schedule out printed (omega arith) reading reads 0 15 senders 8 begins few
 
 pub facts : Facts
 facts = record {
   setUp = begins;
   few = few;
   prepared = record { number = 0; row = rows .1; names = tests .2 };
-  delivers = record { number = 0; row = rows .2; names = tt };
-  kept = guaranteed schedule out printed (omega arith) reading reads 0 15 0 8 begins few;
+  delivers = record { number = 0; row = record { reply = record { line = some (turn 0); there = refl; reply = tests .3 }; row = rows .2 }; names = tt };
+  kept = holds .0;
+  readOff = holds .1;
 }

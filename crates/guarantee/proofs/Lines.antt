@@ -15,49 +15,50 @@ use lib.Dec.{T, eqb, leb, ltb}
 use lib.ListN.{length, getD, getElem?, set, List·getD-eq-default}
 use lib.Seq.{set-getD}
 use Rattle.protocol.specs.Sets.{bit}
-use Rattle.protocol.specs.Lists.{if_then_else_, _∈_, any, isSome}
+use Rattle.protocol.specs.Lists.{if_then_else_, _∈_, any, isSome, listOf}
+use Rattle.protocol.specs.Evidence.{senderOf}
 use Rattle.protocol.specs.View.{controllers, member}
 use Rattle.protocol.specs.Statement.{Stmt, noStmt, sameStmt, fieldRules}
-use Rattle.protocol.specs.Controller.{Controller, notSetUp, badSetup, repeated, full, outOfPlace, Refusal, badStatement, Answer, taken, signed, entered, delivered, left, quiet, refused, refusalNumber, Outcome}
+use Rattle.protocol.specs.Controller.{Controller, notSetUp, badSetup, repeated, full, outOfPlace, unknownNotice, Refusal, badStatement, Answer, taken, signed, entered, delivered, left, quiet, refused, refusalNumber, Outcome}
 use Rattle.protocol.specs.Call.{setupAllowed, started, isFull, setup as setupCalled, requestJoin, requestLeave, requestSend, add, refuse as refusedBy}
 use Rattle.protocol.specs.Pool.{numberOf, pooled, hasRoom}
 use Rattle.protocol.specs.Turn.{turn as turnOf}
 use Rattle.protocol.specs.Run.{Call, setupCall, joinCall, leaveCall, sendCall, addCall, turnCall, outcome, call, signing, signedIn}
+use Rattle.protocol.proofs.Numbered.{listOf-length, listOf-at}
 use Rattle.protocol.proofs.Different.{Different}
-use Rattle.views.specs.Table.{table}
-use Rattle.views.proofs.Tables.{table-at, table-length}
 use Rattle.schedule.specs.Line.{Line, setup, join, leave, send, give, all, turn, lie, noStatement, Reads}
-use Rattle.bench.specs.Bench.{Seat, emptySeat, Bench, newBench, Stepped, nobody, seat, at, refuseLine, setUp, missing, giveTo, giveAll, afterTurn, turnAt, lieOf, step}
+use Rattle.bench.specs.Bench.{Seat, emptySeat, Bench, newBench, Stepped, nobody, shownSender, seat, at, refuseLine, setUp, missing, giveTo, giveAll, afterTurn, turnAt, lieOf, step}
 use Rattle.guarantee.specs.Events.{follower, isFollower, callOn, eventsOf}
 use Rattle.guarantee.proofs.Laws.{either, getD-in}
-use Rattle.guarantee.proofs.Seats.{seatOf, Setup, Seated, Clean, started-in-ring, Proper}
+use Rattle.guarantee.proofs.Seats.{seatOf, Fit, Setup, Seated, Clean, started-in-ring, Proper}
 use Rattle.guarantee.proofs.Pools.{Grown, grown-none, grown-new, grown-pooled, numbered, added, add-is}
 
 -- ---- what reading a line gives
 
-abbrev pub Legible : Option Line → Type 0
-Legible none = Unit {0}
-Legible (some (setup members sender faulty)) = Unit {0}
-Legible (some (join k)) = k < 16
-Legible (some (leave k)) = k < 16
-Legible (some (send k payload)) = (k < 16) × (payload < 2 ^ 64)
-Legible (some (give k n)) = k < 16
-Legible (some (all k)) = k < 16
-Legible (some (turn k)) = k < 16
-Legible (some (lie s)) = T (fieldRules 16 s)
-Legible (some noStatement) = Unit {0}
+-- in a ring with this number of notices
+abbrev pub Legible : ℕ → Option Line → Type 0
+Legible many none = Unit {0}
+Legible many (some (setup members senders faulty)) = Unit {0}
+Legible many (some (join k)) = k < 16
+Legible many (some (leave k)) = k < 16
+Legible many (some (send k notice payload)) = (k < 16) × (payload < 2 ^ 64)
+Legible many (some (give k n)) = k < 16
+Legible many (some (all k)) = k < 16
+Legible many (some (turn k)) = k < 16
+Legible many (some (lie s)) = T (fieldRules controllers many s)
+Legible many (some noStatement) = Unit {0}
 
-pub legible : (S : List ℕ) (l : Option Line) → Reads S l → Legible l
-legible S none r = tt
-legible S (some (setup members sender faulty)) r = tt
-legible S (some (join k)) r = r .0
-legible S (some (leave k)) r = r .0
-legible S (some (send k payload)) r = (r .0, r .1)
-legible S (some (give k n)) r = r .0
-legible S (some (all k)) r = r .0
-legible S (some (turn k)) r = r .0
-legible S (some (lie s)) r = r .0
-legible S (some noStatement) r = tt
+pub legible : (many : ℕ) (S : List ℕ) (l : Option Line) → Reads many S l → Legible many l
+legible many S none r = tt
+legible many S (some (setup members senders faulty)) r = tt
+legible many S (some (join k)) r = r .0
+legible many S (some (leave k)) r = r .0
+legible many S (some (send k notice payload)) r = (r .0, r .2)
+legible many S (some (give k n)) r = r .0
+legible many S (some (all k)) r = r .0
+legible many S (some (turn k)) r = r .0
+legible many S (some (lie s)) r = r .0
+legible many S (some noStatement) r = tt
 
 -- ---- answers
 
@@ -66,7 +67,7 @@ abbrev pub Acts : Answer → Type 0
 Acts taken = ⊥
 Acts (signed s) = Unit {0}
 Acts (entered v) = Unit {0}
-Acts (delivered m) = Unit {0}
+Acts (delivered i m) = Unit {0}
 Acts left = ⊥
 Acts quiet = ⊥
 Acts (refused r) = T (eqb (refusalNumber r) 7)
@@ -76,7 +77,7 @@ unfolding signedIn
 unsigned taken f = refl
 unsigned (signed s) f = absurd (f tt)
 unsigned (entered v) f = refl
-unsigned (delivered m) f = refl
+unsigned (delivered i m) f = refl
 unsigned left f = refl
 unsigned quiet f = refl
 unsigned (refused r) f = refl
@@ -86,7 +87,7 @@ abbrev pub NoTurn : Call → Type 0
 NoTurn (setupCall n m s) = Unit {0}
 NoTurn joinCall = Unit {0}
 NoTurn leaveCall = Unit {0}
-NoTurn (sendCall m) = Unit {0}
+NoTurn (sendCall i m) = Unit {0}
 NoTurn (addCall s) = Unit {0}
 NoTurn turnCall = ⊥
 
@@ -99,15 +100,19 @@ module _ (room : Stmt → Bool) (c : Controller) (X : List Stmt) where
   idle (setupCall n m s) _ = either Idle (c .isSetUp || not (setupAllowed n m s)) (λ e t. t) (λ e t. t)
   idle joinCall _ = either Idle (c .isSetUp) (λ e. either Idle (member (c .ring .init) (c .number) || c .joinRequested) (λ f t. t) (λ f t. t)) (λ e t. t)
   idle leaveCall _ = either Idle (c .isSetUp) (λ e. either Idle (eqb (length (c .entered)) 0 || c .leaveRequested) (λ f t. t) (λ f t. t)) (λ e t. t)
-  idle (sendCall m) _ = either Idle (c .isSetUp) (λ e. either Idle (not (eqb (c .number) (c .sender)) || isSome (c .sendRequested)) (λ f t. t) (λ f t. t)) (λ e t. t)
+  idle (sendCall i m) _ =
+      either Idle (c .isSetUp) (λ e. either Idle (not (ltb i (length (c .senders)))) (λ f t. t)
+      (λ f. either Idle (not (eqb (c .number) (senderOf (c .senders) i)) || isSome (c .sendRequested i)) (λ g t. t) (λ g t. t))) (λ e t. t)
   idle (addCall s) _ =
-      either Idle (c .isSetUp) (λ e. either Idle (not (fieldRules (c .ring .width) s)) (λ f t. t) (λ f. either Idle (any (sameStmt s) X) (λ g t. t) (λ g. either Idle (isFull room X s) (λ h t. t) (λ h t. t)))) (λ e t. t)
+      either Idle (c .isSetUp) (λ e. either Idle (not (fieldRules (c .ring .width) (length (c .senders)) s)) (λ f t. t)
+      (λ f. either Idle (not (ltb (s .notice) (length (c .senders)))) (λ g t. t)
+      (λ g. either Idle (any (sameStmt s) X) (λ h t. t) (λ h. either Idle (isFull room X s) (λ i t. t) (λ i t. t))))) (λ e t. t)
 
   pub turn-only : (a : Call) → Acts (outcome room c X a .answer) → a ≡ turnCall
   turn-only (setupCall n m s) t = absurd (idle (setupCall n m s) tt t)
   turn-only joinCall t = absurd (idle joinCall tt t)
   turn-only leaveCall t = absurd (idle leaveCall tt t)
-  turn-only (sendCall m) t = absurd (idle (sendCall m) tt t)
+  turn-only (sendCall i m) t = absurd (idle (sendCall i m) tt t)
   turn-only (addCall s) t = absurd (idle (addCall s) tt t)
   turn-only turnCall t = refl
 
@@ -117,6 +122,7 @@ module _ (room : Stmt → Bool) (c : Controller) (X : List Stmt) where
 pub record After (b : Bench) (k : ℕ) (x : Seat) (S : List Stmt) (b′ : Bench) : Type 0 where
   pub isSetUp : b′ .isSetUp ≡ b .isSetUp
   pub marks : b′ .faulty ≡ b .faulty
+  pub notices : b′ .notices ≡ b .notices
   pub seats : b′ .seats ≡ set (b .seats) k x
   pub pool : Grown (b .pool) S (b′ .pool)
 
@@ -162,7 +168,7 @@ module _ (b : Bench) where
     -- a signing of s by one who is marked
     pub record Lies (s : Stmt) : Type 0 where
       pub marked : T (bit (b .faulty) (s .origin))
-      pub clean : T (fieldRules controllers s)
+      pub clean : Fit (b .notices) s
       pub answered : answer ≡ taken
       pub after : After b 0 (seat b 0) (s ∷ []) b′
       pub events : eventsOf b l ≡ signing s ∷ []
@@ -188,47 +194,49 @@ module _ (b : Bench) (k : ℕ) where
 
 module _ (b : Bench) (s : Stmt) where
   abbrev lied : Stepped
-  lied = record { reply = record { who = s .origin; answer = taken; number = length (b .pool) }; bench = record { isSetUp = b .isSetUp; faulty = b .faulty; seats = b .seats; pool = b .pool ++ (s ∷ []) } }
+  lied = record { reply = record { who = s .origin; answer = taken; number = length (b .pool) }; bench = record { isSetUp = b .isSetUp; faulty = b .faulty; notices = b .notices; seats = b .seats; pool = b .pool ++ (s ∷ []) } }
 
   abbrev LieIs : Stepped → Type 0
-  LieIs r = ((x : Refusal) × (¬ Acts (refused x)) × (r ≡ refuseLine b (s .origin) x)) ⊎ ((not (bit (b .faulty) (s .origin)) ≡ false) × (any (sameStmt s) (b .pool) ≡ false) × (r ≡ lied))
+  LieIs r = ((x : Refusal) × (¬ Acts (refused x)) × (r ≡ refuseLine b (s .origin) x)) ⊎ ((not (bit (b .faulty) (s .origin)) ≡ false) × (s .notice < b .notices) × (any (sameStmt s) (b .pool) ≡ false) × (r ≡ lied))
 
   lie-is : LieIs (lieOf b s)
   unfolding lieOf
   lie-is =
-      either LieIs (b .isSetUp) (λ e. either LieIs (not (bit (b .faulty) (s .origin))) (λ f. inl (outOfPlace, (λ t. t), refl)) (λ f. either LieIs (any (sameStmt s) (b .pool)) (λ g. inl (repeated, (λ t. t), refl))
-      (λ g. either LieIs (leb 512 (length (b .pool))) (λ h. inl (full, (λ t. t), refl)) (λ h. inr (f, g, refl))))) (λ e. inl (outOfPlace, (λ t. t), refl))
+      either LieIs (b .isSetUp) (λ e. either LieIs (not (bit (b .faulty) (s .origin))) (λ f. inl (outOfPlace, (λ t. t), refl))
+      (λ f. either LieIs (not (ltb (s .notice) (b .notices))) (λ g. inl (unknownNotice, (λ t. t), refl))
+      (λ g. either LieIs (any (sameStmt s) (b .pool)) (λ h. inl (repeated, (λ t. t), refl)) (λ h. either LieIs (leb 512 (length (b .pool))) (λ i. inl (full, (λ t. t), refl))
+      (λ i. inr (f, ltb-true (s .notice) (b .notices) (not-false (ltb (s .notice) (b .notices)) g), h, refl)))))) (λ e. inl (outOfPlace, (λ t. t), refl))
 
 -- ---- before the setup
 
 new-seat : (k : ℕ) → seat newBench k ≡ emptySeat
 new-seat k = elim (decLt k 16) [
-  | yes l ↦ table-at controllers (λ k. emptySeat) emptySeat k l
-  | no l ↦ List·getD-eq-default (table controllers (λ k. emptySeat)) emptySeat (omega (arith, table-length controllers (λ (k : ℕ). emptySeat)))
+  | yes l ↦ listOf-at controllers (λ k. emptySeat) k emptySeat l
+  | no l ↦ List·getD-eq-default (listOf controllers (λ k. emptySeat)) emptySeat (omega (arith, listOf-length controllers (λ (k : ℕ). emptySeat)))
 ]
 
 -- the bench after the setup
-abbrev pub startedBench : ℕ → ℕ → ℕ → Bench
-startedBench members sender faulty = record { isSetUp = true; faulty = faulty; seats = table controllers (λ k. record { controller = started k members sender; statements = [] }); pool = [] }
+abbrev pub startedBench : ℕ → List ℕ → ℕ → Bench
+startedBench members senders faulty = record { isSetUp = true; faulty = faulty; notices = length senders; seats = listOf controllers (λ k. record { controller = started k members senders; statements = [] }); pool = [] }
 
-pub record Starts (b : Bench) (members sender faulty : ℕ) : Type 0 where
+pub record Starts (b : Bench) (members : ℕ) (senders : List ℕ) (faulty : ℕ) : Type 0 where
   pub before : b .isSetUp ≡ false
-  pub allowed : T (setupAllowed 0 members sender)
-  pub after : step b (some (setup members sender faulty)) .bench ≡ startedBench members sender faulty
+  pub allowed : T (setupAllowed 0 members senders)
+  pub after : step b (some (setup members senders faulty)) .bench ≡ startedBench members senders faulty
 
-abbrev pub setupOf : {b : Bench} {members sender faulty : ℕ} → Starts b members sender faulty → Setup
-setupOf {b} {members} {sender} {faulty} s = record { members = members; sender = sender; faulty = faulty; allowed = s .allowed }
+abbrev pub setupOf : {b : Bench} {members : ℕ} {senders : List ℕ} {faulty : ℕ} → Starts b members senders faulty → Setup
+setupOf {b} {members} {senders} {faulty} s = record { members = members; senders = senders; faulty = faulty; allowed = s .allowed }
 
-module _ (b : Bench) (members sender faulty : ℕ) where
+module _ (b : Bench) (members : ℕ) (senders : List ℕ) (faulty : ℕ) where
   -- by whether the bench is set up, and whether the setup is allowed
   abbrev setupBy : Bool → Bool → Stepped
-  setupBy x y = if x || not y then refuseLine b (if ltb sender controllers then sender else nobody) badSetup else record { reply = record { who = sender; answer = taken; number = 0 }; bench = startedBench members sender faulty }
+  setupBy x y = if x || not y then refuseLine b (shownSender senders) badSetup else record { reply = record { who = shownSender senders; answer = taken; number = 0 }; bench = startedBench members senders faulty }
 
-  pub setup-taken : step b (some (setup members sender faulty)) .reply .answer ≡ taken → Starts b members sender faulty
+  pub setup-taken : step b (some (setup members senders faulty)) .reply .answer ≡ taken → Starts b members senders faulty
   unfolding step setUp
-  setup-taken e = go (b .isSetUp) (setupAllowed 0 members sender) refl refl e
+  setup-taken e = go (b .isSetUp) (setupAllowed 0 members senders) refl refl e
     where
-      go : (x y : Bool) → b .isSetUp ≡ x → setupAllowed 0 members sender ≡ y → setupBy x y .reply .answer ≡ taken → Starts b members sender faulty
+      go : (x y : Bool) → b .isSetUp ≡ x → setupAllowed 0 members senders ≡ y → setupBy x y .reply .answer ≡ taken → Starts b members senders faulty
       go true y f g h = let z : _≡_ {A = ℕ} 0 1 = cc (h) in absurd (omega arith)
       go false false f g h = let z : _≡_ {A = ℕ} 0 1 = cc (h) in absurd (omega arith)
       go false true f g h = record { before = f; allowed = subst T (sym g) tt; after = ap₂ (λ x y. setupBy x y .bench) f g }
@@ -240,23 +248,23 @@ module _ (l : Option Line) (k : ℕ) where
 
   new-call : step newBench l ≡ at newBench k unready [] 0 → eventsOf newBench l ≡ [] → Rests newBench l
   new-call e f = record {
-    same = ap (λ r. r .bench) e ∙ ap (λ S. record { isSetUp = false; faulty = 0; seats = S; pool = [] }) (ap (set (newBench .seats) k) (sym (new-seat k)) ∙ set-getD (newBench .seats) k emptySeat);
+    same = ap (λ r. r .bench) e ∙ ap (λ S. record { isSetUp = false; faulty = 0; notices = 1; seats = S; pool = [] }) (ap (set (newBench .seats) k) (sym (new-seat k)) ∙ set-getD (newBench .seats) k emptySeat);
     idle = subst (λ r. ¬ Acts (r .reply .answer)) (sym e) (λ t. t);
     events = f;
   }
 
 -- until a setup is taken nothing changes
-pub new-line : (l : Option Line) → Rests newBench l ⊎ ((members sender faulty : ℕ) × (l ≡ some (setup members sender faulty)) × Starts newBench members sender faulty)
+pub new-line : (l : Option Line) → Rests newBench l ⊎ ((members : ℕ) × (senders : List ℕ) × (faulty : ℕ) × (l ≡ some (setup members senders faulty)) × Starts newBench members senders faulty)
 unfolding step setUp giveTo giveAll turnAt afterTurn lieOf requestJoin requestLeave requestSend turnOf eventsOf callOn isFollower signedIn
 new-line none = inl (record { same = refl; idle = λ t. t; events = refl })
 new-line (some (setup m s f)) = go (setupAllowed 0 m s) refl
   where
-    go : (y : Bool) → setupAllowed 0 m s ≡ y → Rests newBench (some (setup m s f)) ⊎ ((members sender faulty : ℕ) × (some (setup m s f) ≡ some (setup members sender faulty)) × Starts newBench members sender faulty)
+    go : (y : Bool) → setupAllowed 0 m s ≡ y → Rests newBench (some (setup m s f)) ⊎ ((members : ℕ) × (senders : List ℕ) × (faulty : ℕ) × (some (setup m s f) ≡ some (setup members senders faulty)) × Starts newBench members senders faulty)
     go true e = inr (m, s, f, refl, setup-taken newBench m s f (ap (λ y. setupBy newBench m s f false y .reply .answer) e))
     go false e = inl (record { same = ap (λ y. setupBy newBench m s f false y .bench) e; idle = subst (λ y. ¬ Acts (setupBy newBench m s f false y .reply .answer)) (sym e) (λ t. t); events = refl })
 new-line (some (join k)) = inl (new-call (some (join k)) k (ap (λ x. at newBench k (requestJoin (x .controller) (x .statements)) [] 0) (new-seat k)) refl)
 new-line (some (leave k)) = inl (new-call (some (leave k)) k (ap (λ x. at newBench k (requestLeave (x .controller) (x .statements)) [] 0) (new-seat k)) refl)
-new-line (some (send k m)) = inl (new-call (some (send k m)) k (ap (λ x. at newBench k (requestSend (x .controller) (x .statements) m) [] 0) (new-seat k)) refl)
+new-line (some (send k i m)) = inl (new-call (some (send k i m)) k (ap (λ x. at newBench k (requestSend (x .controller) (x .statements) i m) [] 0) (new-seat k)) refl)
 new-line (some (give k n)) = inl (record { same = refl; idle = λ t. t; events = rw (le-ltb n 0 (omega arith)) refl })
 new-line (some (all k)) = inl (record { same = refl; idle = λ t. t; events = refl })
 new-line (some (turn k)) =
@@ -268,25 +276,27 @@ new-line (some noStatement) = inl (record { same = refl; idle = λ t. t; events 
 -- ---- after the setup
 
 module _ (u : Setup) where
-  open Setup u using (members, sender, faulty)
+  open Setup u using (members, senders, faulty)
 
   -- what every line keeps: each pooled statement keeps the field rules and stands once, and each record has only pooled statements
   pub record Valid (b : Bench) : Type 0 where
     pub isSetUp : b .isSetUp ≡ true
     pub marks : b .faulty ≡ faulty
+    pub notices : b .notices ≡ length senders
     pub long : length (b .seats) ≡ 16
-    pub clean : Clean (b .pool)
+    pub clean : Clean (length senders) (b .pool)
     pub different : Different (b .pool)
     pub each : (k : ℕ) → k < 16 → Seated u (b .pool) k (seat b k)
 
-  pub started-seat : (k : ℕ) → k < 16 → seat (startedBench members sender faulty) k ≡ record { controller = started k members sender; statements = [] }
-  started-seat k l = table-at controllers (λ k. record { controller = started k members sender; statements = [] }) emptySeat k l
+  pub started-seat : (k : ℕ) → k < 16 → seat (startedBench members senders faulty) k ≡ record { controller = started k members senders; statements = [] }
+  started-seat k l = listOf-at controllers (λ k. record { controller = started k members senders; statements = [] }) k emptySeat l
 
-  pub started-valid : Valid (startedBench members sender faulty)
+  pub started-valid : Valid (startedBench members senders faulty)
   started-valid = record {
     isSetUp = refl;
     marks = refl;
-    long = table-length controllers (λ k. record { controller = started k members sender; statements = [] });
+    notices = refl;
+    long = listOf-length controllers (λ k. record { controller = started k members senders; statements = [] });
     clean = λ s m. absurd (List·Memᴰ·not-nil m);
     different = tt;
     each = λ k l. subst (Seated u [] k) (sym (started-seat k l)) (record { inRing = started-in-ring u k; known = λ a m. m });
@@ -317,7 +327,7 @@ module _ (u : Setup) where
       who = ap (λ r. r .reply .who) e;
       answered = ap (λ r. r .reply .answer) e;
       number = λ s f. subst (λ r. getElem? (r .bench .pool) (r .reply .number) ≡ some s) (sym e) (number s f);
-      after = subst (λ r. After b k (seatOf (out b k a)) (signedIn (out b k a .answer)) (r .bench)) (sym e) (record { isSetUp = refl; marks = refl; seats = refl; pool = g });
+      after = subst (λ r. After b k (seatOf (out b k a)) (signedIn (out b k a .answer)) (r .bench)) (sym e) (record { isSetUp = refl; marks = refl; notices = refl; seats = refl; pool = g });
       events = events;
     })
 
@@ -331,7 +341,7 @@ module _ (u : Setup) where
 
     -- a refusal leaves the seat as it was
     refuse-at : (k : ℕ) (r : Refusal) → refuseLine b k r ≡ at b k (refusedBy (seat b k .controller) (seat b k .statements) r) (b .pool) 0
-    refuse-at k r = ap (λ S. record { reply = record { who = k; answer = refused r; number = 0 }; bench = record { isSetUp = b .isSetUp; faulty = b .faulty; seats = S; pool = b .pool } }) (sym (set-getD (b .seats) k emptySeat))
+    refuse-at k r = ap (λ S. record { reply = record { who = k; answer = refused r; number = 0 }; bench = record { isSetUp = b .isSetUp; faulty = b .faulty; notices = b .notices; seats = S; pool = b .pool } }) (sym (set-getD (b .seats) k emptySeat))
 
     -- a give of what the pool has is an addition
     give-adds : (k n : ℕ) → k < 16 → n < length (b .pool) → giveTo b k n ≡ at b k (out b k (addCall (getD (b .pool) n noStmt))) (b .pool) 0
@@ -340,7 +350,7 @@ module _ (u : Setup) where
         let inRing = ok .each k near .inRing in
         let i : s ∈ b .pool = getD-in (b .pool) n noStmt h in
         ap₂ (λ x y. if x then (if y then refuseLine b k outOfPlace else given (any (sameStmt s) X) (leb 512 (length X))) else refuseLine b k outOfPlace) (ok .isSetUp) (lt-leb (length (b .pool)) n h)
-        ∙ cases (any (sameStmt s) X) (leb 512 (length X)) ∙ ap (λ o. at b k o (b .pool) 0) (sym (add-is c X (b .pool) s (inRing .isSetUp) (ap (λ R. R .width) (inRing .ring)) (ok .clean s i) i))
+        ∙ cases (any (sameStmt s) X) (leb 512 (length X)) ∙ ap (λ o. at b k o (b .pool) 0) (sym (add-is c X (b .pool) s (inRing .isSetUp) (ap (λ R. R .width) (inRing .ring)) (length senders) (ap length (inRing .senders)) (ok .clean s i) i))
       where
         s : Stmt
         s = getD (b .pool) n noStmt
@@ -384,7 +394,7 @@ module _ (u : Setup) where
           near = near;
           answered = ap (λ r. r .reply .answer) e;
           fits = h;
-          after = subst (λ r. After b k (filled b k) [] (r .bench)) (sym e) (record { isSetUp = refl; marks = refl; seats = refl; pool = grown-none (b .pool) refl });
+          after = subst (λ r. After b k (filled b k) [] (r .bench)) (sym e) (record { isSetUp = refl; marks = refl; notices = refl; seats = refl; pool = grown-none (b .pool) refl });
           events = rw (e, and-true (isFollower b k)) refl;
         })
 
@@ -408,32 +418,32 @@ module _ (u : Setup) where
         go (signed s) e = turned (signed s) (pooled s (b .pool)) (numberOf s (b .pool)) e refl (grown-pooled (b .pool) s) (λ x f. let p : s ≡ x = cc (f) in numbered s (b .pool) ∙ ap some p)
         go taken e = still taken e refl refl
         go (entered v) e = still (entered v) e refl refl
-        go (delivered m) e = still (delivered m) e refl refl
+        go (delivered i m) e = still (delivered i m) e refl refl
         go left e = still left e refl refl
         go quiet e = still quiet e refl refl
         go (refused r) e = still (refused r) e refl refl
 
-    lie-effect : (s : Stmt) → T (fieldRules controllers s) → Effect b (some (lie s))
+    lie-effect : (s : Stmt) → T (fieldRules controllers (b .notices) s) → Effect b (some (lie s))
     unfolding step eventsOf
     lie-effect s clean = go (lie-is b s)
       where
         go : LieIs b s (lieOf b s) → Effect b (some (lie s))
         go (inl (x, idle, e)) = refusal (some (lie s)) (s .origin) x idle e (rw e refl)
-        go (inr (f, g, e)) = lies s (record {
+        go (inr (f, h, g, e)) = lies s (record {
           marked = subst T (sym (not-false (bit (b .faulty) (s .origin)) f)) tt;
-          clean = clean;
+          clean = record { fields = clean; notice = h };
           answered = ap (λ r. r .reply .answer) e;
-          after = subst (λ r. After b 0 (seat b 0) (s ∷ []) (r .bench)) (sym e) (record { isSetUp = refl; marks = refl; seats = sym (set-getD (b .seats) 0 emptySeat); pool = grown-new (b .pool) s g });
+          after = subst (λ r. After b 0 (seat b 0) (s ∷ []) (r .bench)) (sym e) (record { isSetUp = refl; marks = refl; notices = refl; seats = sym (set-getD (b .seats) 0 emptySeat); pool = grown-new (b .pool) s g });
           events = rw e refl;
         })
 
-    pub effect : (l : Option Line) → Legible l → Effect b l
+    pub effect : (l : Option Line) → Legible (b .notices) l → Effect b l
     unfolding step setUp eventsOf outcome
     effect none g = refusal none nobody outOfPlace (λ t. t) refl refl
-    effect (some (setup m s f)) g = refusal (some (setup m s f)) (if ltb s controllers then s else nobody) badSetup (λ t. t) (ap (λ x. setupBy b m s f x (setupAllowed 0 m s)) (ok .isSetUp)) refl
+    effect (some (setup m s f)) g = refusal (some (setup m s f)) (shownSender s) badSetup (λ t. t) (ap (λ x. setupBy b m s f x (setupAllowed 0 m s)) (ok .isSetUp)) refl
     effect (some (join k)) g = asked (some (join k)) k joinCall tt g tt refl refl
     effect (some (leave k)) g = asked (some (leave k)) k leaveCall tt g tt refl refl
-    effect (some (send k m)) (g, h) = asked (some (send k m)) k (sendCall m) tt g h refl refl
+    effect (some (send k i m)) (g, h) = asked (some (send k i m)) k (sendCall i m) tt g h refl refl
     effect (some (give k n)) g = give-effect k n g
     effect (some (all k)) g = all-effect k g
     effect (some (turn k)) g = turn-effect k g

@@ -14,7 +14,7 @@ use lib.ListN.{length, getD, getElem?}
 use lib.Seq.{append-snoc, getD-set-same, getD-set-other, set-getD}
 use Rattle.protocol.specs.Lists.{_∈_, _⊆_, any}
 use Rattle.protocol.specs.View.{controllers}
-use Rattle.protocol.specs.Statement.{Stmt, sameStmt, fieldRules}
+use Rattle.protocol.specs.Statement.{Stmt, sameStmt}
 use Rattle.protocol.specs.Controller.{Controller, Answer, taken}
 use Rattle.protocol.specs.Pool.{hasRoom}
 use Rattle.protocol.specs.Run.{Call, addCall, outcome, Event, call, signing, Run, afterEvent, signedIn, event, returned, signedBy, signedBefore}
@@ -26,15 +26,15 @@ use Rattle.bench.specs.Bench.{Seat, emptySeat, Bench, seat, missing, step}
 use Rattle.protocol.proofs.Says.{is-true}
 use Rattle.guarantee.specs.Events.{follower, Occurrence, isFollower, eventsOf, roomAt, runWith}
 use Rattle.guarantee.proofs.Laws.{fails, either, at-seam, one-longer, map-at, filter-different}
-use Rattle.guarantee.proofs.Seats.{seatOf, Setup}
+use Rattle.guarantee.proofs.Seats.{seatOf, Fit, Setup}
 use Rattle.guarantee.proofs.Pools.{Grown, grown-more, grown-none, add-taken}
 use Rattle.guarantee.proofs.Lines.{After, Calls, Gives, Effect, rests, calls, gives, lies, Valid, yes-follows, no-follows}
 
 module _ (every : List Occurrence) (u : Setup) where
-  open Setup u using (members, sender, faulty)
+  open Setup u using (members, senders, faulty)
 
   abbrev R : Run
-  R = runWith every members sender faulty
+  R = runWith every members senders faulty
 
   -- from place p on these come
   abbrev pub Comes : ℕ → List Occurrence → Type 0
@@ -132,19 +132,19 @@ module _ (every : List Occurrence) (u : Setup) where
       signed : signedBefore R q ≡ signedBefore R p
       told : Told p q taken
 
-    module _ (k : ℕ) (c : Controller) (ready : c .isSetUp ≡ true) (width : c .ring .width ≡ controllers) where
+    module _ (k : ℕ) (c : Controller) (ready : c .isSetUp ≡ true) (width : c .ring .width ≡ controllers) (n : ℕ) (many : length (c .senders) ≡ n) where
       abbrev adding : Stmt → Event
       adding s = call k (addCall s)
 
       additions : (Y : List Stmt) (p : ℕ) (X : List Stmt) → Comes p (at (map adding Y)) → seatOf (returned R k p) ≡ record { controller = c; statements = X }
-          → ((s : Stmt) → s ∈ Y → T (fieldRules controllers s) × (s ∈ P) × (any (sameStmt s) X ≡ false)) → Different Y → length X + length Y ≤ 512
+          → ((s : Stmt) → s ∈ Y → Fit n s × (s ∈ P) × (any (sameStmt s) X ≡ false)) → Different Y → length X + length Y ≤ 512
           → Additions p (past p (at (map adding Y))) k (record { controller = c; statements = X ++ Y })
       unfolding outcome signedIn
       additions [] p X _ h f d l = record { mine = h ∙ ap (λ Z. record { controller = c; statements = Z }) (sym (append-nil X)); others = λ j n. refl; signed = refl; told = λ i j d low high. absurd (omega arith) }
       additions (s ∷ Y) p X (here, rest) h f (d, ds) l =
           let (clean, has, new) = f s (List·Memᴰ·head refl) in
           let x : Seat = record { controller = c; statements = X } in
-          let took = add-taken c X P s ready width clean has new (omega arith) in
+          let took = add-taken c X P s ready width n many clean has new (omega arith) in
           let now = call-mine p P k (addCall s) here x h ∙ took in
           let same : signedBefore R (suc p) ≡ signedBefore R p =
           call-signed p P k (addCall s) here x h ∙ ap (λ o. signedBefore R p ++ signedIn (o .answer)) took ∙ append-nil (signedBefore R p) in
@@ -224,14 +224,14 @@ module _ (every : List Occurrence) (u : Setup) where
     goes-all : (k : ℕ) → T (follower faulty k) → Gives b l k → Goes (map (λ s. call k (addCall s)) (missing b k))
     goes-all k t c comes =
         let s = ok .each k (c .near) .inRing in
-        let h = additions (b .pool) k (seat b k .controller) (s .isSetUp) (ap (λ Q. Q .width) (s .ring)) (missing b k) p (seat b k .statements) comes (link .seats k t) new
+        let h = additions (b .pool) k (seat b k .controller) (s .isSetUp) (ap (λ Q. Q .width) (s .ring)) (length senders) (ap length (s .senders)) (missing b k) p (seat b k .statements) comes (link .seats k t) new
         (filter-different (λ s. not (any (sameStmt s) (seat b k .statements))) (b .pool) (ok .different)) (c .fits) in
         record {
           linked = goes-mine k (c .after) (c .near) (past p (at (b .pool) (map (λ s. call k (addCall s)) (missing b k)))) (h .signed ∙ sym (append-nil (signedBefore R p))) (h .mine) (h .others);
           told = λ i j d low high e. h .told i j d low high e ∙ sym (c .answered);
         }
       where
-        new : (s : Stmt) → s ∈ missing b k → T (fieldRules controllers s) × (s ∈ b .pool) × (any (sameStmt s) (seat b k .statements) ≡ false)
+        new : (s : Stmt) → s ∈ missing b k → Fit (length senders) s × (s ∈ b .pool) × (any (sameStmt s) (seat b k .statements) ≡ false)
         new s m =
             let (i, n) = filter-out (λ s. not (any (sameStmt s) (seat b k .statements))) (b .pool) m in
             (ok .clean s i, i, fails (any (sameStmt s) (seat b k .statements)) (T-not (any (sameStmt s) (seat b k .statements)) n))

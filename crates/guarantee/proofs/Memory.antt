@@ -1,45 +1,40 @@
 -- The memory of a pool whose statements went into it one after another, and a record of given numbers.
 -- Assumes nothing.
 use mathlib.Core.Path.{_≡_, refl, sym, ap, ap₂, subst, _∙_}
-use mathlib.Core.Bool.{Bool, true, false, not, _&&_}
+use mathlib.Core.Bool.{Bool, true, false, cond, not, _&&_}
 use mathlib.Core.List.{List, [], _∷_, _++_, map, foldl, foldl-append, append-nil, append-assoc}
-use Prim.Native.Nat.{ℕ, zero, suc, _+_, _-_, _/_, _%_, _≤_, _<_, min}
+use Prim.Native.Nat.{ℕ, zero, suc, _+_, _-_, _/_, _%_, _<_, min}
 use native.Mathlib.Omega.{arith}
-use lib.Dec.{T, eqb, ltb}
+use lib.Dec.{T, eqb, ltb, T-not}
 use lib.ListN.{length, getD, set, replicate, length-append, length-map, length-replicate, List·getD-append, List·getD-map}
-use lib.Seq.{set-append-seam, ext-getD, getD-set-same}
-use Rattle.protocol.specs.Lists.{if_then_else_, any, all, isSome}
+use lib.Seq.{set-append-seam, getD-set-same}
+use Rattle.protocol.specs.Lists.{if_then_else_, any, all, isSome, listOf}
 use Rattle.protocol.specs.View.{View}
-use Rattle.protocol.specs.Statement.{Stmt, noStmt, sameStmt, fieldRules, bindingNumber}
+use Rattle.protocol.specs.Statement.{Stmt, only, noStmt, sameStmt, fieldRules}
 use Rattle.protocol.specs.Pool.{pooled}
 use Rattle.protocol.proofs.Says.{says-self, says-and, says-leb}
+use Rattle.protocol.proofs.Numbered.{listOf-at}
 use Rattle.views.specs.declared.View as held
-use Rattle.views.specs.Table.{table}
 use Rattle.views.specs.View.{viewOf, wordOf}
 use Rattle.views.specs.Held.{viewIs}
-use Rattle.views.proofs.Tables.{table-length, table-at}
-use Rattle.statements.specs.declared.Binding.{Binding}
-use Rattle.statements.specs.declared.Binding.the-variants.{Unbound, Bound, Barred}
 use Rattle.statements.specs.declared.Statement.{Statement}
-use Rattle.statements.specs.Meaning.{firstViews, bindingIs, payloadOf, stmtOf, FitsView, EachFits, Fits}
+use Rattle.statements.specs.Block.{groupAt, groupsOf}
+use Rattle.statements.specs.Meaning.{Each, firstViews, stmtOf, FitsView, FitsTold, Fits}
 use Rattle.statements.proofs.FieldLaws.{views-length}
 use Rattle.statements.proofs.Fits.{keeps-fits}
 use Rattle.pool.specs.Pool.{stmtAt, poolWords, poolLen, poolOf, recordUpTo, recordLen, recordIn, AllIn, Grows}
-use Rattle.pool.specs.Steps.{Put, foundOf}
-use Rattle.pool.specs.Changes.{headOf, headWord, pooledIn, PushedTo, Emptied}
+use Rattle.pool.specs.Steps.{headWordOfHeld, Put, foundOf}
+use Rattle.pool.specs.Changes.{pooledIn, PushedTo, Emptied}
 use Rattle.pool.specs.Changes as memories
-use Rattle.pool.proofs.Parts.{head-back}
 use Rattle.pool.proofs.Writes.{stmts, put-is}
 use Rattle.pool.proofs.Searches.{append-new, pooled-beside, fresh}
 use Rattle.pool.proofs.Lists.{push-room-in, emptied}
 use Rattle.engine.proofs.Pools.{there, absent, in-pool, grown-pool}
 use Rattle.pool.proofs.Records.{pool-length}
-use Rattle.statements.proofs.Statements.{flag-is}
+use Rattle.host.proofs.Loading.{listed-all}
+use Rattle.guarantee.proofs.Laws.{fails}
 
 -- ---- lists by place
-
-table-is : {A : Type 0} (n : ℕ) (f : ℕ → A) (l : List A) (d : A) → n ≡ length l → ((i : ℕ) → i < n → f i ≡ getD l i d) → table n f ≡ l
-table-is n f l d e g = ext-getD d (table n f) l (table-length n f ∙ e) (λ i h. let m : i < n = omega (arith, table-length n f) in table-at n f d i m ∙ g i m)
 
 all-at : {A : Type 0} (p : A → Bool) (l : List A) (d : A) → T (all p l) → (i : ℕ) → i < length l → T (p (getD l i d))
 unfolding all
@@ -59,34 +54,37 @@ held-back v f =
     let y : v .left % 65536 ≡ v .left = omega (arith, f .left) in
     ap₂ (λ j l. record { joined = j; left = l }) x y
 
-views-back : (l : List View) → EachFits l → firstViews (length l) (map heldOf l) ≡ l
+views-back : (l : List View) → Each FitsView l → firstViews (length l) (map heldOf l) ≡ l
 unfolding firstViews
 views-back [] f = refl
 views-back (v ∷ l) f = ap₂ (λ u k. u ∷ k) (held-back v (f .0)) (views-back l (f .1))
 
-binding-back : (n m : ℕ) → n ≤ 2 → (b : Binding) × (bindingNumber (bindingIs b) ≡ n) × (payloadOf b m ≡ m)
-binding-back zero m h = (Unbound, refl, refl)
-binding-back (suc zero) m h = (Bound m, refl, refl)
-binding-back (suc (suc zero)) m h = (Barred, refl, refl)
-binding-back (suc (suc (suc n))) m h = absurd (omega arith)
+-- no report: what it means asks no block, and no number of notices
+abbrev plain : Stmt → Bool
+plain s = fieldRules 16 1 s && not (eqb (s .kind) 5)
 
-struct-of : (s : Stmt) → Fits s → (st : Statement) × (stmtOf st ≡ s)
-unfolding stmtOf
-struct-of s f =
-    let (b, n, p) = binding-back (s .binding) (s .payload) (f .binding) in (
+struct-of : (s : Stmt) → T (plain s) → (st : Statement) × (stmtOf st [] ≡ s)
+unfolding stmtOf groupsOf
+struct-of s t =
+    let (r, p) = says-and (says-self (fieldRules 16 1 s)) (says-self (not (eqb (s .kind) 5))) .sound t in
+    let f = keeps-fits 1 s r in
+    let other : eqb (s .kind) 5 ≡ false = fails (eqb (s .kind) 5) (T-not (eqb (s .kind) 5) p) in
+    let (m, _, e) = subst (λ b. FitsTold b 1 (s .groups)) other (f .told) in (
       record {
         kind = s .kind;
         origin = s .origin;
         at = heldOf (s .at);
         view = heldOf (s .view);
-        binding = b;
-        payload = s .payload;
-        stored = eqb (s .stored) 1;
-        kept = s .kept;
+        notice = s .notice;
+        groups = 1;
+        payload = m;
         history = record { views = map heldOf (s .views); len = length (s .views) };
       },
-      stmts refl refl (held-back (s .at) (f .at)) (held-back (s .view) (f .view)) n p (flag-is (s .stored) (f .stored)) refl (views-back (s .views) (f .views)),
+      stmts refl refl (held-back (s .at) (f .first .at)) (held-back (s .view) (f .first .view)) refl (ap (λ b. cond b (listOf 1 (groupAt [])) (only m ∷ [])) other ∙ sym e) (views-back (s .views) (f .views .1)),
     )
+
+plain-fits : (s : Stmt) → T (plain s) → Fits 1 s
+plain-fits s t = keeps-fits 1 s (says-and (says-self (fieldRules 16 1 s)) (says-self (not (eqb (s .kind) 5))) .sound t .0)
 
 -- ---- it comes back from its words
 
@@ -99,28 +97,29 @@ view-back v f =
     let y : wordOf v / 4294967296 % 4294967296 ≡ v .left = ap (λ n. n % 4294967296) z ∙ w in
     ap₂ (λ j l. record { joined = j; left = l }) x y
 
-module _ (W : List ℕ) (st : Statement) (long : length W ≡ poolWords) (room : poolLen W < 512) (f : Fits (stmtOf st)) where
-  count : length (stmtOf st .views) ≡ st .history .len
+module _ (W : List ℕ) (st : Statement) (long : length W ≡ poolWords) (room : poolLen W < 512) (f : Fits 1 (stmtOf st [])) where
+  count : length (stmtOf st [] .views) ≡ st .history .len
   unfolding stmtOf
   count = views-length (st .history .len) (st .history .views)
 
-  put : (U : List ℕ) × Put W U (poolLen W) st
-  unfolding stmtOf headWord headOf
-  put = (
-    _,
-    put-is W _ (poolLen W) (poolLen W) st (headWord (stmtOf st)) (wordOf (viewIs (st .at))) (wordOf (viewIs (st .view))) (stmtOf st .payload) (st .kept) long (omega arith) refl
-        (refl, head-back (stmtOf st) _ _ _ _ _ refl (omega (arith, f .kind, f .origin)) (ap (λ n. min n 16) count) (omega arith) refl (f .binding) refl (f .stored) (f .kind) (f .origin))
-        (omega (arith, f .at .joined, f .at .left)) (view-back (viewIs (st .at)) (f .at)) (omega (arith, f .view .joined, f .view .left)) (view-back (viewIs (st .view)) (f .view)) refl refl,
-  )
+  put : (U : List ℕ) × Put W U (poolLen W) st []
+  unfolding stmtOf
+  put =
+      let g = f .first in (
+        _,
+        put-is W _ _ (poolLen W) (poolLen W) st [] (headWordOfHeld st) (wordOf (viewIs (st .at))) (wordOf (viewIs (st .view))) long (omega arith) refl refl
+            refl (omega (arith, g .kind)) (omega (arith, g .origin)) (omega (arith, g .notice))
+            (omega (arith, g .at .joined, g .at .left)) (view-back (viewIs (st .at)) (g .at)) (omega (arith, g .view .joined, g .view .left)) (view-back (viewIs (st .view)) (g .view)),
+      )
 
   -- one statement more, where the pool does not have it
-  pool-more : T (not (any (sameStmt (stmtOf st)) (poolOf W))) → poolOf (pooledIn W (stmtOf st)) ≡ poolOf W ++ (stmtOf st ∷ [])
+  pool-more : T (not (any (sameStmt (stmtOf st [])) (poolOf W))) → poolOf (pooledIn W (stmtOf st [])) ≡ poolOf W ++ (stmtOf st [] ∷ [])
   unfolding poolOf
-  pool-more t = elim (in-pool W (stmtOf st)) [
+  pool-more t = elim (in-pool W (stmtOf st [])) [
     | there i q b h m y ↦ absurd (subst (λ b. T (not b)) y t)
     | absent q y ↦
-        (let a = append-new W st (poolLen W) (put .0) long (ap foundOf (sym q)) refl room (put .1) in
-        ap poolOf (sym (a .is)) ∙ grown-pool W _ st (omega (arith, f .count, count)) (a .new q room) room)
+        (let a = append-new W st [] (poolLen W) (put .0) long (ap foundOf (sym q)) refl room (put .1) in
+        ap poolOf (sym (a .is)) ∙ grown-pool W _ st [] (omega (arith, f .views .0, count)) (a .new q room) room)
   ]
 
 -- ---- the memory of a pool
@@ -136,21 +135,21 @@ zeros = replicate poolWords 0
 pub memory : List Stmt → List ℕ
 memory P = foldl pooledIn zeros P
 
--- The statements keep the field rules, and each is other than those of Q and those before it.
+-- The statements keep the field rules and are no reports, and each is other than those of Q and those before it.
 abbrev newAfter : List Stmt → List Stmt → Bool
 newAfter Q [] = true
-newAfter Q (s ∷ P) = (fieldRules 16 s && not (any (sameStmt s) Q)) && newAfter (Q ++ (s ∷ [])) P
+newAfter Q (s ∷ P) = (plain s && not (any (sameStmt s) Q)) && newAfter (Q ++ (s ∷ [])) P
 
--- The statements keep the field rules, no two are the same, and there is room for one more.
+-- The statements keep the field rules and are no reports, no two are the same, and there is room for one more.
 unfoldable pub fits : List Stmt → Bool
 fits P = ltb (length P) 512 && newAfter [] P
 
 all-in-pool : (P Q : List Stmt) (W : List ℕ) → length W ≡ poolWords → poolOf W ≡ Q → length Q + length P < 512 → T (newAfter Q P) → poolOf (foldl pooledIn W P) ≡ Q ++ P
 all-in-pool [] Q W l e h t = e ∙ sym (append-nil Q)
 all-in-pool (s ∷ P) Q W l e h t =
-    let ((r, n), u) = says-and (says-and (says-self (fieldRules 16 s)) (says-self (not (any (sameStmt s) Q)))) (says-self (newAfter (Q ++ (s ∷ [])) P)) .sound t in
-    let (st, q) = struct-of s (keeps-fits s r) in
-    let more = subst (λ x. Fits x → T (not (any (sameStmt x) (poolOf W))) → poolOf (pooledIn W x) ≡ poolOf W ++ (x ∷ [])) q (pool-more W st l (omega (arith, pool-length W, ap length e))) (keeps-fits s r) in
+    let ((r, n), u) = says-and (says-and (says-self (plain s)) (says-self (not (any (sameStmt s) Q)))) (says-self (newAfter (Q ++ (s ∷ [])) P)) .sound t in
+    let (st, q) = struct-of s r in
+    let more = subst (λ x. Fits 1 x → T (not (any (sameStmt x) (poolOf W))) → poolOf (pooledIn W x) ≡ poolOf W ++ (x ∷ [])) q (pool-more W st l (omega (arith, pool-length W, ap length e))) (plain-fits s r) in
     all-in-pool P (Q ++ (s ∷ [])) (pooledIn W s) (pooled-beside W s .long ∙ l) (more (subst (λ X. T (not (any (sameStmt s) X))) (sym e) n) ∙ ap (λ X. X ++ (s ∷ [])) e) (omega (arith, length-append Q (s ∷ []))) u
     ∙ append-assoc Q (s ∷ []) P
 
@@ -180,7 +179,7 @@ module _ (P : List Stmt) (t : T (fits P)) where
 
   pub stmt-at : (n : ℕ) → n < length P → stmtAt (memory P) n ≡ at P n
   unfolding poolOf
-  stmt-at n l = sym (table-at (poolLen (memory P)) (stmtAt (memory P)) noStmt n (omega (arith, len-is))) ∙ ap (λ Q. at Q n) pool-is
+  stmt-at n l = sym (listOf-at (poolLen (memory P)) (stmtAt (memory P)) n noStmt (omega (arith, len-is))) ∙ ap (λ Q. at Q n) pool-is
 
   -- the memory, word for word, after s went in
   pub memory-more : (s : Stmt) → memory (pooled s P) ≡ pooledIn (memory P) s
@@ -269,7 +268,7 @@ module _ (P : List Stmt) (l : List ℕ) (t : T (fits P)) (u : T (within P l)) wh
   pub record-is : recordIn (memory P) (numbers l) ≡ map (at P) l
   unfolding recordUpTo
   record-is =
-      table-is (recordLen (numbers l)) (λ i. stmtAt (memory P) (getD (numbers l) i 0)) (map (at P) l) (at P 0) (record-len l few ∙ sym (length-map l (at P))) (λ i h.
+      listed-all (λ i. stmtAt (memory P) (getD (numbers l) i 0)) (map (at P) l) (at P 0) (recordLen (numbers l)) (length-map l (at P) ∙ sym (record-len l few)) (λ i h.
       let k : i < length l = omega (arith, record-len l few) in
       ap (stmtAt (memory P)) (number-at l i k) ∙ stmt-at P t (getD l i 0) (below i k) ∙ sym (List·getD-map (at P) l i 0))
 

@@ -5,8 +5,8 @@ use mathlib.Core.Logic.{_⊎_, inl}
 use mathlib.Core.Bool.{Bool, true, false, _||_, true≢false, or-false}
 use mathlib.Core.List.{List, [], _∷_, _++_, append-nil, List·Memᴰ·not-nil, Memᴰ·append-left, Memᴰ·append-right, List·Memᴰ·append-cases, List·Memᴰ·eq-of-singleton}
 use mathlib.Core.Option.{some}
-use Prim.Native.Nat.{suc, _+_, _<_}
-use borrow.Author.Tests.{lt-leb}
+use Prim.Native.Nat.{ℕ, suc, _+_, _<_}
+use borrow.Author.Tests.{lt-leb, lt-ltb}
 use lib.Dec.{T, leb}
 use lib.ListN.{length, getElem?}
 use Rattle.protocol.specs.Lists.{if_then_else_, _∈_, _⊆_, any}
@@ -19,6 +19,7 @@ use Rattle.protocol.proofs.Different.{Different, ordered-append}
 use Rattle.protocol.proofs.Asked.{says-has, says-same-stmt}
 use Rattle.protocol.proofs.Says.{is-true}
 use Rattle.guarantee.proofs.Laws.{either, at-seam}
+use Rattle.guarantee.proofs.Seats.{Fit}
 
 -- Q is P with the statements S; those that it lacked stand at its end
 pub record Grown (P S Q : List Stmt) : Type 0 where
@@ -82,10 +83,12 @@ numbered s P = either (λ Q. getElem? Q (numberOf s P) ≡ some s) (any (sameStm
 abbrev pub added : Controller → List Stmt → Stmt → Outcome
 added c X s = record { answer = taken; controller = c; statements = X ++ (s ∷ []) }
 
-module _ (c : Controller) (X P : List Stmt) (s : Stmt) (ready : c .isSetUp ≡ true) (width : c .ring .width ≡ controllers) (clean : T (fieldRules controllers s)) (has : s ∈ P) where
+module _ (c : Controller) (X P : List Stmt) (s : Stmt) (ready : c .isSetUp ≡ true) (width : c .ring .width ≡ controllers) (n : ℕ) (many : length (c .senders) ≡ n) (clean : Fit n s) (has : s ∈ P) where
   pub add-is : add c X (hasRoom P) s ≡ (if any (sameStmt s) X then refusedBy c X repeated else if leb 512 (length X) then refusedBy c X full else added c X s)
   unfolding add isFull hasRoom
-  add-is = rw (ready, width, is-true (fieldRules controllers s) clean, is-true (any (sameStmt s) P) (says-has .complete has), or-false (leb 512 (length X))) refl
+  add-is =
+      rw (ready, width, many, is-true (fieldRules controllers n s) (clean .fields), lt-ltb (s .notice) n (clean .notice), is-true (any (sameStmt s) P) (says-has .complete has), or-false (leb 512 (length X)))
+      refl
 
   pub add-taken : any (sameStmt s) X ≡ false → length X < 512 → add c X (hasRoom P) s ≡ added c X s
   add-taken e h = add-is ∙ rw (e, lt-leb 512 (length X) h) refl

@@ -14,44 +14,48 @@ use Rattle.protocol.specs.Lists.{if_then_else_}
 use Rattle.protocol.specs.Sets.{bit}
 use Rattle.protocol.specs.View.{controllers, View, isView, member}
 use Rattle.protocol.specs.History.{top}
-use Rattle.protocol.specs.Statement.{Stmt}
-use Rattle.protocol.specs.Controller.{Answer, taken, signed, entered, delivered, left, quiet, refused}
+use Rattle.protocol.specs.Controller.{Answer, taken, signed, entered, delivered, left, quiet, refused, conflict}
 use Rattle.protocol.specs.Call.{ringOf}
-use Rattle.protocol.specs.Promises.{Observed}
+use Rattle.protocol.specs.Promises.{Observed, NoConflict}
 use Rattle.protocol.proofs.Found.{none≢some, some-injective}
 use Rattle.protocol.proofs.Bits.{bit-zero}
 use Rattle.protocol.proofs.Rules.{and-second}
 use Rattle.protocol.proofs.Order.{says-view}
 use Rattle.protocol.proofs.Carried.{carried, carried-no-conflict}
-use Rattle.schedule.specs.Line.{Line, lines, ReadAll}
-use Rattle.bench.specs.Bench.{newBench, Reply, step}
-use Rattle.bench.specs.Rows.{rowText, headerText, refusedRow, rowsFrom, Printed}
+use Rattle.schedule.specs.Line.{Line, lines}
+use Rattle.bench.specs.Bench.{Bench, newBench, Reply, step}
+use Rattle.bench.specs.Rows.{rowText, headerText, refusedRow, rowsFrom, ReadAll, Printed}
 use Rattle.bench.proofs.One.{read-all-one}
 use Rattle.guarantee.specs.Events.{follower, after}
-use Rattle.guarantee.specs.Rows.{InText, RepliedTo, finalPool, FewFaulty, Names, Says, SetUpBy, rows, Kept, Guarantee, InMemory}
+use Rattle.guarantee.specs.Rows.{InText, RepliedTo, ShownRow, finalPool, FewFaulty, Names, Says, SetupTaken, rows, Kept, Meant, Delivered, ReadOff, Guarantee, InMemory}
 use Rattle.guarantee.proofs.Laws.{count-none}
 use Rattle.guarantee.proofs.Lines.{Legible, legible}
 use Rattle.guarantee.proofs.Schedules.{AllLegible, Schedule}
 use Rattle.guarantee.proofs.Rows.{signed-number, entered-view, rows-kept}
-use Rattle.guarantee.proofs.Texts.{view-told, Told, answer-told, rowAt, out-at}
+use Rattle.guarantee.proofs.Texts.{view-told, Told, answer-told, rowAt, benchAt, bench-is, out-at}
 
-legible-at : (S : List (List ℕ)) (L : List (Option Line)) → ReadAll S L → AllLegible L
-legible-at [] [] r n l e = absurd (none≢some e)
-legible-at (s ∷ S) (x ∷ L) r zero l e = subst Legible (some-injective e) (legible s x (r .0))
-legible-at (s ∷ S) (x ∷ L) r (suc n) l e = legible-at S L (r .1) n l e
+legible-from : (b : Bench) (S : List (List ℕ)) (L : List (Option Line)) → ReadAll b S L → (n : ℕ) (l : Option Line) → getElem? L n ≡ some l → Legible (benchAt b L n .notices) l
+unfolding benchAt
+legible-from b [] [] r n l e = absurd (none≢some e)
+legible-from b (s ∷ S) (x ∷ L) r zero l e = subst (Legible (b .notices)) (some-injective e) (legible (b .notices) s x (r .0))
+legible-from b (s ∷ S) (x ∷ L) r (suc n) l e = legible-from (step b x .bench) S L (r .1) n l e
+
+legible-at : (S : List (List ℕ)) (L : List (Option Line)) → ReadAll newBench S L → AllLegible L
+legible-at S L r n l e = subst (λ b. Legible (b .notices) l) (sym (bench-is L n)) (legible-from newBench S L r n l e)
 
 -- a schedule that has a line is not empty
-some-bytes : (schedule : List ℕ) (L : List (Option Line)) → ReadAll (lines schedule) L → (n : ℕ) {l : Option Line} → getElem? L n ≡ some l → length schedule ≡ 0 → ⊥
+some-bytes : (schedule : List ℕ) (L : List (Option Line)) → ReadAll newBench (lines schedule) L → (n : ℕ) {l : Option Line} → getElem? L n ≡ some l → length schedule ≡ 0 → ⊥
 unfolding lines
 some-bytes [] [] r n e f = none≢some e
 some-bytes (c ∷ S) L r n e f = omega arith
 
-module _ (schedule out : List ℕ) (printed : Printed schedule out) (short : length schedule ≤ 65536) (L : List (Option Line)) (reads : ReadAll (lines schedule) L) (first members sender faulty : ℕ) (start : SetUpBy L (InText out) first members sender faulty) where
+module _ (schedule out : List ℕ) (printed : Printed schedule out) (short : length schedule ≤ 65536) (L : List (Option Line)) (reads : ReadAll newBench (lines schedule) L)
+    (first members : ℕ) (senders : List ℕ) (faulty : ℕ) (start : SetupTaken L (InText out) first members senders faulty) where
   out-is : out ≡ headerText ++ rowsFrom 1 newBench L
   out-is =
       printed .prints ∙ ap (λ t. headerText ++ t)
       (ap₂ (λ x y. if x || y then refusedRow else rowsFrom 1 newBench (printed .reading)) (ne-eqb (length schedule) 0 (some-bytes schedule L reads first (start .line))) (le-ltb 65536 (length schedule) short)
-      ∙ ap (rowsFrom 1 newBench) (read-all-one (lines schedule) (printed .reading) L (printed .reads short) reads))
+      ∙ ap (rowsFrom 1 newBench) (read-all-one newBench (lines schedule) (printed .reading) L (printed .reads short) reads))
 
   row-at : (n : ℕ) → getElem? (lines out) (suc n) ≡ rowAt (suc n) (after L n) (getElem? L n)
   row-at n = ap (λ t. getElem? (lines t) (suc n)) out-is ∙ out-at L n
@@ -80,52 +84,92 @@ module _ (schedule out : List ℕ) (printed : Printed schedule out) (short : len
   replies : (n : ℕ) {r : Reply} (b : ReplyOf n r) (a : Answer) → b .answer ≡ a → RepliedTo L n (record { who = r .who; answer = a; number = b .number })
   replies n {r} b a e = subst (λ a. RepliedTo L n (record { who = r .who; answer = a; number = b .number })) e (b .row)
 
-  same : (n k : ℕ) (a : Answer) {number : ℕ} (b : ReplyOf n (record { who = k; answer = a; number = number })) → b .answer ≡ a → Names L a (b .number) → Says L (RepliedTo L) n k a
-  same n k a b e names = record { number = b .number; row = replies n b a e; names = names }
+  same : (n : ℕ) {r : Reply} (b : ReplyOf n r) (a : Answer) → b .answer ≡ a → Names L a (b .number) → Says L (RepliedTo L) n (r .who) a
+  same n b a e names = record { number = b .number; row = replies n b a e; names = names }
 
-  set-up : SetUpBy L (RepliedTo L) first members sender faulty
-  set-up = let b = reply-of first _ (start .taken .row) in record { line = start .line; taken = same first sender taken b (b .told) tt }
+  set-up : SetupTaken L (RepliedTo L) first members senders faulty
+  set-up = let b = reply-of first _ (start .taken .row) in record { line = start .line; taken = same first b taken (b .told) tt }
 
   abbrev S : Schedule
-  S = record { L = L; reads = legible-at (lines schedule) L reads; first = first; members = members; sender = sender; faulty = faulty; start = set-up }
+  S = record { L = L; reads = legible-at (lines schedule) L reads; first = first; members = members; senders = senders; faulty = faulty; start = set-up }
 
   module _ (few : FewFaulty L members faulty) where
     fits : (v : View) → T (isView controllers v) → (v .joined < 2 ^ 16) × (v .left < 2 ^ 16)
     fits v t = says-view controllers v .sound t .0
 
-    -- what a row says in the text, it says
-    said : (n k : ℕ) (a : Answer) → T (follower faulty k) → Says L (InText out) n k a → Says L (RepliedTo L) n k a
-    said n k taken t s = let b = reply-of n _ (s .row) in same n k taken b (b .told) tt
+    -- what a row says in the text was answered, but for the notice of a delivery
+    said : (n k : ℕ) (a : Answer) → T (follower faulty k) → Says L (InText out) n k a → (b : Answer) × Meant a b × Says L (RepliedTo L) n k b
+    said n k taken t s = let b = reply-of n _ (s .row) in (taken, refl, same n b taken (b .told) tt)
     said n k (signed x) t s =
         let b = reply-of n _ (s .row) in
         let (y, e, f) = b .told in
         let here : getElem? (finalPool L) (b .number) ≡ some x = ap (getElem? (finalPool L)) f ∙ s .names in
         let q : y ≡ x = some-injective (sym (signed-number S n k y (b .number) (replies n b (signed y) e)) ∙ here) in
-        same n k (signed x) b (e ∙ ap signed q) here
+        (signed x, refl, same n b (signed x) (e ∙ ap signed q) here)
     said n k (entered v) t s =
         let b = reply-of n _ (s .row) in
         let (u, e, f) = b .told in
         let here = entered-view S few n k (b .number) u t (replies n b (entered u) e) in
-        same n k (entered v) b (e ∙ ap entered (view-told u v (fits u here) (fits v (s .names)) f)) (s .names)
-    said n k (delivered m) t s = let b = reply-of n _ (s .row) in same n k (delivered m) b (b .told) tt
-    said n k left t s = let b = reply-of n _ (s .row) in same n k left b (b .told) tt
-    said n k quiet t s = let b = reply-of n _ (s .row) in same n k quiet b (b .told) tt
-    said n k (refused r) t s = let b = reply-of n _ (s .row) in same n k (refused r) b (b .told) tt
+        (entered v, refl, same n b (entered v) (e ∙ ap entered (view-told u v (fits u here) (fits v (s .names)) f)) (s .names))
+    said n k (delivered i m) t s = let b = reply-of n _ (s .row) in let (notice, e) = b .told in (delivered notice m, (notice, refl), same n b (delivered notice m) e tt)
+    said n k left t s = let b = reply-of n _ (s .row) in (left, refl, same n b left (b .told) tt)
+    said n k quiet t s = let b = reply-of n _ (s .row) in (quiet, refl, same n b quiet (b .told) tt)
+    said n k (refused r) t s = let b = reply-of n _ (s .row) in (refused r, refl, same n b (refused r) (b .told) tt)
 
-    back : (n k : ℕ) (s : Stmt) → T (follower faulty k) → Says L (RepliedTo L) n k (signed s) → Says L (InText out) n k (signed s)
-    back n k s t p = record { number = p .number; row = shown n _ (p .row); names = p .names }
+    -- what was answered is shown
+    shows : (n k : ℕ) (a : Answer) → Says L (RepliedTo L) n k a → Says L (ShownRow L out) n k a
+    shows n k a p = record { number = p .number; row = record { reply = p .row; row = shown n _ (p .row) }; names = p .names }
 
-    kept : Kept L (RepliedTo L) members sender faulty
+    answers : (n k : ℕ) (a : Answer) → Says L (ShownRow L out) n k a → Says L (RepliedTo L) n k a
+    answers n k a p = record { number = p .number; row = p .row .reply; names = p .names }
+
+    kept : Kept L (RepliedTo L) members senders faulty
     kept = rows-kept S few
 
-    printed-kept : Kept L (InText out) members sender faulty
+    printed-kept : Kept L (ShownRow L out) members senders faulty
     printed-kept =
-        let o : Observed = rows L (RepliedTo L) members sender faulty in
-        record { promises = carried o (Says L (InText out)) (o .recordOf) said back (λ k n t. refl) (kept .promises); noConflict = carried-no-conflict o (Says L (InText out)) (o .recordOf) said back (λ k n t. refl) (kept .noConflict) }
+        let o : Observed = rows L (RepliedTo L) members senders faulty in
+        record {
+          promises = carried o (Says L (ShownRow L out)) (o .recordOf) (λ n k a t. answers n k a) (λ n k s t. shows n k (signed s)) (λ k n t. refl) (kept .promises);
+          noConflict = carried-no-conflict o (Says L (ShownRow L out)) (o .recordOf) (λ n k a t. answers n k a) (λ n k s t. shows n k (signed s)) (λ k n t. refl) (kept .noConflict);
+        }
+
+    -- ---- of the rows alone
+
+    -- a line has one reply
+    one-notice : (n k i j m m′ : ℕ) → Says L (RepliedTo L) n k (delivered i m) → Says L (RepliedTo L) n k (delivered j m′) → i ≡ j
+    one-notice n k i j m m′ p q =
+        let e : delivered i m ≡ delivered j m′ = ap (λ r. r .answer) (sym (p .row .reply) ∙ ap (λ l. step (after L n) l .reply) (some-injective (sym (p .row .there) ∙ q .row .there)) ∙ q .row .reply) in
+        cc (e)
+
+    -- a delivery in a ring of one notice is of notice 0
+    of-first : length senders ≡ 1 → (n k m : ℕ) → Delivered out faulty n k m → Says L (RepliedTo L) n k (delivered 0 m)
+    of-first one n k m d =
+        let b = reply-of n _ (d .row) in
+        let (notice, e) = b .told in
+        let s = same n b (delivered notice m) e tt in
+        let first : notice ≡ 0 = omega (arith, one, kept .promises .ofSetup notice n k m (d .follows, s)) in
+        subst (λ i. Says L (RepliedTo L) n k (delivered i m)) first s
+
+    read-off : ReadOff L out members senders faulty
+    unfolding NoConflict
+    read-off = record {
+      answered = λ n k a t s. let (b, e, r) = said n k a t s in (b, e, shows n k b r);
+      oneNotice = λ n k i j m m′ p q. one-notice n k i j m m′ (answers n k (delivered i m) p) (answers n k (delivered j m′) q);
+      signed = λ n k number row.
+          let b = reply-of n _ row in
+          let (s, e, f) = b .told in
+          let here = signed-number S n k s (b .number) (replies n b (signed s) e) in
+          (s, ap (getElem? (finalPool L)) (sym f) ∙ here, shows n k (signed s) (same n b (signed s) e here));
+      noConflict = λ n k t s. let b = reply-of n _ (s .row) in kept .noConflict n k t (same n b (refused conflict) (b .told) tt);
+      consistency = λ one i j m n k m′ d d′. kept .promises .consistency 0 i j m n k m′ (d .follows, of-first one i j m d) (d′ .follows, of-first one n k m′ d′);
+      noDuplication = λ one i n k m m′ d d′. kept .promises .noDuplication 0 i n k m m′ (d .follows, of-first one i k m d) (d′ .follows, of-first one n k m′ d′);
+    }
 
 -- WHAT IS PROMISED HOLDS OF THE ROWS THAT ARE PRINTED
 pub guaranteed : Guarantee
-guaranteed = printed-kept
+guaranteed schedule out printed short L reads first members senders faulty start few =
+    (printed-kept schedule out printed short L reads first members senders faulty start few, read-off schedule out printed short L reads first members senders faulty start few)
 
 -- and of what a run of the bench leaves in memory that has room for it
 pub left-in-memory : InMemory

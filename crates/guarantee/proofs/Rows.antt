@@ -17,7 +17,7 @@ use lib.ListN.{length, getElem?}
 use Rattle.protocol.specs.Lists.{if_then_else_}
 use Rattle.protocol.specs.View.{controllers, View, isView}
 use Rattle.protocol.specs.Statement.{Stmt, prepare}
-use Rattle.protocol.specs.Evidence.{Certificate}
+use Rattle.protocol.specs.Evidence.{senderOf, Certificate}
 use Rattle.protocol.specs.Controller.{Answer, signed, entered, delivered, refused, conflict}
 use Rattle.protocol.specs.Call.{ringOf}
 use Rattle.protocol.specs.Run.{call, turnCall, signing, signedIn, Run, event, returned, TurnAnswers, IsRun}
@@ -37,7 +37,7 @@ use Rattle.guarantee.proofs.Links.{Comes}
 use Rattle.guarantee.proofs.Schedules.{place-up, place-next, Schedule, place, u, valid, every, run, effect-at, comes, passes, linked, acts-late, From, late, from-line, admitted-at, pooled-statements, is-run}
 
 module _ (S : Schedule) where
-  open Schedule S using (L, reads, first, members, sender, faulty, start)
+  open Schedule S using (L, reads, first, members, senders, faulty, start)
 
   abbrev R : Run
   R = run S
@@ -131,7 +131,7 @@ module _ (S : Schedule) where
     kept : Promises (observed R)
     kept = promises is
 
-    has-entered : (k : ℕ) (v : View) → HasEntered (rows L (RepliedTo L) members sender faulty) k v → HasEntered (observed R) k v
+    has-entered : (k : ℕ) (v : View) → HasEntered (rows L (RepliedTo L) members senders faulty) k v → HasEntered (observed R) k v
     has-entered k v (inl h) = inl h
     has-entered k v (inr (n, (t, s))) = inr (at n, (t, turn-at n k (entered v) tt t (s .row) .turns))
 
@@ -140,26 +140,29 @@ module _ (S : Schedule) where
         let (H, h, e) = entered-top is t (turn-at n k (entered v) tt t r .turns) in
         subst (λ v. T (isView controllers v)) e (top-is-view is h)
 
-    promised : Promises (rows L (RepliedTo L) members sender faulty)
+    promised : Promises (rows L (RepliedTo L) members senders faulty)
     promised = record {
-      consistency = λ i j m n k m′ (t, s) (t′, s′). kept .consistency (at i) j m (at n) k m′ (t, turn-at i j (delivered m) tt t (s .row) .turns) (t′, turn-at n k (delivered m′) tt t′ (s′ .row) .turns);
-      noDuplication = λ i n k m m′ (t, s) (t′, s′).
-          let a = turn-at i k (delivered m) tt t (s .row) in
-          let b = turn-at n k (delivered m′) tt t′ (s′ .row) in
-          same-row i n k (delivered m) (delivered m′) a b (kept .noDuplication (at i) (at n) k m m′ (t, a .turns) (t′, b .turns));
-      integrity = λ n k m t (t′, s).
-          let (j, l, u) = kept .integrity (at n) k m t (t′, turn-at n k (delivered m) tt t′ (s .row) .turns) in
-          let (i, e, r) = row-of j sender (prepare sender m) u in
+      ofSetup = λ notice n k m (t, s). kept .ofSetup notice (at n) k m (t, turn-at n k (delivered notice m) tt t (s .row) .turns);
+      consistency = λ notice i j m n k m′ (t, s) (t′, s′).
+          kept .consistency notice (at i) j m (at n) k m′ (t, turn-at i j (delivered notice m) tt t (s .row) .turns) (t′, turn-at n k (delivered notice m′) tt t′ (s′ .row) .turns);
+      noDuplication = λ notice i n k m m′ (t, s) (t′, s′).
+          let a = turn-at i k (delivered notice m) tt t (s .row) in
+          let b = turn-at n k (delivered notice m′) tt t′ (s′ .row) in
+          same-row i n k (delivered notice m) (delivered notice m′) a b (kept .noDuplication notice (at i) (at n) k m m′ (t, a .turns) (t′, b .turns));
+      integrity = λ notice n k m t (t′, s).
+          let (j, l, u) = kept .integrity notice (at n) k m t (t′, turn-at n k (delivered notice m) tt t′ (s .row) .turns) in
+          let sender : ℕ = senderOf senders notice in
+          let (i, e, r) = row-of j sender (prepare sender notice m) u in
           (i, earlier i n (omega (arith, e, l)), r);
       comparableViews = λ j k u v a b. kept .comparableViews j k u v (has-entered j u a) (has-entered k v b);
-      storedIsKept = λ H m n k v h q (t, s) g i l.
+      storedIsKept = λ notice H m n k v h q (t, s) g i l.
           let a = turn-at n k (entered v) tt t (s .row) in
           let more = pooled-statements S in
-          subst (λ x. Certificate (ringOf members) sender (x .statements) m) (linked S i (omega (arith, a .later)) .seats k t)
-          (kept .storedIsKept H m (at n) k v (mono more h) (signed-mono more q) (t, a .turns) g (at i) (apart n i k (entered v) a l));
+          subst (λ x. Certificate (ringOf members) senders (x .statements) notice m) (linked S i (omega (arith, a .later)) .seats k t)
+          (kept .storedIsKept notice H m (at n) k v (mono more h) (signed-mono more q) (t, a .turns) g (at i) (apart n i k (entered v) a l));
     }
 
     -- WHAT IS PROMISED OF THE ROWS HOLDS
-    pub rows-kept : Kept L (RepliedTo L) members sender faulty
+    pub rows-kept : Kept L (RepliedTo L) members senders faulty
     unfolding NoConflict
     rows-kept = record { promises = promised; noConflict = λ n k t s. no-conflict is (at n) k t (turn-at n k (refused conflict) tt t (s .row) .turns) }

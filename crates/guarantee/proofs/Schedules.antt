@@ -29,7 +29,7 @@ use Rattle.schedule.specs.Line.{Line, setup}
 use Rattle.bench.specs.Bench.{newBench, step}
 use Rattle.guarantee.specs.Events.{follower, Occurrence, afterLine, occurs, eventsOf, lineAt, after, occurred, runOf}
 use Rattle.guarantee.specs.Link.{eventsBefore, RowOf, MakesUp}
-use Rattle.guarantee.specs.Rows.{RepliedTo, SetUpBy, finalPool, FewFaulty}
+use Rattle.guarantee.specs.Rows.{RepliedTo, SetupTaken, finalPool, FewFaulty}
 use Rattle.guarantee.proofs.Laws.{longer-on, at-in, at-cases, at-map, once-in}
 use Rattle.guarantee.proofs.Seats.{seatOf, Setup, setup-starts}
 use Rattle.guarantee.proofs.Lines.{Legible, Acts, Rests, Effect, startedBench, Starts, setupOf, setup-taken, new-line, Valid, started-seat, started-valid, effect}
@@ -75,10 +75,11 @@ module _ (L : List (Option Line)) where
 -- ---- a setup that is taken in line `first`
 
 abbrev pub AllLegible : List (Option Line) → Type 0
-AllLegible L = (n : ℕ) (l : Option Line) → getElem? L n ≡ some l → Legible l
+AllLegible L = (n : ℕ) (l : Option Line) → getElem? L n ≡ some l → Legible (after L n .notices) l
 
-module _ (L : List (Option Line)) (reads : AllLegible L) (first : ℕ) {members sender faulty : ℕ} (there : getElem? L first ≡ some (some (setup members sender faulty))) (starts : Starts (after L first) members sender faulty) where
-  started-at : after L (suc first) ≡ startedBench members sender faulty
+module _ (L : List (Option Line)) (reads : AllLegible L) (first : ℕ) {members : ℕ} {senders : List ℕ} {faulty : ℕ}
+    (there : getElem? L first ≡ some (some (setup members senders faulty))) (starts : Starts (after L first) members senders faulty) where
+  started-at : after L (suc first) ≡ startedBench members senders faulty
   unfolding after afterLine
   started-at = ap (afterLine (after L first)) there ∙ starts .after
 
@@ -96,14 +97,14 @@ pub record Schedule : Type 0 where
   pub reads : AllLegible L
   pub first : ℕ
   pub members : ℕ
-  pub sender : ℕ
+  pub senders : List ℕ
   pub faulty : ℕ
-  pub start : SetUpBy L (RepliedTo L) first members sender faulty
+  pub start : SetupTaken L (RepliedTo L) first members senders faulty
 
 module _ (S : Schedule) where
-  open Schedule S using (L, reads, first, members, sender, faulty, start)
+  open Schedule S using (L, reads, first, members, senders, faulty, start)
 
-  answered : step (after L first) (some (setup members sender faulty)) .reply .answer ≡ taken
+  answered : step (after L first) (some (setup members senders faulty)) .reply .answer ≡ taken
   answered =
       let r = start .taken .row in
       ap (λ l. step (after L first) l .reply .answer) (some-injective (sym (start .line) ∙ r .there)) ∙ ap (λ x. x .answer) (r .reply)
@@ -112,8 +113,8 @@ module _ (S : Schedule) where
   abbrev pub place : ℕ → ℕ
   place n = eventsBefore L n
 
-  pub begun : Starts (after L first) members sender faulty
-  begun = setup-taken (after L first) members sender faulty answered
+  pub begun : Starts (after L first) members senders faulty
+  begun = setup-taken (after L first) members senders faulty answered
 
   abbrev pub u : Setup
   u = setupOf begun
@@ -151,7 +152,7 @@ module _ (S : Schedule) where
       | yes g ↦ let (f, _) = fresh n (omega arith) in absurd (early n g f l e .idle (subst (λ b. Acts (step b l .reply .answer)) f t))
       | no g ↦
           let is : n ≡ first = omega arith in
-          let q : l ≡ some (setup members sender faulty) = some-injective (sym e ∙ ap (getElem? L) is ∙ start .line) in
+          let q : l ≡ some (setup members senders faulty) = some-injective (sym e ∙ ap (getElem? L) is ∙ start .line) in
           absurd (subst Acts (ap₂ (λ n l. step (after L n) l .reply .answer) is q ∙ answered) t)
     ]
   ]
@@ -165,12 +166,12 @@ module _ (S : Schedule) where
   every = occurred L (length L)
 
   abbrev pub run : Run
-  run = runOf L members sender faulty
+  run = runOf L members senders faulty
 
   abbrev pub LinkedAt : ℕ → Type 0
   LinkedAt n = Linked every u (place n) (after L n)
 
-  first-link : Linked every u 0 (startedBench members sender faulty)
+  first-link : Linked every u 0 (startedBench members senders faulty)
   unfolding returned signedBefore follower
   first-link = record {
     seats = λ k t. let l = ltb→lt k controllers (and-first (ltb k controllers) (not (bit faulty k)) t) in ap seatOf (setup-starts u k l) ∙ sym (started-seat u k l);
@@ -254,7 +255,7 @@ module _ (S : Schedule) where
       }
 
   -- THE LINES OF A SCHEDULE MAKE UP A RUN
-  pub makes-up : MakesUp L first members sender faulty
+  pub makes-up : MakesUp L first members senders faulty
   makes-up = record {
     premises = premises;
     controllers = λ n k h t. ap (λ s. s .controller) (linked n h .seats k t);

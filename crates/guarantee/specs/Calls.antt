@@ -37,7 +37,7 @@ pub record EngineRun (run : Run) (k : ℕ) (e : ℕ → Engine) : Type 0 where
   -- "One taken setup starts every rule-follower": the first call, on a controller that is not set up, over any pool and record.
   pub fresh : Engine
   pub unset : controllerIs (fresh .last .controller) ≡ notSetUp
-  pub started : EngineCalls fresh (setupCall k (run .members) (run .sender)) (e 0)
+  pub started : EngineCalls fresh (setupCall k (run .members) (run .senders)) (e 0)
   -- What the run says of the pool's room is asked at the calls on k alone: controllers may share a pool or have one each.
   pub room : (n : ℕ) (c : Call) → event run n ≡ some (call k c) → run .room n ≡ hasRoom (poolOf (e n .pool))
   -- "Each call gets the controller and record that the last call on that rule-follower returned".
@@ -59,7 +59,7 @@ abbrev pub engineCalls : Run → (ℕ → ℕ → Engine) → Observed
 engineCalls run e = record {
   follows = run .follows;
   ring = ring run;
-  sender = run .sender;
+  senders = run .senders;
   statements = statements run;
   Answers = EngineAnswers run e;
   recordOf = λ k n. recordIn (e k n .pool) (e k n .ids);

@@ -24,7 +24,7 @@ abbrev pub isTaken : Answer → Bool
 isTaken taken = true
 isTaken (signed s) = false
 isTaken (entered v) = false
-isTaken (delivered m) = false
+isTaken (delivered i m) = false
 isTaken left = false
 isTaken quiet = false
 isTaken (refused r) = false
@@ -48,10 +48,10 @@ module _ (b : Bench) where
   -- A line that is unreadable or a further setup is no event.
   unfoldable pub eventsOf : Option Line → List Event
   eventsOf none = []
-  eventsOf (some (setup members sender faulty)) = []
+  eventsOf (some (setup members senders faulty)) = []
   eventsOf (some (join k)) = callOn k joinCall
   eventsOf (some (leave k)) = callOn k leaveCall
-  eventsOf (some (send k payload)) = callOn k (sendCall payload)
+  eventsOf (some (send k notice payload)) = callOn k (sendCall notice payload)
   eventsOf (some (give k n)) = if ltb n (length (b .pool)) then callOn k (addCall (getD (b .pool) n noStmt)) else []
   eventsOf (some (all k)) = if isFollower k && isTaken (giveAll b k .reply .answer) then map (λ s. call k (addCall s)) (missing b k) else []
   eventsOf (some (turn k)) = if isFollower k then call k turnCall ∷ [] else map signing (signedIn (turnAt b k .reply .answer))
@@ -73,12 +73,12 @@ unfoldable pub roomAt : Option Occurrence → Stmt → Bool
 roomAt none s = false
 roomAt (some o) s = hasRoom (o .pool) s
 
--- The run in which these come, where the setup that is taken has these members, this sender and this faulty set.
-abbrev pub runWith : List Occurrence → ℕ → ℕ → ℕ → Run
-runWith every members sender faulty = record {
+-- The run in which these come, where the setup that is taken has these members, these senders and this faulty set.
+abbrev pub runWith : List Occurrence → ℕ → List ℕ → ℕ → Run
+runWith every members senders faulty = record {
   follows = follower faulty;
   members = members;
-  sender = sender;
+  senders = senders;
   events = map (λ o. o .event) every;
   room = λ n. roomAt (getElem? every n);
 }
@@ -99,5 +99,5 @@ module _ (L : List (Option Line)) where
   occurred (suc n) = occurred n ++ occurs (after n) (lineAt n)
 
   -- The run of the schedule.
-  abbrev pub runOf : ℕ → ℕ → ℕ → Run
+  abbrev pub runOf : ℕ → List ℕ → ℕ → Run
   runOf = runWith (occurred (length L))

@@ -1,20 +1,20 @@
 -- What a call on a controller in lent memory comes to: the engine's call between loading and storing.
 -- Assumes nothing.
-use Prim.Native.Nat.{ℕ}
+use Prim.Native.Nat.{ℕ, _≤_}
 use native.Mathlib.Omega.{arith}
+use native.Mathlib.Decide.{decLt}
 use mathlib.Core.Path.{_≡_, refl, sym, ap, subst, _∙_}
-use native.Mathlib.Decide.{ℕ-discrete}
 use mathlib.Core.Bool.{Bool, true, false}
-use mathlib.Core.List.{List, [], _∷_}
-use Rattle.protocol.specs.Lists.{if_then_else_}
-use Rattle.protocol.specs.Statement.{Stmt, fieldRules}
+use mathlib.Core.List.{List, []}
+use Rattle.protocol.specs.Statement.{Stmt}
 use Rattle.protocol.specs.Controller as controller
 use Rattle.protocol.specs.Call as call
+use Rattle.protocol.specs.Turn.{turn}
 use Rattle.protocol.specs.Pool.{hasRoom}
+use Rattle.protocol.proofs.Unchanged.{Idle, Stays, setup-stays, join-stays, leave-stays, send-stays, turn-stays}
 use Rattle.statements.specs.declared.ReadStatement.{ReadStatement}
 use Rattle.statements.specs.Meaning.{stmtOf}
 use Rattle.statements.specs.Promise.{ReadOf}
-use Rattle.statements.proofs.Fits.{keeps-fits}
 use Rattle.engine.specs.declared.Controller.{Controller}
 use Rattle.engine.specs.declared.Outcome.{Outcome}
 use Rattle.engine.specs.declared.Answer.{Answer}
@@ -22,78 +22,120 @@ use Rattle.engine.specs.declared.Answer.the-variants.{Taken, Signed, Entered, D
 use Rattle.engine.specs.declared.Refusal.the-variants.{BadStatement, OutOfPlace}
 use Rattle.pool.specs.Pool.{recordLen, recordIn, poolOf}
 use Rattle.engine.specs.Meaning.{controllerIs, answerIs}
-use Rattle.engine.specs.Promise.{Change, unchanged, Meets, Calls, Starts, IsRefused, addedOf}
-use Rattle.engine.proofs.Requests.{refused}
-use Rattle.host.specs.Statement.{IsStatement}
+use Rattle.engine.specs.Promise.{Change, unchanged, NumbersAfter, Meets, Calls, Starts, IsRefused, startedOf, signedOf, addedOf, AddsFor}
+use Rattle.engine.proofs.Requests.{refused-so}
 use Rattle.host.proofs.Written.{not-read, is-statement}
-use Rattle.host.specs.Memory.{controllerAt}
-use Rattle.host.specs.Host.{answerNumber, valueNumber, Hosted, Fresh, SetUpOn, SetsUp, CallOn, TurnOn, TakesTurn, AddOn, NoneOn, noStatement, AddsText}
-use Rattle.host.specs.Stored.{Finished}
+use Rattle.host.specs.Memory.{readyIn, noticesIn, controllerAt}
+use Rattle.host.specs.Host.{answerNumber, valueWords, Hosted, Fresh, SetUpOn, SetsUp, CallOn, Joins, Leaves, Sends, TurnOn, TakesTurn, AddOn, noStatement, AddsText}
+use Rattle.host.specs.Stored.{Finished, NoneFor}
 
--- ---- a refusal
+-- ---- where nothing was done
 
--- an answer of number 6 is a refusal
-six : (W : List ℕ) (a : Answer) → answerNumber a ≡ 6 → IsRefused (answerIs W a)
+-- answers from 4 on: left, quiet, refused
+idle : (W : List ℕ) (a : Answer) → 4 ≤ answerNumber a → Idle (answerIs W a)
 unfolding answerNumber answerIs
-six W Taken e = absurd (omega arith)
-six W (Signed n) e = absurd (omega arith)
-six W (Entered v) e = absurd (omega arith)
-six W (Delivered m) e = absurd (omega arith)
-six W Left e = absurd (omega arith)
-six W Quiet e = absurd (omega arith)
-six W (Refused r) e = tt
+idle W Taken e = absurd (omega arith)
+idle W (Signed n) e = absurd (omega arith)
+idle W (Entered v) e = absurd (omega arith)
+idle W (Delivered i m) e = absurd (omega arith)
+idle W Left e = tt
+idle W Quiet e = tt
+idle W (Refused r) e = tt
 
-pub is-six : (W : List ℕ) (a : Answer) → IsRefused (answerIs W a) → answerNumber a ≡ 6
+-- a refusal is one of them
+pub is-idle : (W : List ℕ) (a : Answer) → IsRefused (answerIs W a) → 4 ≤ answerNumber a
 unfolding answerNumber answerIs
-is-six W Taken t = absurd t
-is-six W (Signed n) t = absurd t
-is-six W (Entered v) t = absurd t
-is-six W (Delivered m) t = absurd t
-is-six W Left t = absurd t
-is-six W Quiet t = absurd t
-is-six W (Refused r) t = refl
+is-idle W Taken t = absurd t
+is-idle W (Signed n) t = absurd t
+is-idle W (Entered v) t = absurd t
+is-idle W (Delivered i m) t = absurd t
+is-idle W Left t = absurd t
+is-idle W Quiet t = absurd t
+is-idle W (Refused r) t = omega arith
 
--- after it controller and record are as they were
-pub as-before : {W R : List ℕ} {c : Controller} {o : controller.Outcome} {p : Change} {r : Outcome} {W′ R′ : List ℕ} → Meets W R c o p r W′ R′ → answerNumber (r .answer) ≡ 6 → (r .controller ≡ c) × (R′ ≡ R)
-as-before {W} {R} {c} {o} {p} {r} {W′} {R′} m e = let q = m .refused (subst IsRefused (m .answer) (six W′ (r .answer) e)) in (q .0, q .1)
+-- the record stays then
+module _ (W R R′ : List ℕ) where
+  started-idle : (a : controller.Answer) → Idle a → NumbersAfter W R (startedOf a) R′ → R′ ≡ R
+  started-idle controller.left i n = n
+  started-idle controller.quiet i n = n
+  started-idle (controller.refused r) i n = n
+
+  signed-idle : (a : controller.Answer) → Idle a → NumbersAfter W R (signedOf a) R′ → R′ ≡ R
+  signed-idle controller.left i n = n
+  signed-idle controller.quiet i n = n
+  signed-idle (controller.refused r) i n = n
+
+  added-idle : (a : controller.Answer) (s : Stmt) → Idle a → NumbersAfter W R (addedOf a s) R′ → R′ ≡ R
+  added-idle controller.left s i n = n
+  added-idle controller.quiet s i n = n
+  added-idle (controller.refused r) s i n = n
+
+module _ {W R : List ℕ} {c : Controller} {o : controller.Outcome} {p : Change} {r : Outcome} {W′ R′ : List ℕ} (m : Meets W R c o p r W′ R′) (i : 4 ≤ answerNumber (r .answer)) where
+  pub is-answer : Idle (o .answer)
+  is-answer = subst Idle (m .answer) (idle W′ (r .answer) i)
+
+  -- and the controller before the call is one that the call may leave
+  pub as-before : Stays (controllerIs c) (recordIn W R) o → Meets W R c o p (record { answer = r .answer; controller = c }) W′ R′
+  as-before s = record {
+    answer = m .answer;
+    number = m .number;
+    controller = sym (s .stays is-answer .0);
+    numbers = m .numbers;
+    statements = m .statements;
+    pool = m .pool;
+    refused = λ t. (refl, m .refused t .1, m .refused t .2);
+  }
 
 -- ---- the two ways in which a call ends
 
-module _ (o : Outcome) (F : List ℕ) (v : ℕ) (n : ℕ) (e : n ≡ answerNumber (o .answer)) (q : v ≡ valueNumber (o .answer)) where
-  pub was-refused : n ≡ 6 → Finished o F n F (v ∷ [])
-  was-refused s = record { answered = e; valued = ap (λ x. x ∷ []) q; held = λ f. absurd (f s); refused = λ _. refl }
+module _ (o : Outcome) (F value : List ℕ) (n : ℕ) (e : (n ≡ answerNumber (o .answer)) × (value ≡ valueWords (o .answer))) where
+  pub was-idle : 4 ≤ n → Finished o F n F value
+  was-idle l = record { answered = e .0; valued = e .1; held = λ h. absurd (omega arith); idle = λ _. refl }
 
-  pub was-kept : (n ≡ 6 → ⊥) → (F′ : List ℕ) → controllerAt F′ ≡ o .controller → Finished o F n F′ (v ∷ [])
-  was-kept f F′ h = record { answered = e; valued = ap (λ x. x ∷ []) q; held = λ _. h; refused = λ s. absurd (f s) }
+  pub was-kept : (F′ : List ℕ) → controllerAt F′ ≡ o .controller → (4 ≤ n → ⊥) → Finished o F n F′ value
+  was-kept F′ h l = record { answered = e .0; valued = e .1; held = λ _. h; idle = λ k. absurd (l k) }
 
 -- ---- the calls
 
 module _ {o : Outcome} {F : List ℕ} {n : ℕ} {F′ value : List ℕ} (c : Controller) (e : c ≡ controllerAt F) (f : Finished o F n F′ value) where
   -- what the engine promised of the loaded controller holds of the memory
-  pub hosted : (Met : Controller → Outcome → Type 0) (R R′ : List ℕ) → Met c o → (answerNumber (o .answer) ≡ 6 → (o .controller ≡ c) × (R′ ≡ R)) → Hosted (Met (controllerAt F)) F R n F′ R′ value
-  hosted Met R R′ m b = record {
-    outcome = o;
-    met = subst (λ x. Met x o) e m;
-    answered = f .answered;
-    valued = f .valued;
-    held = elim (ℕ-discrete n 6) [
-      | yes s ↦ ap controllerAt (f .refused s) ∙ sym e ∙ sym (b (sym (f .answered) ∙ s) .0)
-      | no s ↦ f .held s
-    ];
-    refused = λ s. (f .refused s, b (sym (f .answered) ∙ s) .1);
-  }
+  hosted : (Met : Controller → Outcome → Type 0) (R R′ : List ℕ) → Met c o → (4 ≤ answerNumber (o .answer) → Met c (record { answer = o .answer; controller = c }) × (R′ ≡ R)) → Hosted (Met (controllerAt F)) F R n F′ R′ value
+  hosted Met R R′ m b = elim (decLt n 4) [
+    | yes l ↦ record { outcome = o; met = subst (λ x. Met x o) e m; answered = f .answered; valued = f .valued; held = f .held l; idle = λ h. absurd (omega arith) }
+    | no l ↦ (let k : 4 ≤ answerNumber (o .answer) = omega (arith, f .answered) in record {
+      outcome = record { answer = o .answer; controller = controllerAt F };
+      met = subst (λ x. Met x (record { answer = o .answer; controller = x })) e (b k .0);
+      answered = f .answered;
+      valued = f .valued;
+      held = ap controllerAt (f .idle (omega arith));
+      idle = λ h. (f .idle (omega arith), b k .1);
+    })
+  ]
 
-  pub setup-hosted : {R R′ : List ℕ} (number members sender : ℕ) → SetUpOn number members sender R R′ c o → SetsUp F R number members sender n F′ R′ value
+  pub setup-hosted : {R R′ : List ℕ} (number members : ℕ) (senders : List ℕ) → SetUpOn number members senders R R′ c o → SetsUp F R number members senders n F′ R′ value
   unfolding Starts
-  setup-hosted {R} {R′} number members sender m = hosted (SetUpOn number members sender R R′) R R′ m (as-before (m []))
+  setup-hosted {R} {R′} number members senders m =
+      hosted (SetUpOn number members senders R R′) R R′ m
+      (λ k. (λ W. as-before (m W) k (setup-stays (controllerIs c) (recordIn W R) number members senders), started-idle [] R R′ (call.setup (controllerIs c) (recordIn [] R) number members senders .answer) (is-answer (m []) k) (m [] .numbers)))
 
   -- the requests, which have no use for a record
-  pub call-hosted : (R : List ℕ) (g : controller.Controller → List Stmt → controller.Outcome) → Calls (g (controllerIs c)) c o → Hosted (CallOn g R R (controllerAt F)) F R n F′ R value
+  called : (R : List ℕ) (g : controller.Controller → List Stmt → controller.Outcome) → ((X : List Stmt) → Stays (controllerIs c) X (g (controllerIs c) X)) → Calls (g (controllerIs c)) c o
+      → Hosted (CallOn g R R (controllerAt F)) F R n F′ R value
   unfolding Calls
-  call-hosted R g m = hosted (CallOn g R R) R R (λ W. m W R) (as-before (m [] R))
+  called R g s m = hosted (CallOn g R R) R R (λ W. m W R) (λ k. (λ W. as-before (m W R) k (s (recordIn W R)), refl))
+
+  pub join-hosted : (R : List ℕ) → Calls (call.requestJoin (controllerIs c)) c o → Joins F R n F′ R value
+  join-hosted R m = called R call.requestJoin (join-stays (controllerIs c)) m
+
+  pub leave-hosted : (R : List ℕ) → Calls (call.requestLeave (controllerIs c)) c o → Leaves F R n F′ R value
+  leave-hosted R m = called R call.requestLeave (leave-stays (controllerIs c)) m
+
+  pub send-hosted : (R : List ℕ) (i m : ℕ) → Calls (λ X. call.requestSend (controllerIs c) X i m) c o → Sends F R i m n F′ R value
+  send-hosted R i m k = called R (λ d X. call.requestSend d X i m) (λ X. send-stays (controllerIs c) X i m) k
 
   pub turn-hosted : {W R W′ R′ : List ℕ} → TurnOn W R W′ R′ c o → TakesTurn W W′ F R n F′ R′ value
-  turn-hosted {W} {R} {W′} {R′} m = hosted (TurnOn W R W′ R′) R R′ m (as-before m)
+  turn-hosted {W} {R} {W′} {R′} m =
+      hosted (TurnOn W R W′ R′) R R′ m (λ k. (as-before m k (turn-stays (controllerIs c) (recordIn W R) (hasRoom (poolOf W))), signed-idle W R R′ (turn (controllerIs c) (recordIn W R) (hasRoom (poolOf W)) .answer) (is-answer m k) (m .numbers)))
 
 pub fresh : (F R : List ℕ) (c : Controller) → controllerIs c ≡ controller.notSetUp → controllerAt F ≡ c → recordLen R ≡ 0 → Fresh F R
 fresh F R c p e l = record { controller = ap controllerIs e ∙ p; statements = l }
@@ -109,50 +151,41 @@ module _ (c : Controller) (X : List Stmt) where
   unfolding noStatement controllerIs
   none-ready e = rw e
 
-  -- a statement that breaks a field rule is refused as none is
-  add-none : (room : Stmt → Bool) (s : Stmt) → fieldRules 16 s ≡ false → call.add (controllerIs c) X room s ≡ noStatement (controllerIs c) X
-  unfolding noStatement controllerIs call.add
-  add-none room s e = rw e
+module _ (ready : Bool) where
+  pub none-before : ready ≡ false → NoneFor ready (Refused OutOfPlace)
+  none-before h = record { each = λ c e W R. subst (λ o. Meets W R c o unchanged (record { answer = Refused OutOfPlace; controller = c }) W R) (sym (none-unready c (recordIn W R) (e ∙ h))) (refused-so W R c (record { answer = Refused OutOfPlace; controller = c }) OutOfPlace refl refl) }
 
-  nothing-added : (s : Stmt) → addedOf (noStatement (controllerIs c) X .answer) s ≡ unchanged
-  unfolding noStatement controllerIs
-  nothing-added s = go (c .ready)
-    where
-      go : (b : Bool) → addedOf ((if b then call.refuse (controllerIs c) X controller.badStatement else call.refuse (controllerIs c) X controller.outOfPlace) .answer) s ≡ unchanged
-      go true = refl
-      go false = refl
+  pub none-after : ready ≡ true → NoneFor ready (Refused BadStatement)
+  none-after h = record { each = λ c e W R. subst (λ o. Meets W R c o unchanged (record { answer = Refused BadStatement; controller = c }) W R) (sym (none-ready c (recordIn W R) (e ∙ h))) (refused-so W R c (record { answer = Refused BadStatement; controller = c }) BadStatement refl refl) }
 
-pub none-before : (c : Controller) {r : Outcome} → (r .answer ≡ Refused OutOfPlace) × (r .controller ≡ c) → c .ready ≡ false → Calls (noStatement (controllerIs c)) c r
-none-before c p e = refused c OutOfPlace (p .0) (p .1) (λ X. none-unready c X e)
+-- S was read by the controller's number of notices, and a was told
+module _ (F S B : List ℕ) (b : Bool) (b-is : b ≡ readyIn F) (k : ℕ) (k-is : k ≡ noticesIn F) (r : ReadStatement) (q : ReadOf S k B r) (a : Answer) (n : ℕ) (value : List ℕ) (t : (n ≡ answerNumber a) × (value ≡ valueWords a)) (W R : List ℕ) where
+  p : ReadOf S (noticesIn F) B r
+  p = subst (λ m. ReadOf S m B r) k-is q
 
-pub none-after : (c : Controller) {r : Outcome} → (r .answer ≡ Refused BadStatement) × (r .controller ≡ c) → c .ready ≡ true → Calls (noStatement (controllerIs c)) c r
-none-after c p e = refused c BadStatement (p .0) (p .1) (λ X. none-ready c X e)
-
-module _ (S : List ℕ) (r : ReadStatement) (p : ReadOf S r) {o : Outcome} {F : List ℕ} {n : ℕ} {F′ value : List ℕ} (W R : List ℕ) (c : Controller) (e : c ≡ controllerAt F) (h : Finished o F n F′ value) where
-  -- S is no text of a statement
-  pub unread-hosted : r .ok ≡ false → Calls (noStatement (controllerIs c)) c o → AddsText S W W F R n F′ R value
-  unfolding Calls
-  unread-hosted k m = record {
-    statement = λ s. absurd (not-read S r p k s);
-    none = λ f. hosted c e h (NoneOn W R W R) R R (m W R) (as-before (m W R));
+  -- it is no text of a statement
+  pub unread-hosted : r .ok ≡ false → NoneFor b a → AddsText S W W F R n R value
+  unfolding controllerAt
+  unread-hosted e m = record {
+    statement = λ s. absurd (not-read (noticesIn F) S B r p e s);
+    none = λ f. record { outcome = record { answer = a; controller = controllerAt F }; met = m .each (controllerAt F) (sym b-is) W R; answered = t .0; valued = t .1; held = refl; idle = λ _. (refl, refl) };
   }
 
-  -- S was read
-  module _ (W′ R′ : List ℕ) (k : r .ok ≡ true) (m : AddOn W R W′ R′ (stmtOf (r .statement)) c o) where
-    same : (s : IsStatement S) → stmtOf (r .statement) ≡ s .statement
-    same s = p .back (s .statement) (keeps-fits (s .statement) (s .rules)) (s .is) .1
+  -- it is
+  module _ (W′ R′ : List ℕ) (e : r .ok ≡ true) (m : AddsFor b k W R (stmtOf (r .statement) B) a W′ R′) where
+    added : AddOn W R W′ R′ (stmtOf (r .statement) B) (controllerAt F) (record { answer = a; controller = controllerAt F })
+    unfolding controllerAt
+    added = m .each (controllerAt F) (sym b-is) (sym k-is)
 
-    broken : (b : Bool) → fieldRules 16 (stmtOf (r .statement)) ≡ b → (IsStatement S → ⊥) → fieldRules 16 (stmtOf (r .statement)) ≡ false
-    broken true q f = absurd (f (is-statement S r p k q))
-    broken false q f = q
-
-    nothing-met : fieldRules 16 (stmtOf (r .statement)) ≡ false → NoneOn W R W′ R′ c o
-    nothing-met q =
-        subst (λ x. Meets W R c (noStatement (controllerIs c) (recordIn W R)) x o W′ R′) (nothing-added c (recordIn W R) (stmtOf (r .statement)))
-        (subst (λ z. Meets W R c z (addedOf (z .answer) (stmtOf (r .statement))) o W′ R′) (add-none c (recordIn W R) (hasRoom (poolOf W)) (stmtOf (r .statement)) q) m)
-
-    pub add-hosted : AddsText S W W′ F R n F′ R′ value
+    pub add-hosted : AddsText S W W′ F R n R′ value
     add-hosted = record {
-      statement = λ s. hosted c e h (AddOn W R W′ R′ (s .statement)) R R′ (subst (λ x. AddOn W R W′ R′ x c o) (same s) m) (as-before m);
-      none = λ f. hosted c e h (NoneOn W R W′ R′) R R′ (nothing-met (broken (fieldRules 16 (stmtOf (r .statement))) refl f)) (as-before m);
+      statement = λ s. record {
+        outcome = record { answer = a; controller = controllerAt F };
+        met = subst (λ x. AddOn W R W′ R′ x (controllerAt F) (record { answer = a; controller = controllerAt F })) (p .back (s .statement) (s .rules) (s .is) .1) added;
+        answered = t .0;
+        valued = t .1;
+        held = refl;
+        idle = λ l. (refl, added-idle W R R′ (call.add (controllerIs (controllerAt F)) (recordIn W R) (hasRoom (poolOf W)) (stmtOf (r .statement) B) .answer) (stmtOf (r .statement) B) (is-answer added (omega (arith, t .0))) (added .numbers));
+      };
+      none = λ f. absurd (f (is-statement (noticesIn F) S B r p e));
     }

@@ -2,7 +2,7 @@
 -- Assumes nothing.
 use mathlib.Core.Path.{_≡_}
 use mathlib.Core.List.{List, [], _∷_}
-use Prim.Native.Nat.{ℕ}
+use Prim.Native.Nat.{ℕ, _≤_}
 use Rattle.protocol.specs.Statement.{Stmt}
 use Rattle.protocol.specs.Controller as controller
 use Rattle.protocol.specs.Call as call
@@ -15,10 +15,10 @@ use Rattle.engine.specs.declared.Answer.{Answer}
 use Rattle.engine.specs.declared.Answer.the-variants.{Taken, Signed, Entered, Delivered, Left, Quiet, Refused}
 use Rattle.views.specs.View.{wordOf}
 use Rattle.pool.specs.Pool.{recordLen, recordIn, poolOf}
-use Rattle.engine.specs.Meaning.{controllerIs, answerIs}
+use Rattle.engine.specs.Meaning.{controllerIs, signedNumber, answerIs}
 use Rattle.engine.specs.Promise.{unchanged, Meets, Starts, Turns, Adds, Called}
 use Rattle.host.specs.Statement.{IsStatement}
-use Rattle.host.specs.Memory.{controllerAt}
+use Rattle.host.specs.Memory.{noticesIn, controllerAt}
 
 -- ---- answers in numbers
 
@@ -27,15 +27,15 @@ abbrev pub valueWord : controller.Value → ℕ
 valueWord (controller.number n) = n
 valueWord (controller.view v) = wordOf v
 
--- The pool number of what was signed.
-abbrev pub signedNumber : Answer → ℕ
-signedNumber Taken = 0
-signedNumber (Signed n) = n
-signedNumber (Entered v) = 0
-signedNumber (Delivered m) = 0
-signedNumber Left = 0
-signedNumber Quiet = 0
-signedNumber (Refused r) = 0
+-- The notice that was delivered.
+abbrev pub noticeNumber : Answer → ℕ
+noticeNumber Taken = 0
+noticeNumber (Signed n) = 0
+noticeNumber (Entered v) = 0
+noticeNumber (Delivered i m) = i
+noticeNumber Left = 0
+noticeNumber Quiet = 0
+noticeNumber (Refused r) = 0
 
 -- The answer's number, 0 to 6, and the value beside it. The pool does not matter to them.
 unfoldable pub answerNumber : Answer → ℕ
@@ -44,6 +44,10 @@ answerNumber a = controller.answerWord (answerIs [] a)
 unfoldable pub valueNumber : Answer → ℕ
 valueNumber a = valueWord (controller.answerValue (signedNumber a) (answerIs [] a))
 
+-- What is told beside the answer's number: the value and the notice.
+abbrev pub valueWords : Answer → List ℕ
+valueWords a = valueNumber a ∷ noticeNumber a ∷ []
+
 -- ---- calls
 
 -- A call on the controller of F with the record R has the answer and the value, and leaves F′ and R′: they are those of an outcome that the engine's promise `Met` allows.
@@ -51,21 +55,21 @@ pub record Hosted (Met : Outcome → Type 0) (F R : List ℕ) (answer : ℕ) (F�
   pub outcome : Outcome
   pub met : Met outcome
   pub answered : answer ≡ answerNumber (outcome .answer)
-  pub valued : value ≡ valueNumber (outcome .answer) ∷ []
+  pub valued : value ≡ valueWords (outcome .answer)
   pub held : controllerAt F′ ≡ outcome .controller
-  -- "as before", to the last word.
-  pub refused : answer ≡ 6 → (F′ ≡ F) × (R′ ≡ R)
+  -- Where nothing was done (left, quiet, refused) both are "as before", to the last word.
+  pub idle : 4 ≤ answer → (F′ ≡ F) × (R′ ≡ R)
 
 -- The memory means a controller before setup, with an empty record.
 pub record Fresh (F R : List ℕ) : Type 0 where
   pub controller : controllerIs (controllerAt F) ≡ controller.notSetUp
   pub statements : recordLen R ≡ 0
 
-abbrev pub SetUpOn : ℕ → ℕ → ℕ → List ℕ → List ℕ → Controller → Outcome → Type 0
-SetUpOn number members sender R R′ c r = Starts (λ X. call.setup (controllerIs c) X number members sender) R c r R′
+abbrev pub SetUpOn : ℕ → ℕ → List ℕ → List ℕ → List ℕ → Controller → Outcome → Type 0
+SetUpOn number members senders R R′ c r = Starts (λ X. call.setup (controllerIs c) X number members senders) R c r R′
 
-abbrev pub SetsUp : List ℕ → List ℕ → ℕ → ℕ → ℕ → ℕ → List ℕ → List ℕ → List ℕ → Type 0
-SetsUp F R number members sender answer F′ R′ = Hosted (SetUpOn number members sender R R′ (controllerAt F)) F R answer F′ R′
+abbrev pub SetsUp : List ℕ → List ℕ → ℕ → ℕ → List ℕ → ℕ → List ℕ → List ℕ → List ℕ → Type 0
+SetsUp F R number members senders answer F′ R′ = Hosted (SetUpOn number members senders R R′ (controllerAt F)) F R answer F′ R′
 
 -- The requests, over any pool: f is what the protocol says of the controller and its record.
 abbrev pub CallOn : (controller.Controller → List Stmt → controller.Outcome) → List ℕ → List ℕ → Controller → Outcome → Type 0
@@ -77,8 +81,8 @@ Joins F R answer F′ R′ = Hosted (CallOn call.requestJoin R R′ (controllerA
 abbrev pub Leaves : List ℕ → List ℕ → ℕ → List ℕ → List ℕ → List ℕ → Type 0
 Leaves F R answer F′ R′ = Hosted (CallOn call.requestLeave R R′ (controllerAt F)) F R answer F′ R′
 
-abbrev pub Sends : List ℕ → List ℕ → ℕ → ℕ → List ℕ → List ℕ → List ℕ → Type 0
-Sends F R payload answer F′ R′ = Hosted (CallOn (λ d X. call.requestSend d X payload) R R′ (controllerAt F)) F R answer F′ R′
+abbrev pub Sends : List ℕ → List ℕ → ℕ → ℕ → ℕ → List ℕ → List ℕ → List ℕ → Type 0
+Sends F R notice payload answer F′ R′ = Hosted (CallOn (λ d X. call.requestSend d X notice payload) R R′ (controllerAt F)) F R answer F′ R′
 
 -- A turn over the pool W and the record R, which leaves W′ and R′.
 abbrev pub TurnOn : List ℕ → List ℕ → List ℕ → List ℕ → Controller → Outcome → Type 0
@@ -98,10 +102,10 @@ noStatement d X = call.afterSetup d X (call.refuse d X controller.badStatement)
 abbrev pub NoneOn : List ℕ → List ℕ → List ℕ → List ℕ → Controller → Outcome → Type 0
 NoneOn W R W′ R′ c r = Meets W R c (noStatement (controllerIs c) (recordIn W R)) unchanged r W′ R′
 
--- An addition by the text S: of the statement whose text it is, if that keeps the field rules.
-pub record AddsText (S W W′ F R : List ℕ) (answer : ℕ) (F′ R′ value : List ℕ) : Type 0 where
-  pub statement : (s : IsStatement S) → Hosted (AddOn W R W′ R′ (s .statement) (controllerAt F)) F R answer F′ R′ value
-  pub none : (IsStatement S → ⊥) → Hosted (NoneOn W R W′ R′ (controllerAt F)) F R answer F′ R′ value
+-- An addition by the text S: of the statement whose text it is, if that keeps the field rules of the controller's ring. No addition changes the controller's words.
+pub record AddsText (S W W′ F R : List ℕ) (answer : ℕ) (R′ value : List ℕ) : Type 0 where
+  pub statement : (s : IsStatement (noticesIn F) S) → Hosted (AddOn W R W′ R′ (s .statement) (controllerAt F)) F R answer F R′ value
+  pub none : (IsStatement (noticesIn F) S → ⊥) → Hosted (NoneOn W R W′ R′ (controllerAt F)) F R answer F R′ value
 
 -- ---- calls of a run
 
@@ -110,5 +114,5 @@ pub record AddsText (S W W′ F R : List ℕ) (answer : ℕ) (F′ R′ value : 
 pub record HostCalled (W F R : List ℕ) (k : Call) (answer : ℕ) (value W′ F′ R′ : List ℕ) : Type 0 where
   pub told : Answer
   pub answered : answer ≡ answerNumber told
-  pub valued : value ≡ valueNumber told ∷ []
+  pub valued : value ≡ valueWords told
   pub called : Called W R (controllerAt F) k (record { answer = told; controller = controllerAt F′ }) W′ R′

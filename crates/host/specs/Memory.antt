@@ -1,7 +1,8 @@
--- What the memory of a controller means. It is 32 words; the controller's record is lent beside them, as crates/pool/specs/Pool.antt has it.
--- Word 0 says whether it is set up, 1 is its number, 2 its initial view, 3 the sender, 4 its binding (0 unbound, 1 bound, else barred) and 5 the bound payload, 6 to 9
--- whether it delivered, whether join, leave and send were requested, 10 is the payload to send and 12 how many views it entered; words 16 to 31 are those views; the
--- others mean nothing.
+-- What the memory of a controller means. It is 224 words; the controller's record is lent beside them, as crates/pool/specs/Pool.antt has it.
+-- Word 0 says whether it is set up, 1 is its number, 2 its initial view, 3 how many notices there are, 4 the set of those delivered and 5 the set of those whose send was
+-- requested, bit j for notice j, 6 and 7 whether join and leave were requested, 8 the set of the notices that are bound and 9 of those that are barred, and 12 how many views
+-- it entered; words 16 to 31 are those views; the others of the first 32 mean nothing. Word 32 + j is the sender of notice j, 96 + j the payload to which it is bound and
+-- 160 + j the payload to send.
 -- Every memory means some controller: each word is read as the value that it can stand for, and nothing has to hold of it.
 -- Assumes nothing.
 use mathlib.Core.Bool.{Bool, not}
@@ -9,14 +10,13 @@ use mathlib.Core.List.{List}
 use Prim.Native.Nat.{ℕ, _+_, _/_, _%_}
 use lib.Dec.{eqb}
 use lib.ListN.{getD}
-use Rattle.protocol.specs.Lists.{if_then_else_}
-use Rattle.views.specs.Table.{table}
+use Rattle.protocol.specs.Lists.{if_then_else_, listOf}
+use Rattle.protocol.specs.Sets.{bit}
 use Rattle.views.specs.declared.View.{View}
 use Rattle.views.specs.declared.History.{History}
 use Rattle.statements.specs.declared.Binding.{Binding}
 use Rattle.statements.specs.declared.Binding.the-variants.{Unbound, Bound, Barred}
-use Rattle.rules.specs.declared.OptionalPayload.{OptionalPayload}
-use Rattle.rules.specs.declared.OptionalPayload.the-variants.{Nothing, Payload}
+use Rattle.evidence.specs.declared.Notice.{Notice}
 use Rattle.engine.specs.declared.Controller.{Controller}
 
 abbrev pub heldNoView : View
@@ -30,27 +30,46 @@ heldIn w = record { joined = w % 4294967296; left = w / 4294967296 % 4294967296 
 abbrev pub says : ℕ → Bool
 says w = not (eqb w 0)
 
-abbrev pub bindingIn : ℕ → ℕ → Binding
-bindingIn n m = if eqb n 0 then Unbound else if eqb n 1 then Bound m else Barred
-
-abbrev pub sendIn : ℕ → ℕ → OptionalPayload
-sendIn n m = if eqb n 0 then Nothing else Payload m
+-- A notice that is in both sets is barred.
+abbrev pub bindingIn : Bool → Bool → ℕ → Binding
+bindingIn bound barred m = if barred then Barred else if bound then Bound m else Unbound
 
 -- The views that were entered.
 unfoldable pub enteredIn : List ℕ → History
-enteredIn F = record { views = table 16 (λ i. heldIn (getD F (16 + i) 0)); len = getD F 12 0 }
+enteredIn F = record { views = listOf 16 (λ i. heldIn (getD F (16 + i) 0)); len = getD F 12 0 }
+
+-- ---- of notice j
+
+unfoldable pub senderIn : List ℕ → ℕ → ℕ
+senderIn F j = getD F (32 + j) 0 % 256
+
+unfoldable pub noticeIn : List ℕ → ℕ → Notice
+noticeIn F j = record { binding = bindingIn (bit (getD F 8 0) j) (bit (getD F 9 0) j) (getD F (96 + j) 0) }
+
+unfoldable pub sendIn : List ℕ → ℕ → ℕ
+sendIn F j = getD F (160 + j) 0
+
+-- Whether it is set up, and how many notices there are: all that an addition asks of a controller.
+
+abbrev pub readyIn : List ℕ → Bool
+readyIn F = says (getD F 0 0)
+
+abbrev pub noticesIn : List ℕ → ℕ
+noticesIn F = getD F 3 0
 
 -- The controller that the words F mean.
 unfoldable pub controllerAt : List ℕ → Controller
 controllerAt F = record {
-  ready = says (getD F 0 0);
+  ready = readyIn F;
   number = getD F 1 0 % 256;
   init = heldIn (getD F 2 0);
-  sender = getD F 3 0 % 256;
+  notices = noticesIn F;
+  senders = listOf 64 (senderIn F);
   entered = enteredIn F;
-  binding = bindingIn (getD F 4 0) (getD F 5 0);
-  delivered = says (getD F 6 0);
-  joining = says (getD F 7 0);
-  leaving = says (getD F 8 0);
-  sending = sendIn (getD F 9 0) (getD F 10 0);
+  held = listOf 64 (noticeIn F);
+  sends = listOf 64 (sendIn F);
+  delivered = getD F 4 0;
+  requested = getD F 5 0;
+  joining = says (getD F 6 0);
+  leaving = says (getD F 7 0);
 }

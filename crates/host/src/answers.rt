@@ -1,11 +1,17 @@
 // What a call answers, as numbers, and the memory after it.
 ghost use mathlib.Core.Path.{_≡_};
-ghost use Rattle.host.specs.Host.{answerNumber, valueNumber};
+ghost use Rattle.host.specs.Host.{answerNumber, valueNumber, noticeNumber, valueWords};
 ghost use Rattle.host.specs.Stored.{Finished};
 use crate::held;
 use crate::held::FIELDS;
 use engine::Answer;
 use engine::Outcome;
+
+// How many words are told beside an answer: the value, and the notice of a delivery.
+pub const VALUES: usize = 2;
+
+// The first answer that leaves a controller as it was: left, then quiet and refused.
+const LEFT: u8 = 4;
 
 fn answer_number(a: Answer) -> u8
     ensures { λ r. ⌜ r ≡ answerNumber a ⌝ }
@@ -14,7 +20,7 @@ fn answer_number(a: Answer) -> u8
         Answer::Taken => 0,
         Answer::Signed(_) => 1,
         Answer::Entered(_) => 2,
-        Answer::Delivered(_) => 3,
+        Answer::Delivered(_, _) => 3,
         Answer::Left => 4,
         Answer::Quiet => 5,
         Answer::Refused(_) => 6,
@@ -28,22 +34,43 @@ fn value_number(a: Answer) -> u64
         Answer::Taken => 0,
         Answer::Signed(n) => n as u64,
         Answer::Entered(v) => v.word(),
-        Answer::Delivered(m) => m,
+        Answer::Delivered(_, m) => m,
         Answer::Left => 0,
         Answer::Quiet => 0,
         Answer::Refused(r) => engine::refusal_number(r),
     }
 }
 
-// Tells the answer of o, and keeps its controller; a refusal leaves the memory as it was.
-pub fn finish(fields: &mut [u64; FIELDS], o: Outcome, value: &mut [u64; 1]) -> u8
+fn notice_number(a: Answer) -> u64
+    ensures { λ r. ⌜ r ≡ noticeNumber a ⌝ }
+{
+    match a {
+        Answer::Taken => 0,
+        Answer::Signed(_) => 0,
+        Answer::Entered(_) => 0,
+        Answer::Delivered(j, _) => j as u64,
+        Answer::Left => 0,
+        Answer::Quiet => 0,
+        Answer::Refused(_) => 0,
+    }
+}
+
+// Tells the answer: its number, and beside it the value and the notice.
+pub fn tell(a: Answer, value: &mut [u64; VALUES]) -> u8
+    ensures { λ r. ⌜ (r ≡ answerNumber a) × (now (value .exit) ≡ valueWords a) ⌝ }
+{
+    let told = [value_number(a), notice_number(a)];
+    *value = told;
+    answer_number(a)
+}
+
+// Tells the answer of o, and keeps its controller; where nothing was done the memory stays as it was.
+pub fn finish(fields: &mut [u64; FIELDS], o: Outcome, value: &mut [u64; VALUES]) -> u8
     ensures { λ r. ⌜ Finished o (now (fields .entry)) r (now (fields .exit)) (now (value .exit)) ⌝ }
 {
     let a = o.answer;
-    let told = [value_number(a)];
-    *value = told;
-    let n = answer_number(a);
-    if n == 6 {
+    let n = tell(a, value);
+    if n >= LEFT {
         return n;
     }
     let c = o.controller;

@@ -1,18 +1,17 @@
 // A controller that is kept in lent memory: specs/Memory.antt says what each word stands for.
 ghost use mathlib.Core.Path.{_≡_};
 ghost use Prim.Native.Nat.{_<_};
-ghost use Rattle.protocol.specs.Statement.{bindingPayload};
-ghost use Rattle.statements.specs.Meaning.{bindingIs};
-ghost use Rattle.host.specs.Memory.{heldIn, bindingIn, sendIn, enteredIn, controllerAt};
-ghost use Rattle.host.specs.Stored.{sendNumber, sendPayload, EnteredWords};
+ghost use lib.ListN.{length};
+ghost use Rattle.protocol.specs.Lists.{listOf};
+ghost use Rattle.protocol.specs.Sets.{bit};
+ghost use Rattle.host.specs.Memory.{heldIn, bindingIn, enteredIn, senderIn, noticeIn, sendIn, readyIn, noticesIn, controllerAt};
+ghost use Rattle.host.specs.Stored.{EnteredWords, Column, NoticeWords};
 use engine::Controller;
-use rules::OptionalPayload;
+use evidence::Notice;
 use statements::Binding;
+use statements::NOTICES;
 use views::History;
 use views::View;
-
-// How many words a controller is kept in.
-pub const FIELDS: usize = 32;
 
 // Where each field is.
 const READY: usize = 0;
@@ -21,27 +20,50 @@ const NUMBER: usize = 1;
 
 const INITIAL: usize = 2;
 
-const SENDER: usize = 3;
+const COUNT: usize = 3;
 
-const BINDING: usize = 4;
+const DELIVERED: usize = 4;
 
-const BOUND: usize = 5;
+const REQUESTED: usize = 5;
 
-const DELIVERED: usize = 6;
+const JOINING: usize = 6;
 
-const JOINING: usize = 7;
+const LEAVING: usize = 7;
 
-const LEAVING: usize = 8;
+// The notices that are bound and those that are barred.
+const BOUND: usize = 8;
 
-const SENDING: usize = 9;
-
-const SEND_PAYLOAD: usize = 10;
+const BARRED: usize = 9;
 
 // How many views were entered.
 const ENTERED: usize = 12;
 
 // Where their words start.
 const VIEWS: usize = 16;
+
+// Where the senders of the notices start, the payloads that are bound and the payloads to send.
+const SENDERS: usize = 32;
+
+const PAYLOADS: usize = 96;
+
+const SENDS: usize = 160;
+
+// How many words a controller is kept in.
+pub const FIELDS: usize = 224;
+
+// Whether the controller is set up: all that an addition asks of it, beside the number of its notices.
+pub fn is_ready(fields: &[u64; FIELDS]) -> bool
+    ensures { λ r. ⌜ r ≡ readyIn (now (fields .entry)) ⌝ }
+{
+    fields[READY] != 0
+}
+
+// How many notices the controller has.
+pub fn notice_count(fields: &[u64; FIELDS]) -> usize
+    ensures { λ r. ⌜ r ≡ noticesIn (now (fields .entry)) ⌝ }
+{
+    fields[COUNT] as usize
+}
 
 // The view that a word holds, whatever its bits.
 fn view_in(w: u64) -> View
@@ -53,25 +75,17 @@ fn view_in(w: u64) -> View
     }
 }
 
-fn binding_in(n: u64, payload: u64) -> Binding
-    ensures { λ r. ⌜ r ≡ bindingIn n payload ⌝ }
+// What notice j is bound to by the two sets and its payload.
+fn binding_in(bound: u64, barred: u64, j: usize, payload: u64) -> Binding
+    ensures { λ r. ⌜ r ≡ bindingIn (bit bound j) (bit barred j) payload ⌝ }
 {
-    if n == 0 {
-        return Binding::Unbound;
+    if statements::has(barred, j) {
+        return Binding::Barred;
     }
-    if n == 1 {
+    if statements::has(bound, j) {
         return Binding::Bound(payload);
     }
-    Binding::Barred
-}
-
-fn send_in(n: u64, payload: u64) -> OptionalPayload
-    ensures { λ r. ⌜ r ≡ sendIn n payload ⌝ }
-{
-    if n == 0 {
-        return OptionalPayload::Nothing;
-    }
-    OptionalPayload::Payload(payload)
+    Binding::Unbound
 }
 
 // The views that were entered.
@@ -91,22 +105,72 @@ fn entered_in(fields: &[u64; FIELDS]) -> History
     }
 }
 
+// The senders of the notices.
+fn senders_in(fields: &[u64; FIELDS]) -> [u8; NOTICES]
+    ensures { λ r. ⌜ r ≡ listOf 64 (senderIn (now (fields .entry))) ⌝ }
+{
+    let mut senders = [0u8; NOTICES];
+    let mut j = 0usize;
+    while j < NOTICES {
+        senders[j] = (fields[SENDERS + j] % 256) as u8;
+        j += 1;
+    }
+    senders
+}
+
+// Their bindings. Only the notices that are in a set are visited: a ring of few notices takes few steps.
+fn notices_in(fields: &[u64; FIELDS]) -> [Notice; NOTICES]
+    ensures { λ r. ⌜ r ≡ listOf 64 (noticeIn (now (fields .entry))) ⌝ }
+{
+    let mut notices = [Notice {
+        binding: Binding::Unbound,
+    }; NOTICES];
+    let bound = fields[BOUND];
+    let barred = fields[BARRED];
+    let some = statements::either(bound, barred);
+    let mut j = statements::next_in(some, 0);
+    while j < NOTICES {
+        let b = binding_in(bound, barred, j, fields[PAYLOADS + j]);
+        notices[j] = Notice { binding: b };
+        j = statements::next_in(some, j + 1);
+    }
+    notices
+}
+
+// Their payloads to send.
+fn sends_in(fields: &[u64; FIELDS]) -> [u64; NOTICES]
+    ensures { λ r. ⌜ r ≡ listOf 64 (sendIn (now (fields .entry))) ⌝ }
+{
+    let mut sends = [0u64; NOTICES];
+    let mut j = 0usize;
+    while j < NOTICES {
+        sends[j] = fields[SENDS + j];
+        j += 1;
+    }
+    sends
+}
+
 // The controller that the memory means.
 pub fn load(fields: &[u64; FIELDS]) -> Controller
     ensures { λ r. ⌜ r ≡ controllerAt (now (fields .entry)) ⌝ }
 {
     let entered = entered_in(fields);
+    let senders = senders_in(fields);
+    let held = notices_in(fields);
+    let sends = sends_in(fields);
     Controller {
-        ready: fields[READY] != 0,
+        ready: is_ready(fields),
         number: (fields[NUMBER] % 256) as u8,
         init: view_in(fields[INITIAL]),
-        sender: (fields[SENDER] % 256) as u8,
+        notices: notice_count(fields),
+        senders: senders,
         entered: entered,
-        binding: binding_in(fields[BINDING], fields[BOUND]),
-        delivered: fields[DELIVERED] != 0,
+        held: held,
+        sends: sends,
+        delivered: fields[DELIVERED],
+        requested: fields[REQUESTED],
         joining: fields[JOINING] != 0,
         leaving: fields[LEAVING] != 0,
-        sending: send_in(fields[SENDING], fields[SEND_PAYLOAD]),
     }
 }
 
@@ -124,12 +188,20 @@ fn word_of(v: View) -> u64
     views::of_halves(v.joined, v.left)
 }
 
+// How many words there are. A proof that a word was written asks for it.
+fn size(words: &[u64; FIELDS]) -> usize
+    ensures { λ _. ⌜ length (now (words .entry)) ≡ 224 ⌝ }
+{
+    let s = &words[..];
+    s.len()
+}
+
 // The words of the views that were entered, and how many they are.
-fn words_of(entered: History) -> [u64; FIELDS]
-    ensures { λ r. ⌜ EnteredWords entered r ⌝ }
+fn put_entered(words: &mut [u64; FIELDS], entered: History)
+    requires { ⌜ length (now words) ≡ 224 ⌝ }
+    ensures { λ _. ⌜ EnteredWords entered (now (words .exit)) ⌝ }
 {
     let views = entered.views;
-    let mut words = [0u64; FIELDS];
     words[ENTERED] = entered.len as u64;
     let mut i = 0usize;
     while i < View::LIMIT {
@@ -137,64 +209,94 @@ fn words_of(entered: History) -> [u64; FIELDS]
         words[VIEWS + i] = word_of(v);
         i += 1;
     }
-    words
 }
 
-fn binding_payload(b: Binding) -> u64
-    ensures { λ r. ⌜ r ≡ bindingPayload (bindingIs b) ⌝ }
+// The words of the senders.
+fn put_senders(words: &mut [u64; FIELDS], senders: [u8; NOTICES])
+    requires { ⌜ (length (now words) ≡ 224) × (length senders ≡ 64) ⌝ }
+    ensures { λ _. ⌜ Column 32 senderIn senders (now (words .entry)) (now (words .exit)) ⌝ }
 {
-    match b {
-        Binding::Unbound => 0,
-        Binding::Bound(m) => m,
-        Binding::Barred => 0,
+    let mut j = 0usize;
+    while j < NOTICES {
+        words[SENDERS + j] = wide_number(senders[j]);
+        j += 1;
     }
 }
 
-fn send_number(s: OptionalPayload) -> u64
-    ensures { λ r. ⌜ r ≡ sendNumber s ⌝ }
+// The words of the payloads to send.
+fn put_sends(words: &mut [u64; FIELDS], sends: [u64; NOTICES])
+    requires { ⌜ (length (now words) ≡ 224) × (length sends ≡ 64) ⌝ }
+    ensures { λ _. ⌜ Column 160 sendIn sends (now (words .entry)) (now (words .exit)) ⌝ }
 {
-    match s {
-        OptionalPayload::Nothing => 0,
-        OptionalPayload::Payload(_) => 1,
+    let mut j = 0usize;
+    while j < NOTICES {
+        words[SENDS + j] = sends[j];
+        j += 1;
     }
 }
 
-fn send_payload(s: OptionalPayload) -> u64
-    ensures { λ r. ⌜ r ≡ sendPayload s ⌝ }
+// The words of the bindings. The payload of a notice that is not bound is not read, so it is not written.
+fn put_bindings(words: &mut [u64; FIELDS], held: [Notice; NOTICES])
+    requires { ⌜ (length (now words) ≡ 224) × (length held ≡ 64) ⌝ }
+    ensures { λ _. ⌜ Column 96 noticeIn held (now (words .entry)) (now (words .exit)) ⌝ }
 {
-    match s {
-        OptionalPayload::Nothing => 0,
-        OptionalPayload::Payload(m) => m,
+    let mut bound = 0u64;
+    let mut barred = 0u64;
+    let mut j = 0usize;
+    while j < NOTICES {
+        let h = held[j];
+        let b = h.binding;
+        let n = statements::number_of(b);
+        if n == 0 {
+            j += 1;
+            continue;
+        }
+        if n == 1 {
+            words[PAYLOADS + j] = statements::bound_payload(b);
+            bound = statements::with_notice(bound, j);
+            j += 1;
+            continue;
+        }
+        barred = statements::with_notice(barred, j);
+        j += 1;
     }
+    words[BOUND] = bound;
+    words[BARRED] = barred;
 }
 
-// The words that mean c.
-fn fields_of(c: Controller) -> [u64; FIELDS]
-    ensures { λ r. ⌜ controllerAt r ≡ c ⌝ }
+// The words of the notices.
+fn put_notices(
+    words: &mut [u64; FIELDS],
+    senders: [u8; NOTICES],
+    held: [Notice; NOTICES],
+    sends: [u64; NOTICES],
+)
+    requires { ⌜ (length (now words) ≡ 224) × (length senders ≡ 64) × (length held ≡ 64) × (length sends ≡ 64) ⌝ }
+    ensures { λ _. ⌜ NoticeWords (now (words .entry)) senders held sends (now (words .exit)) ⌝ }
 {
-    let init = c.init;
-    let entered = c.entered;
-    let binding = c.binding;
-    let sending = c.sending;
-    let mut words = words_of(entered);
-    words[READY] = c.ready as u64;
-    words[NUMBER] = wide_number(c.number);
-    words[INITIAL] = word_of(init);
-    words[SENDER] = wide_number(c.sender);
-    words[BINDING] = statements::number_of(binding);
-    words[BOUND] = binding_payload(binding);
-    words[DELIVERED] = c.delivered as u64;
-    words[JOINING] = c.joining as u64;
-    words[LEAVING] = c.leaving as u64;
-    words[SENDING] = send_number(sending);
-    words[SEND_PAYLOAD] = send_payload(sending);
-    words
+    put_senders(words, senders);
+    put_sends(words, sends);
+    put_bindings(words, held);
 }
 
 // The memory means c from now on.
 pub fn store(fields: &mut [u64; FIELDS], c: Controller)
     ensures { λ _. ⌜ controllerAt (now (fields .exit)) ≡ c ⌝ }
 {
-    let words = fields_of(c);
-    *fields = words;
+    size(fields);
+    let init = c.init;
+    let entered = c.entered;
+    let senders = c.senders;
+    let held = c.held;
+    let sends = c.sends;
+    put_entered(fields, entered);
+    put_notices(fields, senders, held, sends);
+    fields[READY] = c.ready as u64;
+    fields[NUMBER] = wide_number(c.number);
+    fields[INITIAL] = word_of(init);
+    fields[COUNT] = c.notices as u64;
+    fields[DELIVERED] = c.delivered;
+    fields[REQUESTED] = c.requested;
+    fields[JOINING] = c.joining as u64;
+    fields[LEAVING] = c.leaving as u64;
 }

@@ -6,33 +6,17 @@ use mathlib.Core.List.{List, [], _∷_, map}
 use mathlib.Core.Option.{Option, some, none}
 use Prim.Native.Nat.{ℕ}
 use Rattle.protocol.specs.Lists.{isSome, firstOf}
-use Rattle.protocol.specs.View.{View}
 use Rattle.protocol.specs.Statement.{Stmt}
 use Rattle.protocol.specs.Evidence.{candidates}
 use Rattle.protocol.specs.Controller.{Controller}
 use Rattle.protocol.specs.Turn as turn
 use Rattle.rules.specs.declared.Situation.{Situation}
 use Rattle.rules.specs.declared.Action.{Action}
-use Rattle.rules.specs.declared.Action.the-variants.{Rest, Report, Enter, AgreeView, AgreeHistory, Ack, Store, Deliver, Join, Leave, Prepare}
-use Rattle.rules.specs.Actions.{actionIs, acts}
-use Rattle.rules.specs.Rules.{Owns, Lent, AllLent, Rule, firstAmong, Does}
+use Rattle.rules.specs.Actions.{acts}
+use Rattle.rules.specs.Rules.{Owns, Lent, AllLent, Rule, firstAmong, mergedBy, Does}
+use Rattle.rules.proofs.Applied.{doing, acts-is}
 
 -- ---- the first of several
-
--- it is told of an action whether something is done
-acts-is : (s : Situation) (H : List View) (a : Action) → isSome (actionIs s H a) ≡ acts a
-unfolding actionIs
-acts-is s H Rest = refl
-acts-is s H (Report u) = refl
-acts-is s H (Enter v b) = refl
-acts-is s H AgreeView = refl
-acts-is s H AgreeHistory = refl
-acts-is s H (Ack m) = refl
-acts-is s H (Store m) = refl
-acts-is s H (Deliver m) = refl
-acts-is s H Join = refl
-acts-is s H Leave = refl
-acts-is s H (Prepare m) = refl
 
 idle : (o : Option turn.Action) → isSome o ≡ false → o ≡ none
 idle none e = refl
@@ -56,25 +40,29 @@ skipped o l e = rw e
 abbrev pub Lends : Situation → List Lent → List Lent → Type 0
 Lends s K L = (d : Controller) (X : List Stmt) → AllLent s d X K → AllLent s d X L
 
+-- whether an action does something, told of what it has a controller do
+does-act : (s : Situation) (d : Controller) (X : List Stmt) (B : List ℕ) (a : Action) → isSome (doing s d X B a) ≡ acts a
+does-act s d X B a = acts-is s (candidates (d .ring) X) B (mergedBy d X) a
+
 module _ {K L : List Lent} {s : Situation} {rule : Rule} where
   pub one : (l : List Rule) {r : Action} → Does L s rule r → acts r ≡ true → Lends s K L → Does K s (firstAmong (rule ∷ l)) r
   unfolding firstAmong
   one l {r} m a lends = record {
-    means = λ d X k h. acted (actionIs s (candidates (d .ring) X) r) (map (λ f. f d X) l) (acts-is s (candidates (d .ring) X) r ∙ a) ∙ ap (λ o. firstOf (o ∷ map (λ f. f d X) l)) (m .means d X k (lends d X h));
+    means = λ d X B k t h. acted (doing s d X B r) (map (λ f. f d X) l) (does-act s d X B r ∙ a) ∙ ap (λ o. firstOf (o ∷ map (λ f. f d X) l)) (m .means d X B k t (lends d X h));
   }
 
   pub skip : (l : List Rule) {q r : Action} → Does L s rule q → acts q ≡ false → Lends s K L → Does K s (firstAmong l) r → Does K s (firstAmong (rule ∷ l)) r
   unfolding firstAmong
   skip l {q} m a lends n = record {
-    means = λ d X k h. n .means d X k h ∙ skipped (rule d X) (map (λ f. f d X) l) (sym (m .means d X k (lends d X h)) ∙ idle (actionIs s (candidates (d .ring) X) q) (acts-is s (candidates (d .ring) X) q ∙ a));
+    means = λ d X B k t h. n .means d X B k t h ∙ skipped (rule d X) (map (λ f. f d X) l) (sym (m .means d X B k t (lends d X h)) ∙ idle (doing s d X B q) (does-act s d X B q ∙ a));
   }
 
   pub last : {r : Action} → Does L s rule r → Lends s K L → Does K s (firstAmong (rule ∷ [])) r
   unfolding firstAmong
-  last m lends = record { means = λ d X k h. m .means d X k (lends d X h) ∙ alone (rule d X) }
+  last m lends = record { means = λ d X B k t h. m .means d X B k t (lends d X h) ∙ alone (rule d X) }
 
   pub others : {r : Action} → Does L s rule r → Lends s K L → Does K s rule r
-  others m lends = record { means = λ d X k h. m .means d X k (lends d X h) }
+  others m lends = record { means = λ d X B k t h. m .means d X B k t (lends d X h) }
 
 pub all-ten : {L : List Lent} {s : Situation} {r : Action}
     → Does L s (firstAmong (turn.rule1 ∷ turn.rule2 ∷ turn.rule3 ∷ turn.rule4 ∷ turn.rule5 ∷ turn.rule6 ∷ turn.rule7 ∷ turn.rule8 ∷ turn.rule9 ∷ turn.rule10 ∷ [])) r → Does L s turn.firstRule r

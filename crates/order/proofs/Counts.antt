@@ -22,7 +22,7 @@ sealed-some : {R : Ring} {X : List Stmt} {H : List View} → Sealed R X H → 0 
 sealed-some (start e) = omega (arith, ap length e)
 sealed-some (agreed g h t n v q) = omega (arith, ap length (h .begins))
 
-module _ (R : Ring) (sender : ℕ) (X : List Stmt) (C G : List ℕ) (e : Evidence) (k : Settled R sender X C G e) where
+module _ (R : Ring) (senders : List ℕ) (X : List Stmt) (C G P : List ℕ) (e : Evidence) (k : Settled R senders X C G P e) where
   pub some-candidate : 0 < e .count
   some-candidate =
       let m = candidates-exact R X (R .init) .1 (initial refl) in
@@ -30,5 +30,5 @@ module _ (R : Ring) (sender : ℕ) (X : List Stmt) (C G : List ℕ) (e : Evidenc
 
   pub some-view : 0 < e .length
   some-view =
-      let g = greatest-holds R sender X (rw (sym (k .of .conflict) ∙ k .agree) tt) .0 in
+      let g = greatest-holds R senders X (rw (sym (k .of .conflict) ∙ k .agree) tt) .0 in
       omega (arith, sealed-some g, ap length (k .of .greatest (k .agree)), views-count G (e .length))

@@ -1,7 +1,8 @@
 -- What a host calls are the calls of a run: crates/guarantee shows what is promised of it.
 -- Assumes nothing.
 use Prim.Native.Nat.{ℕ}
-use mathlib.Core.Path.{_≡_, sym, subst, _∙_}
+use native.Mathlib.Omega.{arith}
+use mathlib.Core.Path.{_≡_, sym, subst}
 use mathlib.Core.Bool.{Bool, true, false}
 use mathlib.Core.List.{List}
 use mathlib.Core.Option.{none}
@@ -16,9 +17,9 @@ use Rattle.engine.specs.Meaning.{controllerIs}
 use Rattle.engine.specs.Promise.{Starts, IsRefused, changeOf, Called}
 use Rattle.host.specs.Statement.{IsStatement}
 use Rattle.pool.specs.Pool.{recordIn}
-use Rattle.host.specs.Memory.{controllerAt}
+use Rattle.host.specs.Memory.{noticesIn, controllerAt}
 use Rattle.host.specs.Host.{Hosted, SetsUp, Joins, Leaves, Sends, TakesTurn, AddsText, noStatement, HostCalled}
-use Rattle.host.proofs.Hosting.{is-six}
+use Rattle.host.proofs.Hosting.{is-idle}
 
 barred : (c : Controller) (X : List Stmt) → IsRefused (noStatement (controllerIs c) X .answer)
 unfolding noStatement controllerIs
@@ -38,9 +39,9 @@ module _ {F R F′ R′ : List ℕ} {n : ℕ} {value : List ℕ} where
     called = subst (λ x. Called W R (controllerAt F) k (record { answer = h .outcome .answer; controller = x }) W′ R′) (sym (h .held)) c;
   }
 
-  pub setup-called : (number members sender : ℕ) → SetsUp F R number members sender n F′ R′ value → (W : List ℕ) → HostCalled W F R (run.setupCall number members sender) n value W F′ R′
+  pub setup-called : (number members : ℕ) (senders : List ℕ) → SetsUp F R number members senders n F′ R′ value → (W : List ℕ) → HostCalled W F R (run.setupCall number members senders) n value W F′ R′
   unfolding run.outcome changeOf Starts
-  setup-called number members sender h W = at-memory h (h .met W)
+  setup-called number members senders h W = at-memory h (h .met W)
 
   pub join-called : Joins F R n F′ R′ value → (W : List ℕ) → HostCalled W F R run.joinCall n value W F′ R′
   unfolding run.outcome changeOf
@@ -50,24 +51,23 @@ module _ {F R F′ R′ : List ℕ} {n : ℕ} {value : List ℕ} where
   unfolding run.outcome changeOf
   leave-called h W = at-memory h (h .met W)
 
-  pub send-called : (payload : ℕ) → Sends F R payload n F′ R′ value → (W : List ℕ) → HostCalled W F R (run.sendCall payload) n value W F′ R′
+  pub send-called : (notice payload : ℕ) → Sends F R notice payload n F′ R′ value → (W : List ℕ) → HostCalled W F R (run.sendCall notice payload) n value W F′ R′
   unfolding run.outcome changeOf
-  send-called payload h W = at-memory h (h .met W)
+  send-called notice payload h W = at-memory h (h .met W)
 
-  module _ {W W′ : List ℕ} where
-    pub turn-called : TakesTurn W W′ F R n F′ R′ value → HostCalled W F R run.turnCall n value W′ F′ R′
-    unfolding run.outcome changeOf
-    turn-called h = at-memory h (h .met)
+  pub turn-called : {W W′ : List ℕ} → TakesTurn W W′ F R n F′ R′ value → HostCalled W F R run.turnCall n value W′ F′ R′
+  unfolding run.outcome changeOf
+  turn-called h = at-memory h (h .met)
 
-    module _ {S : List ℕ} where
-      pub add-called : AddsText S W W′ F R n F′ R′ value → (s : IsStatement S) → HostCalled W F R (run.addCall (s .statement)) n value W′ F′ R′
-      unfolding run.outcome changeOf
-      add-called a s = let h = a .statement s in at-memory h (h .met)
+module _ {S W W′ F R R′ value : List ℕ} {n : ℕ} (a : AddsText S W W′ F R n R′ value) where
+  pub add-called : (s : IsStatement (noticesIn F) S) → HostCalled W F R (run.addCall (s .statement)) n value W′ F R′
+  unfolding run.outcome changeOf
+  add-called s = let h = a .statement s in at-memory h (h .met)
 
-      -- a text that is no statement is refused, and all is as before
-      pub unread-nothing : AddsText S W W′ F R n F′ R′ value → (IsStatement S → ⊥) → (F′ ≡ F) × (R′ ≡ R) × (W′ ≡ W)
-      unread-nothing a f =
-          let h = a .none f in
-          let t = barred (controllerAt F) (recordIn W R) in
-          let (p, q) = h .refused (h .answered ∙ is-six W′ (h .outcome .answer) (subst IsRefused (sym (h .met .answer)) t)) in
-          (p, q, h .met .refused t .2)
+  -- a text that is no statement is refused, and all is as before
+  pub unread-nothing : (IsStatement (noticesIn F) S → ⊥) → (R′ ≡ R) × (W′ ≡ W)
+  unread-nothing f =
+      let h = a .none f in
+      let t = barred (controllerAt F) (recordIn W R) in
+      let l = is-idle W′ (h .outcome .answer) (subst IsRefused (sym (h .met .answer)) t) in
+      (h .idle (omega (arith, h .answered)) .1, h .met .refused t .2)

@@ -11,7 +11,7 @@ use Rattle.pool.specs.Changes.{Appended}
 use Rattle.statements.specs.declared.Statement.{Statement}
 use Rattle.statements.specs.Meaning.{stmtOf}
 use Rattle.statements.specs.Text.{text}
-use Rattle.protocol.specs.Statement.{fieldRules}
+use Rattle.statements.specs.Promise.{keepsRules}
 use lib.Dec.{T, ltb, leb}
 use lib.ListN.{length}
 use lib.Seq.{sets}
@@ -22,19 +22,20 @@ abbrev pub placeNumber : Placed → ℕ
 placeNumber (At i) = i
 placeNumber Full = 512
 
--- The statement of S went into the pool W, as `placed` says, and W′ is the memory then: `pooledIn` names every word of it.
-pub record Went (S W W′ : List ℕ) (r : ℕ) : Type 0 where
+-- The statement of S, in a ring with this number of notices, went into the pool W, as `placed` says, and W′ is the memory then: `pooledIn` names every word of it.
+pub record Went (notices : ℕ) (S W W′ : List ℕ) (r : ℕ) : Type 0 where
   pub statement : Statement
-  pub rules : T (fieldRules 16 (stmtOf statement))
-  pub is : S ≡ text (stmtOf statement)
+  pub block : List ℕ
+  pub rules : T (keepsRules notices (stmtOf statement block))
+  pub is : S ≡ text (stmtOf statement block)
   pub placed : Placed
-  pub appended : Appended W W′ statement placed
+  pub appended : Appended W W′ statement block placed
   pub answer : r ≡ placeNumber placed
 
 -- Either the statement went in, or S is the text of none, and 513 says so.
-pub record AppendedText (S W : List ℕ) (r : ℕ) (W′ : List ℕ) : Type 0 where
-  pub went : IsStatement S → Went S W W′ r
-  pub refused : (IsStatement S → ⊥) → (r ≡ 513) × (W′ ≡ W)
+pub record AppendedText (notices : ℕ) (S W : List ℕ) (r : ℕ) (W′ : List ℕ) : Type 0 where
+  pub went : IsStatement notices S → Went notices S W W′ r
+  pub refused : (IsStatement notices S → ⊥) → (r ≡ 513) × (W′ ≡ W)
 
 -- The pool has a statement n, and `out` has room for its text.
 unfoldable pub textFits : List ℕ → ℕ → List ℕ → Bool

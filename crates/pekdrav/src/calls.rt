@@ -1,17 +1,17 @@
 // The engine's calls, one at a time, on a controller in lent memory. Its fields are one array and its record another, since the borrow checker covers no reference to a
 // struct; a host has both in one struct, and a thin wrapper around each of these. A call that has no use for its record is not lent it. Each answers 0 taken, 1 signed, 2 entered,
-// 3 delivered, 4 left, 5 quiet or 6 refused, and tells in `value` the pool number of what was signed, the entered view's word, the delivered payload, the refusal's number, or 0.
+// 3 delivered, 4 left, 5 quiet or 6 refused, and tells in `value` the pool number of what was signed, the entered view's word, the delivered payload, the refusal's number, or 0, and
+// beside it the notice that was delivered, or 0.
 ghost use mathlib.Core.List.{List};
 ghost use Prim.Native.Nat.{ℕ};
-ghost use Rattle.engine.specs.Promise.{Calls};
-ghost use Rattle.engine.specs.Meaning.{controllerIs};
-ghost use Rattle.host.specs.Host.{noStatement, Fresh, SetsUp, Joins, Leaves, Sends, TakesTurn, AddsText};
+ghost use Rattle.engine.specs.Meaning.{firstSenders};
+ghost use Rattle.host.specs.Host.{Fresh, SetsUp, Joins, Leaves, Sends, TakesTurn, AddsText};
 use engine::Controller;
-use engine::Outcome;
-use engine::Refusal;
 use host::FIELDS;
+use host::VALUES;
 use pool::POOL_WORDS;
 use pool::RECORD;
+use statements::NOTICES;
 
 // The memory means a controller before setup.
 #[no_mangle]
@@ -29,20 +29,21 @@ pub extern "C" fn pekdrav_raw_controller_setup(
     ids: &mut [u16; RECORD],
     number: u8,
     members: u16,
-    sender: u8,
-    value: &mut [u64; 1],
+    count: u8,
+    senders: &[u8; NOTICES],
+    value: &mut [u64; VALUES],
 ) -> u8
-    ensures { λ r. ⌜ SetsUp (now (fields .entry)) (now (ids .entry)) number members sender r (now (fields .exit)) (now (ids .exit)) (now (value .exit)) ⌝ }
+    ensures { λ r. ⌜ SetsUp (now (fields .entry)) (now (ids .entry)) number members (firstSenders (now (senders .entry)) count) r (now (fields .exit)) (now (ids .exit)) (now (value .exit)) ⌝ }
 {
     let c = host::load(fields);
-    let o = c.setup(ids, number, members, sender);
+    let o = c.setup(ids, number, members, count as usize, senders);
     host::finish(fields, o, value)
 }
 
 #[no_mangle]
 pub extern "C" fn pekdrav_raw_controller_join(
     fields: &mut [u64; FIELDS],
-    value: &mut [u64; 1],
+    value: &mut [u64; VALUES],
 ) -> u8
     ensures { λ r. ⌜ ((R : List ℕ) → Joins (now (fields .entry)) R r (now (fields .exit)) R (now (value .exit))) ⌝ }
 {
@@ -54,7 +55,7 @@ pub extern "C" fn pekdrav_raw_controller_join(
 #[no_mangle]
 pub extern "C" fn pekdrav_raw_controller_leave(
     fields: &mut [u64; FIELDS],
-    value: &mut [u64; 1],
+    value: &mut [u64; VALUES],
 ) -> u8
     ensures { λ r. ⌜ ((R : List ℕ) → Leaves (now (fields .entry)) R r (now (fields .exit)) R (now (value .exit))) ⌝ }
 {
@@ -66,46 +67,29 @@ pub extern "C" fn pekdrav_raw_controller_leave(
 #[no_mangle]
 pub extern "C" fn pekdrav_raw_controller_send(
     fields: &mut [u64; FIELDS],
+    notice: u8,
     payload: u64,
-    value: &mut [u64; 1],
+    value: &mut [u64; VALUES],
 ) -> u8
-    ensures { λ r. ⌜ ((R : List ℕ) → Sends (now (fields .entry)) R payload r (now (fields .exit)) R (now (value .exit))) ⌝ }
+    ensures { λ r. ⌜ ((R : List ℕ) → Sends (now (fields .entry)) R notice payload r (now (fields .exit)) R (now (value .exit))) ⌝ }
 {
     let c = host::load(fields);
-    let o = c.send(payload);
+    let o = c.send(notice as u64, payload);
     host::finish(fields, o, value)
 }
 
-// The refusal of what is no statement.
-fn unwritten(c: Controller) -> Outcome
-    ensures { λ r. ⌜ Calls (noStatement (controllerIs c)) c r ⌝ }
-{
-    if !c.ready {
-        return engine::refuse(c, Refusal::OutOfPlace);
-    }
-    engine::refuse(c, Refusal::BadStatement)
-}
-
-// Adds the statement whose text `line` is.
+// Adds the statement whose text `line` is in the controller's ring. No addition changes a controller, so its fields are only read.
 #[no_mangle]
 pub extern "C" fn pekdrav_raw_controller_add(
-    fields: &mut [u64; FIELDS],
+    fields: &[u64; FIELDS],
     ids: &mut [u16; RECORD],
     words: &mut [u64; POOL_WORDS],
     line: &[u8],
-    value: &mut [u64; 1],
+    value: &mut [u64; VALUES],
 ) -> u8
-    ensures { λ r. ⌜ AddsText (now (line .entry)) (now (words .entry)) (now (words .exit)) (now (fields .entry)) (now (ids .entry)) r (now (fields .exit)) (now (ids .exit)) (now (value .exit)) ⌝ }
+    ensures { λ r. ⌜ AddsText (now (line .entry)) (now (words .entry)) (now (words .exit)) (now (fields .entry)) (now (ids .entry)) r (now (ids .exit)) (now (value .exit)) ⌝ }
 {
-    let c = host::load(fields);
-    let r = statements::read(line);
-    if !r.ok {
-        let o = unwritten(c);
-        return host::finish(fields, o, value);
-    }
-    let st = r.statement;
-    let o = c.add(ids, words, st);
-    host::finish(fields, o, value)
+    host::add_text(fields, ids, words, line, value)
 }
 
 #[no_mangle]
@@ -113,7 +97,7 @@ pub extern "C" fn pekdrav_raw_controller_turn(
     fields: &mut [u64; FIELDS],
     ids: &mut [u16; RECORD],
     words: &mut [u64; POOL_WORDS],
-    value: &mut [u64; 1],
+    value: &mut [u64; VALUES],
 ) -> u8
     ensures { λ r. ⌜ TakesTurn (now (words .entry)) (now (words .exit)) (now (fields .entry)) (now (ids .entry)) r (now (fields .exit)) (now (ids .exit)) (now (value .exit)) ⌝ }
 {

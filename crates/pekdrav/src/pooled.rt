@@ -5,6 +5,7 @@ ghost use Rattle.pekdrav.specs.Pooled.{placeNumber, AppendedText, Texted
 use pool::CAPACITY;
 use pool::POOL_WORDS;
 use pool::Placed;
+use statements::BLOCK;
 
 // What is answered for a statement that has no room, and for a line that is none.
 const POOL_FULL: u16 = CAPACITY as u16;
@@ -20,22 +21,24 @@ fn place_number(p: Placed) -> u16
     }
 }
 
-// The number of the statement that `line` is, which goes to the end of the pool if it is not in it: its words and the number of
+// The number of the statement that `line` is in a ring of so many notices, which goes to the end of the pool if it is not in it: its words and the number of
 // statements are written, and no other. `POOL_FULL`, and the pool as it was, where it is full; `NO_STATEMENT`, and the pool as it was, where
 // `line` is the text of no statement that keeps the field rules.
 #[no_mangle]
-pub extern "C" fn pekdrav_pool_append(words: &mut [u64; POOL_WORDS], line: &[u8]) -> u16
-    ensures { λ r. ⌜ AppendedText (now (line .entry)) (now (words .entry)) r (now (words .exit)) ⌝ }
+pub extern "C" fn pekdrav_pool_append(
+    words: &mut [u64; POOL_WORDS],
+    line: &[u8],
+    notices: usize,
+) -> u16
+    ensures { λ r. ⌜ AppendedText notices (now (line .entry)) (now (words .entry)) r (now (words .exit)) ⌝ }
 {
-    let r = statements::read(line);
+    let mut block = [0u64; BLOCK];
+    let r = statements::read(line, notices, &mut block);
     if !r.ok {
         return NO_STATEMENT;
     }
     let st = r.statement;
-    if !statements::keeps_field_rules(st) {
-        return NO_STATEMENT;
-    }
-    let p = pool::append(words, st);
+    let p = pool::append(words, st, &block);
     place_number(p)
 }
 
@@ -56,6 +59,7 @@ pub extern "C" fn pekdrav_pool_text(words: &[u64; POOL_WORDS], n: u16, out: &mut
     if n as usize >= pool::pool_len(words) {
         return 0;
     }
-    let st = pool::get(words, n);
-    statements::write(st, out)
+    let mut block = [0u64; BLOCK];
+    let st = pool::get(words, n, &mut block);
+    statements::write(st, &block, out)
 }

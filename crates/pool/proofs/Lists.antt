@@ -8,9 +8,8 @@ use lib.Dec.{ltb}
 use lib.ListN.{length, getD, set, length-set}
 use lib.Seq.{getD-set-same, getD-set-other}
 use borrow.Author.Tests.{lt-ltb, le-ltb}
-use Rattle.protocol.specs.Lists.{if_then_else_}
-use Rattle.views.specs.Table.{table}
-use Rattle.views.proofs.Tables.{table-cong}
+use Rattle.protocol.specs.Lists.{if_then_else_, listOf}
+use Rattle.protocol.proofs.Numbered.{listOf-cong}
 use Rattle.pool.specs.Pool.{stmtAt, recordUpTo, recordLen, recordIn}
 use Rattle.pool.specs.Changes.{pushedTo, PushedTo, Emptied}
 use Rattle.pool.proofs.Records.{entry}
@@ -18,7 +17,7 @@ use Rattle.pool.proofs.Records.{entry}
 -- records of the same first numbers are the same
 pub same-numbers : (W R R′ : List ℕ) (n m : ℕ) → min n 512 ≡ min m 512 → ((i : ℕ) → i < min m 512 → getD R′ i 0 ≡ getD R i 0) → recordUpTo W R′ n ≡ recordUpTo W R m
 unfolding recordUpTo
-same-numbers W R R′ n m e q = ap (λ k. table k (entry W R′)) e ∙ table-cong (min m 512) (entry W R′) (entry W R) (λ i l. ap (stmtAt W) (q i l))
+same-numbers W R R′ n m e q = ap (λ k. listOf k (entry W R′)) e ∙ listOf-cong (min m 512) (entry W R′) (entry W R) (λ i l. ap (stmtAt W) (q i l))
 
 module _ (R : List ℕ) (id : ℕ) (h : length R ≡ 513) where
   pub push-full-in : 512 ≤ recordLen R → PushedTo R id R
@@ -50,12 +49,12 @@ module _ (R : List ℕ) (id : ℕ) (h : length R ≡ 513) where
     counts = ap (λ k. min k 512) counted ∙ omega arith
 
     grown : (W : List ℕ) → recordIn W after ≡ recordIn W R ++ (stmtAt W id ∷ [])
-    unfolding recordUpTo table
+    unfolding recordUpTo listOf
     grown W =
         let z : recordLen after ≡ suc n = counts ∙ omega arith in
-        ap (λ m. table m (entry W after)) z
-        ∙ ap₂ (λ k s. k ++ (s ∷ [])) (table-cong n (entry W after) (entry W R) (λ i m. ap (stmtAt W) (other i m))) (ap (stmtAt W) newest)
-        ∙ ap (λ m. table m (entry W R) ++ (stmtAt W id ∷ [])) e
+        ap (λ m. listOf m (entry W after)) z
+        ∙ ap₂ (λ k s. k ++ (s ∷ [])) (listOf-cong n (entry W after) (entry W R) (λ i m. ap (stmtAt W) (other i m))) (ap (stmtAt W) newest)
+        ∙ ap (λ m. listOf m (entry W R) ++ (stmtAt W id ∷ [])) e
 
     pub push-room-in : PushedTo R id after
     unfolding pushedTo
@@ -71,7 +70,7 @@ module _ (R : List ℕ) (id : ℕ) (h : length R ≡ 513) where
         }
 
 pub emptied : (R : List ℕ) → length R ≡ 513 → Emptied R (set R 512 0)
-unfolding recordUpTo table
+unfolding recordUpTo listOf
 emptied R h =
     let z : recordLen (set R 512 0) ≡ 0 = ap (λ k. min k 512) (getD-set-same R 512 0 0 (omega (arith, h))) in
-    record { is = refl; long = length-set R 512 0 ∙ h; len = z; none = λ W. ap (λ m. table m (entry W (set R 512 0))) z }
+    record { is = refl; long = length-set R 512 0 ∙ h; len = z; none = λ W. ap (λ m. listOf m (entry W (set R 512 0))) z }

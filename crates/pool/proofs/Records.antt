@@ -8,14 +8,14 @@ use native.Mathlib.Numerals.{add-one}
 use native.Mathlib.Omega.{arith}
 use lib.Dec.{eqb}
 use lib.ListN.{getD, length}
-use Rattle.protocol.specs.Lists.{any}
+use Rattle.protocol.specs.Lists.{any, listOf}
 use Rattle.protocol.specs.Statement.{Stmt}
 use Rattle.protocol.specs.Evidence.{signs}
 use Rattle.protocol.proofs.Bits.{bit-zero}
-use Rattle.views.specs.Table.{table}
+use Rattle.protocol.proofs.Numbered.{listOf-length}
 use Rattle.views.specs.Steps.{Noted}
 use Rattle.views.specs.Sets.{IsSet}
-use Rattle.views.proofs.Tables.{any-zero, any-suc, any-at, table-length}
+use Rattle.views.proofs.Tables.{any-zero, any-suc, any-at}
 use Rattle.pool.specs.Pool.{stmtAt, recordUpTo, poolLen, poolOf, recordLen, recordIn}
 
 module _ (W ids : List ℕ) where
@@ -23,13 +23,13 @@ module _ (W ids : List ℕ) where
   entry i = stmtAt W (getD ids i 0)
 
   -- so far i numbers were read, at most 512
-  pub so-far : (i : ℕ) → i ≤ 512 → recordUpTo W ids i ≡ table i entry
+  pub so-far : (i : ℕ) → i ≤ 512 → recordUpTo W ids i ≡ listOf i entry
   unfolding recordUpTo
-  so-far i l = let e : min i 512 ≡ i = omega arith in ap (λ n. table n entry) e
+  so-far i l = let e : min i 512 ≡ i = omega arith in ap (λ n. listOf n entry) e
 
   pub whole : (len i : ℕ) → i ≡ min len 512 → recordUpTo W ids i ≡ recordUpTo W ids len
   unfolding recordUpTo
-  whole len i e = let q : min i 512 ≡ min len 512 = omega arith in ap (λ n. table n entry) q
+  whole len i e = let q : min i 512 ≡ min len 512 = omega arith in ap (λ n. listOf n entry) q
 
   module _ (p : Stmt → Bool) where
     pub none-first : any p (recordUpTo W ids 0) ≡ false
@@ -70,8 +70,8 @@ module _ (W ids : List ℕ) (p : Stmt → Bool) where
 
 pub pool-length : (W : List ℕ) → length (poolOf W) ≡ poolLen W
 unfolding poolOf
-pool-length W = table-length (poolLen W) (stmtAt W)
+pool-length W = listOf-length (poolLen W) (stmtAt W)
 
 pub record-length : (W R : List ℕ) → length (recordIn W R) ≡ recordLen R
 unfolding recordUpTo
-record-length W R = table-length (recordLen R) (λ i. stmtAt W (getD R i 0))
+record-length W R = listOf-length (recordLen R) (λ i. stmtAt W (getD R i 0))

@@ -2,49 +2,87 @@
 -- Every word after it is fixed: a statement is written in one way, and no other word changes, not even a place after its last view.
 -- Assumes nothing.
 use mathlib.Core.Path.{_≡_}
-use mathlib.Core.Bool.{_||_}
+use mathlib.Core.Bool.{Bool, cond, _||_}
 use mathlib.Core.List.{List, _∷_, [], _++_, map}
 use mathlib.Core.Option.{Option, some, none}
 use Prim.Native.Nat.{ℕ, _+_, _-_, _*_, _/_, _%_, _≤_, _<_, min}
-use lib.Dec.{leb, ltb}
+use lib.Dec.{eqb, leb, ltb}
 use lib.ListN.{length, getD, set, take}
 use lib.Seq.{sets}
-use Rattle.protocol.specs.Lists.{if_then_else_, find, isSome}
-use Rattle.protocol.specs.Statement.{Stmt, sameStmt}
-use Rattle.views.specs.Table.{table}
+use Rattle.protocol.specs.Lists.{if_then_else_, find, isSome, listOf}
+use Rattle.protocol.specs.Sets.{setOf}
+use Rattle.protocol.specs.Statement.{Group, Stmt, noGroup, sameStmt}
 use Rattle.views.specs.View.{wordOf}
 use Rattle.statements.specs.declared.Statement.{Statement}
 use Rattle.statements.specs.Meaning.{stmtOf}
 use Rattle.pool.specs.declared.Placed.{Placed}
 use Rattle.pool.specs.declared.Placed.the-variants as placed
-use Rattle.pool.specs.Pool.{viewsFrom, lastWord, poolWords, stmtAt, poolLen, poolOf, recordLen, recordIn}
+use Rattle.pool.specs.Pool.{atFrom, viewFrom, payloadFrom, boundFrom, barredFrom, storedFrom, viewsFrom, toldFrom, lastWord, poolWords, stmtAt, poolLen, poolOf, recordLen, recordIn}
 
 -- The statement that word i is of. It is 512 for the number of statements, which is of none.
 unfoldable pub owner : ℕ → ℕ
-owner i = if ltb i viewsFrom then i % 512 else (i - viewsFrom) / 16
+owner i = if ltb i viewsFrom then i % 512 else if ltb i toldFrom then (i - viewsFrom) / 16 else (i - toldFrom) / 128
 
 -- No word changed but those of statement n and the number of statements.
 pub record Beside (W W′ : List ℕ) (n : ℕ) : Type 0 where
   pub long : length W′ ≡ length W
   pub others : (i : ℕ) → (owner i ≡ n → ⊥) → (i ≡ lastWord → ⊥) → getD W′ i 0 ≡ getD W i 0
 
--- Kind and origin of a statement in one number.
-unfoldable pub headOf : Stmt → ℕ
-headOf s = s .kind + s .origin * 256
+-- Kind, origin and notice in one number, and those of a statement.
 
--- The head of a statement. Of more than 16 views it counts 16.
+abbrev pub headBy : ℕ → ℕ → ℕ → ℕ
+headBy kind origin notice = kind + origin * 256 + notice * 65536
+
+unfoldable pub headOf : Stmt → ℕ
+headOf s = headBy (s .kind) (s .origin) (s .notice)
+
+-- The head of a statement. Of more than 16 views it counts 16, and of more than 64 groups 64.
 unfoldable pub headWord : Stmt → ℕ
-headWord s = headOf s + min (length (s .views)) 16 * 16777216 + s .binding * 4294967296 + s .stored * 1099511627776
+headWord s = headOf s + min (length (s .views)) 16 * 16777216 + min (length (s .groups)) 64 * 4294967296
+
+-- ---- what a report tells, in words
+
+-- What a group says of its notice: that it is bound, that it is barred, and that a payload of it is stored.
+
+abbrev pub saysBound : Group → Bool
+saysBound g = eqb (g .binding) 1
+
+abbrev pub saysBarred : Group → Bool
+saysBarred g = eqb (g .binding) 2
+
+abbrev pub saysStored : Group → Bool
+saysStored g = eqb (g .stored) 1
+
+-- The set of the notices of which a group says it.
+unfoldable pub toldSet : (Group → Bool) → List Group → ℕ
+toldSet says l = setOf 64 (λ j. says (getD l j noGroup))
+
+-- Payload and kept, group by group.
+unfoldable pub toldWords : List Group → List ℕ
+toldWords [] = []
+toldWords (g ∷ l) = g .payload ∷ g .kept ∷ toldWords l
+
+-- The memory W where statement n is a report that tells these groups. Of more than 64 only 64 are kept.
+unfoldable pub reportIn : List ℕ → ℕ → List Group → List ℕ
+reportIn W n l =
+    sets (set (set (set W (n + boundFrom) (toldSet saysBound l)) (n + barredFrom) (toldSet saysBarred l)) (n + storedFrom) (toldSet saysStored l)) (toldFrom + n * 128)
+    (toldWords (take 64 l))
+
+-- The memory W with the groups of statement n, of this kind: those of a report, or a payload.
+unfoldable pub groupsIn : List ℕ → ℕ → ℕ → List Group → List ℕ
+groupsIn W n kind l = cond (eqb kind 5) (reportIn W n l) (set W (n + payloadFrom) (getD l 0 noGroup .payload))
 
 -- The memory W with s as statement n. Of more than 16 views only 16 are kept.
 unfoldable pub putAt : List ℕ → ℕ → Stmt → List ℕ
 putAt W n s =
-    sets (set (set (set (set (set W n (headWord s)) (n + 512) (wordOf (s .at))) (n + 1024) (wordOf (s .view))) (n + 1536) (s .payload)) (n + 2048) (s .kept)) (viewsFrom + n * 16)
-    (map wordOf (take 16 (s .views)))
+    groupsIn (sets (set (set (set W n (headWord s)) (n + atFrom) (wordOf (s .at))) (n + viewFrom) (wordOf (s .view))) (viewsFrom + n * 16) (map wordOf (take 16 (s .views)))) n (s .kind)
+    (s .groups)
+
+-- ---- one statement more
 
 -- The first number of the pool whose statement is s.
 unfoldable pub poolNumber : List ℕ → Stmt → Option ℕ
-poolNumber W s = find (λ i. sameStmt s (stmtAt W i)) (table (poolLen W) (λ i. i))
+poolNumber W s = find (λ i. sameStmt s (stmtAt W i)) (listOf (poolLen W) (λ i. i))
 
 -- Where a statement goes that was found there, in a pool of this length: its number is used again, or it goes to the end.
 abbrev pub placedAt : Option ℕ → ℕ → Placed
@@ -55,20 +93,20 @@ placedAt (some i) n = placed.At i
 unfoldable pub pooledIn : List ℕ → Stmt → List ℕ
 pooledIn W s = if isSome (poolNumber W s) || leb 512 (poolLen W) then W else set (putAt W (poolLen W) s) lastWord (poolLen W + 1)
 
--- One statement more, which is st, and all others as before.
-pub record Grown (W W′ : List ℕ) (st : Statement) : Type 0 where
+-- One statement more, which is st with the block B, and all others as before.
+pub record Grown (W W′ : List ℕ) (st : Statement) (B : List ℕ) : Type 0 where
   pub len : poolLen W′ ≡ poolLen W + 1
-  pub there : st .history .len ≤ 16 → stmtAt W′ (poolLen W) ≡ stmtOf st
+  pub there : st .history .len ≤ 16 → stmtAt W′ (poolLen W) ≡ stmtOf st B
   pub others : (m : ℕ) → (min m 511 ≡ poolLen W → ⊥) → stmtAt W′ m ≡ stmtAt W m
   pub beside : Beside W W′ (poolLen W)
 
--- st is in the pool where r says, and the pool has grown only where st was not in it and there was room.
-pub record Appended (W W′ : List ℕ) (st : Statement) (r : Placed) : Type 0 where
-  pub answer : r ≡ placedAt (poolNumber W (stmtOf st)) (poolLen W)
-  pub is : W′ ≡ pooledIn W (stmtOf st)
-  pub old : (i : ℕ) → poolNumber W (stmtOf st) ≡ some i → W′ ≡ W
+-- st with the block B is in the pool where r says, and the pool has grown only where st was not in it and there was room.
+pub record Appended (W W′ : List ℕ) (st : Statement) (B : List ℕ) (r : Placed) : Type 0 where
+  pub answer : r ≡ placedAt (poolNumber W (stmtOf st B)) (poolLen W)
+  pub is : W′ ≡ pooledIn W (stmtOf st B)
+  pub old : (i : ℕ) → poolNumber W (stmtOf st B) ≡ some i → W′ ≡ W
   pub full : 512 ≤ poolLen W → W′ ≡ W
-  pub new : poolNumber W (stmtOf st) ≡ none → poolLen W < 512 → Grown W W′ st
+  pub new : poolNumber W (stmtOf st B) ≡ none → poolLen W < 512 → Grown W W′ st B
 
 -- The pool is empty now: the number of its statements was set to 0.
 pub record Cleared (W W′ : List ℕ) : Type 0 where

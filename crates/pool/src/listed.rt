@@ -12,6 +12,7 @@ use crate::POOL_WORDS;
 use crate::RECORD;
 use crate::read;
 use crate::seek;
+use statements::BLOCK;
 use statements::Statement;
 
 fn wide(x: u16) -> u64
@@ -27,9 +28,14 @@ pub fn record_length(ids: &[u16; RECORD]) -> usize
     read::limit(wide(ids[CAPACITY]))
 }
 
-// Whether a record in memory holds st.
-pub fn record_holds(words: &[u64; POOL_WORDS], ids: &[u16; RECORD], st: Statement) -> bool
-    ensures { λ r. ⌜ r ≡ any (sameStmt (stmtOf st)) (recordIn (now (words .entry)) (now (ids .entry))) ⌝ }
+// Whether a record in memory holds st with its block.
+pub fn record_holds(
+    words: &[u64; POOL_WORDS],
+    ids: &[u16; RECORD],
+    st: Statement,
+    block: &[u64; BLOCK],
+) -> bool
+    ensures { λ r. ⌜ r ≡ any (sameStmt (stmtOf st (now (block .entry)))) (recordIn (now (words .entry)) (now (ids .entry))) ⌝ }
 {
     let end = record_length(ids);
     let key = seek::head_of(st);
@@ -42,7 +48,7 @@ pub fn record_holds(words: &[u64; POOL_WORDS], ids: &[u16; RECORD], st: Statemen
             i += 1;
             continue;
         }
-        if seek::same_at(words, n, st) {
+        if seek::same_at(words, n, st, block) {
             return true;
         }
         i += 1;

@@ -1,26 +1,30 @@
 // The fields of statement n, and the number of statements.
 ghost use mathlib.Core.Path.{_≡_};
-ghost use mathlib.Core.Bool.{cond};
 ghost use Prim.Native.Nat.{_<_, _≤_, min};
 ghost use lib.ListN.{length};
 ghost use Rattle.views.specs.View.{viewOf};
-ghost use Rattle.pool.specs.Pool.{viewsFrom, poolWords, headAt, word, viewAt, stmtAt, countOf, poolLen};
+ghost use Rattle.pool.specs.Pool.{payloadFrom, viewsFrom, poolWords, headAt, word, viewAt, stmtAt, countOf, groupCount, toldBound, toldBarred, toldStored, toldPayload, toldKept, poolLen};
 ghost use Rattle.pool.specs.Changes.{headOf};
 use crate::AT;
-use crate::BINDING;
+use crate::BARRED;
+use crate::BOUND;
 use crate::BYTE;
 use crate::CAPACITY;
 use crate::COUNT;
+use crate::GROUPS;
 use crate::HIGHEST;
-use crate::KEPT;
 use crate::KEY;
 use crate::LAST;
+use crate::NOTICE;
 use crate::ORIGIN;
+use crate::PAIRS;
 use crate::PAYLOAD;
 use crate::POOL_WORDS;
 use crate::STORED;
+use crate::TOLD;
 use crate::VIEW;
 use crate::VIEWS;
+use statements::NOTICES;
 use views::View;
 
 // How many words the memory has. A proof that a word was written asks for it.
@@ -69,16 +73,17 @@ pub fn origin(words: &[u64; POOL_WORDS], n: u16) -> u64
     head_word(words, n) / ORIGIN % BYTE
 }
 
-pub fn payload(words: &[u64; POOL_WORDS], n: u16) -> u64
-    ensures { λ r. ⌜ r ≡ stmtAt (now (words .entry)) n .payload ⌝ }
+pub fn notice(words: &[u64; POOL_WORDS], n: u16) -> u64
+    ensures { λ r. ⌜ (r ≡ stmtAt (now (words .entry)) n .notice) × (r < 256) ⌝ }
 {
-    field(words, n, PAYLOAD)
+    head_word(words, n) / NOTICE % BYTE
 }
 
-pub fn kept(words: &[u64; POOL_WORDS], n: u16) -> u64
-    ensures { λ r. ⌜ r ≡ stmtAt (now (words .entry)) n .kept ⌝ }
+// The payload of statement n, which is no report.
+pub fn payload(words: &[u64; POOL_WORDS], n: u16) -> u64
+    ensures { λ r. ⌜ r ≡ word (now (words .entry)) n payloadFrom ⌝ }
 {
-    field(words, n, KEPT)
+    field(words, n, PAYLOAD)
 }
 
 // What x stands for where it is at most `most`.
@@ -91,37 +96,13 @@ fn capped(x: u64, most: u64) -> u64
     most
 }
 
-// 1 for true, 0 for false.
-pub fn flag(yes: bool) -> u64
-    ensures { λ r. ⌜ (r ≡ cond yes 1 0) × (r ≤ 1) ⌝ }
-{
-    if yes {
-        return 1;
-    }
-    0
-}
-
-pub fn binding(words: &[u64; POOL_WORDS], n: u16) -> u64
-    ensures { λ r. ⌜ (r ≡ stmtAt (now (words .entry)) n .binding) × (r ≤ 2) ⌝ }
-{
-    let w = head_word(words, n) / BINDING % BYTE;
-    capped(w, 2)
-}
-
-pub fn stored(words: &[u64; POOL_WORDS], n: u16) -> u64
-    ensures { λ r. ⌜ (r ≡ stmtAt (now (words .entry)) n .stored) × (r ≤ 1) ⌝ }
-{
-    let w = head_word(words, n) / STORED % BYTE;
-    capped(w, 1)
-}
-
 pub fn at(words: &[u64; POOL_WORDS], n: u16) -> u64
     ensures { λ r. ⌜ viewOf r ≡ stmtAt (now (words .entry)) n .at ⌝ }
 {
     views::narrow(field(words, n, AT))
 }
 
-// Kind and origin of statement n in one number.
+// Kind, origin and notice of statement n in one number.
 pub fn head(words: &[u64; POOL_WORDS], n: u16) -> u64
     ensures { λ r. ⌜ r ≡ headOf (stmtAt (now (words .entry)) n) ⌝ }
 {
@@ -162,4 +143,49 @@ pub fn pool_len(words: &[u64; POOL_WORDS]) -> usize
     ensures { λ r. ⌜ (r ≡ poolLen (now (words .entry))) × (r ≤ 512) ⌝ }
 {
     limit(words[LAST])
+}
+
+// Of how many notices report n tells.
+pub fn groups(words: &[u64; POOL_WORDS], n: u16) -> usize
+    ensures { λ r. ⌜ (r ≡ groupCount (now (words .entry)) n) × (r ≤ 64) ⌝ }
+{
+    let w = head_word(words, n) / GROUPS % BYTE;
+    capped(w, NOTICES as u64) as usize
+}
+
+// The notices of which report n tells that they are bound. One that is barred too counts as barred.
+pub fn bound(words: &[u64; POOL_WORDS], n: u16) -> u64
+    ensures { λ r. ⌜ r ≡ toldBound (now (words .entry)) n ⌝ }
+{
+    field(words, n, BOUND)
+}
+
+// Those of which it tells that they are barred.
+pub fn barred(words: &[u64; POOL_WORDS], n: u16) -> u64
+    ensures { λ r. ⌜ r ≡ toldBarred (now (words .entry)) n ⌝ }
+{
+    field(words, n, BARRED)
+}
+
+// Those of which it tells that a payload is stored.
+pub fn stored(words: &[u64; POOL_WORDS], n: u16) -> u64
+    ensures { λ r. ⌜ r ≡ toldStored (now (words .entry)) n ⌝ }
+{
+    field(words, n, STORED)
+}
+
+// The payload to which report n tells notice j is bound.
+pub fn told_payload(words: &[u64; POOL_WORDS], n: u16, j: usize) -> u64
+    requires { ⌜ j < 64 ⌝ }
+    ensures { λ r. ⌜ r ≡ toldPayload (now (words .entry)) n j ⌝ }
+{
+    words[TOLD + slot(n) * PAIRS + 2 * j]
+}
+
+// The payload that report n tells is kept of notice j.
+pub fn told_kept(words: &[u64; POOL_WORDS], n: u16, j: usize) -> u64
+    requires { ⌜ j < 64 ⌝ }
+    ensures { λ r. ⌜ r ≡ toldKept (now (words .entry)) n j ⌝ }
+{
+    words[TOLD + slot(n) * PAIRS + 2 * j + 1]
 }

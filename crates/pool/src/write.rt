@@ -1,36 +1,33 @@
 // A whole statement, into the pool and out of it.
 ghost use mathlib.Core.Path.{_≡_};
 ghost use mathlib.Core.List.{map};
-ghost use Prim.Native.Nat.{_+_, _≤_, min};
+ghost use Prim.Native.Nat.{_+_, _≤_};
 ghost use lib.ListN.{length};
 ghost use lib.Seq.{sets};
-ghost use Rattle.protocol.specs.Statement.{bindingNumber};
-ghost use Rattle.statements.specs.Meaning.{firstViews, bindingIs, payloadOf, stmtOf};
+ghost use Rattle.statements.specs.Meaning.{firstViews, stmtOf};
 ghost use Rattle.views.specs.Held.{viewsIs};
 ghost use Rattle.views.specs.View.{wordOf};
-ghost use Rattle.pool.specs.Pool.{lastWord, poolWords, stmtAt};
-ghost use Rattle.pool.specs.Steps.{IsHead, Put};
-ghost use Rattle.pool.specs.Changes.{headWord, Cleared};
+ghost use Rattle.pool.specs.Pool.{toldFrom, poolWords, stmtAt};
+ghost use Rattle.pool.specs.Steps.{headWordOfHeld, Put};
+ghost use Rattle.pool.specs.Changes.{Cleared};
 use crate::AT;
-use crate::BINDING;
 use crate::COUNT;
-use crate::KEPT;
+use crate::GROUPS;
 use crate::LAST;
-use crate::PAYLOAD;
 use crate::POOL_WORDS;
-use crate::STORED;
 use crate::VIEW;
 use crate::VIEWS;
 use crate::read;
+use crate::report;
 use crate::seek;
-use statements::Binding;
+use statements::BLOCK;
 use statements::Statement;
 use views::History;
 use views::View;
 
 // The views of h from word s on. The places after the last are left as they are.
 fn put_views(words: &mut [u64; POOL_WORDS], s: usize, h: History)
-    requires { ⌜ (length (now words) ≡ poolWords) × (s + 16 ≤ lastWord) ⌝ }
+    requires { ⌜ (length (now words) ≡ poolWords) × (s + 16 ≤ toldFrom) ⌝ }
     ensures { λ r. ⌜ now (words .exit) ≡ sets (now (words .entry)) s (map wordOf (viewsIs h)) ⌝ }
 {
     let n = h.count();
@@ -45,19 +42,18 @@ fn put_views(words: &mut [u64; POOL_WORDS], s: usize, h: History)
 
 // The head of st. Of more than 16 views it counts 16.
 fn head_word(st: Statement) -> u64
-    ensures { λ r. ⌜ (r ≡ headWord (stmtOf st)) × IsHead r (stmtOf st) (min (st .history .len) 16) ⌝ }
+    ensures { λ r. ⌜ r ≡ headWordOfHeld st ⌝ }
 {
     let h = st.history;
     let key = seek::head_of(st);
     let c = h.count() as u64;
-    let b = statements::binding_number(st);
-    let f = read::flag(st.stored);
-    key + c * COUNT + b * BINDING + f * STORED
+    let g = report::many(st.kind, st.groups) as u64;
+    key + c * COUNT + g * GROUPS
 }
 
-// Statement n is st from now on. Where st has more than 16 views, only 16 are kept.
-pub fn put(words: &mut [u64; POOL_WORDS], n: u16, st: Statement)
-    ensures { λ r. ⌜ Put (now (words .entry)) (now (words .exit)) n st ⌝ }
+// Statement n is st with its block from now on. Where st has more than 16 views, only 16 are kept.
+pub fn put(words: &mut [u64; POOL_WORDS], n: u16, st: Statement, block: &[u64; BLOCK])
+    ensures { λ r. ⌜ Put (now (words .entry)) (now (words .exit)) n st (now (block .entry)) ⌝ }
 {
     read::size(words);
     let s = read::slot(n);
@@ -67,9 +63,8 @@ pub fn put(words: &mut [u64; POOL_WORDS], n: u16, st: Statement)
     words[s] = head_word(st);
     words[s + AT] = t.word();
     words[s + VIEW] = v.word();
-    words[s + PAYLOAD] = statements::payload_of(st);
-    words[s + KEPT] = st.kept;
     put_views(words, VIEWS + s * View::LIMIT, h);
+    report::put_groups(words, s, st.kind, st.groups, st.payload, block);
 }
 
 // An empty pool. The statements stay in memory, and count no more.
@@ -78,19 +73,6 @@ pub fn clear(words: &mut [u64; POOL_WORDS])
 {
     read::size(words);
     words[LAST] = 0;
-}
-
-// The binding that a number and a payload stand for.
-fn binding_of(number: u64, payload: u64) -> Binding
-    ensures { λ r. ⌜ (bindingNumber (bindingIs r) ≡ min number 2) × (payloadOf r payload ≡ payload) ⌝ }
-{
-    if number == 0 {
-        return Binding::Unbound;
-    }
-    if number == 1 {
-        return Binding::Bound(payload);
-    }
-    Binding::Barred
 }
 
 // The views of statement n.
@@ -111,24 +93,23 @@ fn get_views(words: &[u64; POOL_WORDS], n: u16) -> History
     }
 }
 
-// Statement n.
-pub fn get(words: &[u64; POOL_WORDS], n: u16) -> Statement
-    ensures { λ r. ⌜ stmtOf r ≡ stmtAt (now (words .entry)) n ⌝ }
+// Statement n. The block tells what it does, where it is a report.
+pub fn get(words: &[u64; POOL_WORDS], n: u16, block: &mut [u64; BLOCK]) -> Statement
+    ensures { λ r. ⌜ (stmtOf r (now (block .exit)) ≡ stmtAt (now (words .entry)) n) × (r .history .len ≤ 16) ⌝ }
 {
-    let payload = read::payload(words, n);
-    let binding = binding_of(read::binding(words, n), payload);
+    let c = read::groups(words, n);
     let t = View::of_word(read::at(words, n));
     let v = View::of_word(read::view(words, n));
     let h = get_views(words, n);
+    report::get_told(words, n, c, block);
     Statement {
         kind: read::kind(words, n) as u8,
         origin: read::origin(words, n) as u8,
         at: t,
         view: v,
-        binding: binding,
-        payload: payload,
-        stored: read::stored(words, n) == 1,
-        kept: read::kept(words, n),
+        notice: read::notice(words, n) as u8,
+        groups: c,
+        payload: read::payload(words, n),
         history: h,
     }
 }

@@ -9,11 +9,11 @@ use Rattle.protocol.specs.View.{View}
 use Rattle.protocol.specs.Statement.{Stmt}
 use Rattle.protocol.specs.Evidence.{Certificate}
 use Rattle.protocol.specs.Controller.{Answer, signed}
-use Rattle.protocol.specs.Promises.{Observed, HasEntered, Promises, NoConflict}
+use Rattle.protocol.specs.Promises.{Observed, sender, HasEntered, Promises, NoConflict}
 
 -- the same controllers and statements, with other words for what is answered and held
 abbrev pub seenAs : Observed → (ℕ → ℕ → Answer → Type 0) → (ℕ → ℕ → List Stmt) → Observed
-seenAs o Answers records = record { follows = o .follows; ring = o .ring; sender = o .sender; statements = o .statements; Answers = Answers; recordOf = records }
+seenAs o Answers records = record { follows = o .follows; ring = o .ring; senders = o .senders; statements = o .statements; Answers = Answers; recordOf = records }
 
 module _ (o : Observed) (Answers : ℕ → ℕ → Answer → Type 0) (records : ℕ → ℕ → List Stmt)
     (there : (n k : ℕ) (a : Answer) → T (o .follows k) → Answers n k a → o .Answers n k a)
@@ -25,11 +25,13 @@ module _ (o : Observed) (Answers : ℕ → ℕ → Answer → Type 0) (records :
 
   pub carried : Promises o → Promises (seenAs o Answers records)
   carried p = record {
-    consistency = λ i j m n k m′ (ok, a) (ok′, b). p .consistency i j m n k m′ (ok, there i j _ ok a) (ok′, there n k _ ok′ b);
-    noDuplication = λ i n k m m′ (ok, a) (ok′, b). p .noDuplication i n k m m′ (ok, there i k _ ok a) (ok′, there n k _ ok′ b);
-    integrity = λ n k m ok (ok′, a). let (i, l, b) = p .integrity n k m ok (ok′, there n k _ ok′ a) in (i, l, back i (o .sender) _ ok b);
+    ofSetup = λ notice n k m (ok, a). p .ofSetup notice n k m (ok, there n k _ ok a);
+    consistency = λ notice i j m n k m′ (ok, a) (ok′, b). p .consistency notice i j m n k m′ (ok, there i j _ ok a) (ok′, there n k _ ok′ b);
+    noDuplication = λ notice i n k m m′ (ok, a) (ok′, b). p .noDuplication notice i n k m m′ (ok, there i k _ ok a) (ok′, there n k _ ok′ b);
+    integrity = λ notice n k m ok (ok′, a). let (i, l, b) = p .integrity notice n k m ok (ok′, there n k _ ok′ a) in (i, l, back i (sender o notice) _ ok b);
     comparableViews = λ j k u v a b. p .comparableViews j k u v (entered-there j u a) (entered-there k v b);
-    storedIsKept = λ H m n k v h q (ok, a) g i l. subst (λ X. Certificate (o .ring) (o .sender) X m) (same k i ok) (p .storedIsKept H m n k v h q (ok, there n k _ ok a) g i l);
+    storedIsKept = λ notice H m n k v h q (ok, a) g i l.
+        subst (λ X. Certificate (o .ring) (o .senders) X notice m) (same k i ok) (p .storedIsKept notice H m n k v h q (ok, there n k _ ok a) g i l);
   }
 
   pub carried-no-conflict : NoConflict o → NoConflict (seenAs o Answers records)

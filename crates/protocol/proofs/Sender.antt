@@ -1,57 +1,92 @@
--- A sender that follows the rules prepares one payload, so no rule-follower is ever barred.
+-- A sender that follows the rules prepares one payload of a notice, so no rule-follower is ever barred from it.
 -- Assumes nothing.
 use mathlib.Core.Path.{_≡_, refl, sym, ap, subst, _∙_}
 use mathlib.Core.Logic.{_≢_, inl, inr}
 use mathlib.Core.Bool.{Bool, true, false}
-use mathlib.Core.List.{List, [], _∷_, List·Memᴰ·head, List·Memᴰ·tail}
+use mathlib.Core.List.{List, [], _∷_, List·Memᴰ·head, List·Memᴰ·tail, List·Memᴰ·not-nil}
 use mathlib.Core.Option.{some}
 use Prim.Native.Nat.{ℕ, zero, suc, _+_, _≤_}
-use native.Mathlib.Decide.{le-ind}
+use native.Mathlib.Decide.{decLt, le-ind}
 use native.Mathlib.Omega.{arith}
 use lib.Dec.{T, eqb}
-use lib.ListN.{length}
+use lib.ListN.{length, List·getD-eq-default}
 use Rattle.protocol.specs.Lists.{if_then_else_, _∈_, _⊆_}
 use Rattle.protocol.specs.View.{Ring}
-use Rattle.protocol.specs.Statement.{Stmt, Binding, unbound, bound, barred, bindingOf}
-use Rattle.protocol.specs.Evidence.{Prepared, Counted}
+use Rattle.protocol.specs.Statement.{Group, Stmt, noGroup, groupOf, Binding, unbound, bound, barred, bindingOf}
+use Rattle.protocol.specs.Evidence.{senderOf, Prepared, CountedFor, Counted}
 use Rattle.protocol.specs.Call.{started}
-use Rattle.protocol.specs.Turn.{merge, mergeAll, countedReports}
+use Rattle.protocol.specs.Turn.{merge, mergeAll, told, countedReports}
 use Rattle.protocol.specs.Run.{Run, returned, controllerOf, recordOf, statements, IsRun}
 use Rattle.protocol.specs.Promises.{NeverBarred}
 use Rattle.protocol.proofs.Says.{says-eqb}
 use Rattle.protocol.proofs.Found.{some-injective, none≢some}
 use Rattle.protocol.proofs.Monotone.{prepared-mono}
-use Rattle.protocol.proofs.Rules.{counted-out}
-use Rattle.protocol.proofs.Explained.{for-prepare, binding-after}
+use Rattle.protocol.proofs.Rules.{unbound-told, counted-out}
+use Rattle.protocol.proofs.Explained.{for-report, for-prepare, binding-after}
 use Rattle.protocol.proofs.Moves.{rests, adds, signs, enters, delivers}
-use Rattle.protocol.proofs.Steps.{Start, starts, begun, Next, waits, acts, fixed, next, own-turn}
+use Rattle.protocol.proofs.Steps.{Start, starts, begun, Next, waits, acts, fixed, next, appended, own-turn}
+use Rattle.protocol.proofs.FieldRules.{says-fields, report-length}
+use Rattle.protocol.proofs.Numbered.{listOf-length, put-is}
 use Rattle.protocol.proofs.Model.{signing, known}
 
-module _ {run : Run} (is : IsRun run) (honest : T (run .follows (run .sender))) where
-  open Run run using (follows, members, sender, events)
+-- the reports in a rule-follower's record tell of every notice
+module _ {run : Run} (is : IsRun run) {s : Stmt} (report : s .kind ≡ 5) where
+  tells-of-all : (k : ℕ) → T (run .follows k) → (n : ℕ) → s ∈ recordOf run k n → length (s .groups) ≡ length (run .senders)
+  unfolding returned told
+  tells-of-all k ok zero m = go (begun is k (is .numbered k ok))
+    where
+      go : Start k (run .members) (run .senders) → length (s .groups) ≡ length (run .senders)
+      go (starts t e) = absurd (List·Memᴰ·not-nil (subst (λ o. s ∈ o .statements) e m))
+  tells-of-all k ok (suc n) m = go (tells-of-all k ok n) (next is k ok n)
+    where
+      same : length (controllerOf run k n .senders) ≡ length (run .senders)
+      same = ap length (fixed is k ok n .senders)
+
+      go : (s ∈ recordOf run k n → length (s .groups) ≡ length (run .senders)) → Next is k n → length (s .groups) ≡ length (run .senders)
+      go before (waits e _) = before (subst (λ o. s ∈ o .statements) e m)
+      go before (acts _ _ (rests _ _ _ f _)) = before (subst (λ l. s ∈ l) f m)
+      go before (acts _ _ (adds x _ _ _ f (_, _, r))) = appended is f before (λ i. report-length (says-fields (controllerOf run k n .ring) _ s .sound (rw i r)) report ∙ same) m
+      go before (acts _ _ (signs x _ _ _ _ f _ _ w)) = appended is f before (λ i. ap (λ s. length (s .groups)) i ∙ ap length (for-report w (ap (λ s. s .kind) (sym i) ∙ report) .groups) ∙ listOf-length _ _ ∙ same) m
+      go before (acts _ _ (enters _ _ _ _ _ f _)) = before (subst (λ l. s ∈ l) f m)
+      go before (acts _ _ (delivers _ _ _ _ _ f _ _ _)) = before (subst (λ l. s ∈ l) f m)
+
+module _ {run : Run} (is : IsRun run) (notice : ℕ) (honest : T (run .follows (senderOf (run .senders) notice))) where
+  open Run run using (follows, members, senders, events)
+
+  abbrev sender : ℕ
+  sender = senderOf senders notice
 
   -- ---- the sender prepares one payload
 
-  -- what it is asked to send stays
-  send-lasts : {i m : ℕ} → controllerOf run sender i .sendRequested ≡ some m → (n : ℕ) → i ≤ n → controllerOf run sender n .sendRequested ≡ some m
-  send-lasts {m} p n l = le-ind (λ n. controllerOf run sender n .sendRequested ≡ some m) p (λ n _ q. one n q (next is sender honest n)) n l
-    where
-      one : (n : ℕ) → controllerOf run sender n .sendRequested ≡ some m → Next is sender n → controllerOf run sender (suc n) .sendRequested ≡ some m
-      one n q (waits e _) = ap (λ o. o .controller .sendRequested) e ∙ q
-      one n q (acts c e (rests _ (inl f) h _ _)) = h .sendRequested ∙ f ∙ q
-      one n q (acts c e (rests _ (inr (_, _, _, f)) h _ _)) = absurd (none≢some (sym f ∙ q))
-      one n q (acts c e (adds _ _ _ h _ _)) = h .sendRequested ∙ q
-      one n q (acts c e (signs _ _ _ _ h _ _ _ _)) = h .sendRequested ∙ q
-      one n q (acts c e (enters _ _ _ _ h _ _)) = h .sendRequested ∙ q
-      one n q (acts c e (delivers _ _ _ h _ _ _)) = h .sendRequested ∙ q
+  abbrev Asked : ℕ → ℕ → Type 0
+  Asked n m = controllerOf run sender n .sendRequested notice ≡ some m
 
-  asked : {m : ℕ} → Prepared sender (statements run) m → (n : ℕ) × (controllerOf run sender n .sendRequested ≡ some m)
+  -- what it is asked to send stays
+  send-lasts : {i m : ℕ} → Asked i m → (n : ℕ) → i ≤ n → Asked n m
+  send-lasts {m = m} p n l = le-ind (λ n. Asked n m) p (λ n _ q. one n q (next is sender honest n)) n l
+    where
+      one : (n : ℕ) → Asked n m → Next is sender n → Asked (suc n) m
+      one n q (waits e _) = ap (λ o. o .controller .sendRequested notice) e ∙ q
+      one n q (acts _ _ (rests _ (inl f) h _ _)) = ap (λ g. g notice) (h .sendRequested ∙ f) ∙ q
+      one n q (acts _ _ (rests _ (inr (j, x, _, f, g)) h _ _)) = elim (put-is j (some x) (controllerOf run sender n .sendRequested) notice) [
+        | inl (s, _) ↦ absurd (none≢some (sym g ∙ ap (controllerOf run sender n .sendRequested) (sym s) ∙ q))
+        | inr r ↦ ap (λ g. g notice) (h .sendRequested ∙ f) ∙ r ∙ q
+      ]
+      one n q (acts _ _ (adds _ _ _ h _ _)) = ap (λ g. g notice) (h .sendRequested) ∙ q
+      one n q (acts _ _ (signs _ _ _ _ h _ _ _ _)) = ap (λ g. g notice) (h .sendRequested) ∙ q
+      one n q (acts _ _ (enters _ _ _ _ h _ _)) = ap (λ g. g notice) (h .sendRequested) ∙ q
+      one n q (acts _ _ (delivers _ _ _ _ h _ _ _ _)) = ap (λ g. g notice) (h .sendRequested) ∙ q
+
+  abbrev Said : ℕ → Type 0
+  Said m = Prepared senders (statements run) notice m
+
+  asked : {m : ℕ} → Said m → (n : ℕ) × Asked n m
   unfolding statements
   asked (s, i, p) =
       let (n, _, t) = own-turn is honest (p .origin) (length events) i in
-      (n, for-prepare (signing is sender n honest t .why) (p .kind) .asked ∙ ap some (p .payload))
+      (n, ap (controllerOf run sender n .sendRequested) (sym (p .notice)) ∙ for-prepare (signing is sender n honest t .why) (p .kind) .asked ∙ ap some (p .payload))
 
-  one-payload : {m n : ℕ} → Prepared sender (statements run) m → Prepared sender (statements run) n → m ≡ n
+  one-payload : {m n : ℕ} → Said m → Said n → m ≡ n
   one-payload p q =
       let (i, e) = asked p in
       let (j, f) = asked q in
@@ -61,7 +96,7 @@ module _ {run : Run} (is : IsRun run) (honest : T (run .follows (run .sender))) 
 
   abbrev Fair : Binding → Type 0
   Fair unbound = Unit {0}
-  Fair (bound m) = Prepared sender (statements run) m
+  Fair (bound m) = Said m
   Fair barred = ⊥
 
   merge-fair : (a b : Binding) → Fair a → Fair b → Fair (merge a b)
@@ -73,48 +108,61 @@ module _ {run : Run} (is : IsRun run) (honest : T (run .follows (run .sender))) 
       go : (t : Bool) → T t → Fair (if t then bound m else barred)
       go true t = p
 
-  merge-all-fair : (b : Binding) (X : List Stmt) → Fair b → ((s : Stmt) → s ∈ X → Fair (bindingOf s)) → Fair (mergeAll b X)
+  merge-all-fair : (b : Binding) (X : List Stmt) → Fair b → ((s : Stmt) → s ∈ X → Fair (bindingOf (groupOf s notice))) → Fair (mergeAll notice b X)
   unfolding mergeAll
   merge-all-fair b [] p f = p
-  merge-all-fair b (s ∷ X) p f = merge-fair (bindingOf s) (mergeAll b X) (f s (List·Memᴰ·head refl)) (merge-all-fair b X p (λ x i. f x (List·Memᴰ·tail i)))
+  merge-all-fair b (s ∷ X) p f =
+      merge-fair (bindingOf (groupOf s notice)) (mergeAll notice b X) (f s (List·Memᴰ·head refl)) (merge-all-fair b X p (λ x i. f x (List·Memᴰ·tail i)))
 
   -- a report that counts tells no other
-  counted-fair : {R : Ring} {z : ℕ} {X : List Stmt} (s : Stmt) → z ≡ sender → X ⊆ statements run → Counted R z X s → Fair (bindingOf s)
+  told-fair : {R : Ring} {X : List Stmt} (g : Group) → X ⊆ statements run → CountedFor R senders X notice g → Fair (bindingOf g)
   unfolding bindingOf
-  counted-fair {z} {X} s e more d = go (eqb (s .binding) 1) (eqb (s .binding) 2) (λ t. d .bound (says-eqb .sound t)) (λ t. d .barred (says-eqb .sound t))
+  told-fair {X = X} g more d = go (eqb (g .binding) 1) (eqb (g .binding) 2) (λ t. d .bound (says-eqb .sound t)) (λ t. d .barred (says-eqb .sound t))
     where
-      ours : {m : ℕ} → Prepared z X m → Prepared sender (statements run) m
-      ours {m} p = prepared-mono more (subst (λ z. Prepared z X m) e p)
+      ours : {m : ℕ} → Prepared senders X notice m → Said m
+      ours = prepared-mono more
 
-      go : (a b : Bool) → (T a → Prepared z X (s .payload)) → (T b → (m m′ : ℕ) × (m ≢ m′) × Prepared z X m × Prepared z X m′)
-          → Fair (if a then bound (s .payload) else if b then barred else unbound)
-      go true b f g = ours (f tt)
-      go false true f g = let (_, _, d, p, q) = g tt in d (one-payload (ours p) (ours q))
-      go false false f g = tt
+      go : (a b : Bool) → (T a → Prepared senders X notice (g .payload)) → (T b → (m m′ : ℕ) × (m ≢ m′) × Prepared senders X notice m × Prepared senders X notice m′)
+          → Fair (if a then bound (g .payload) else if b then barred else unbound)
+      go true b f h = ours (f tt)
+      go false true f h = let (_, _, d, p, q) = h tt in d (one-payload (ours p) (ours q))
+      go false false f h = tt
+
+  -- and of a number beyond the notices of the setup it tells nothing
+  counted-fair : {R : Ring} {X : List Stmt} (s : Stmt) → X ⊆ statements run → Counted R senders X s → length (s .groups) ≡ length senders → Fair (bindingOf (groupOf s notice))
+  counted-fair s more d e = elim (decLt notice (length senders)) [
+    | yes l ↦ told-fair (groupOf s notice) more (d .notices notice l)
+    | no l ↦ subst (λ g. Fair (bindingOf g)) (sym (List·getD-eq-default (s .groups) noGroup (omega arith))) (subst Fair (sym unbound-told) tt)
+  ]
 
   -- ---- a rule-follower, event by event
 
-  fair : (k : ℕ) → T (follows k) → (n : ℕ) → Fair (controllerOf run k n .binding)
+  fair : (k : ℕ) → T (follows k) → (n : ℕ) → Fair (controllerOf run k n .binding notice)
   unfolding returned started
   fair k ok zero = go (begun is k (is .numbered k ok))
     where
-      go : Start k members sender → Fair (controllerOf run k zero .binding)
-      go (starts t e) = subst (λ o. Fair (o .controller .binding)) (sym e) tt
+      go : Start k members senders → Fair (controllerOf run k zero .binding notice)
+      go (starts t e) = subst (λ o. Fair (o .controller .binding notice)) (sym e) tt
   fair k ok (suc n) = go (fair k ok n) (next is k ok n)
     where
-      go : Fair (controllerOf run k n .binding) → Next is k n → Fair (controllerOf run k (suc n) .binding)
-      go p (waits e _) = subst (λ o. Fair (o .controller .binding)) (sym e) p
-      go p (acts _ _ (rests _ _ h _ _)) = subst Fair (sym (h .binding)) p
-      go p (acts _ _ (adds _ _ _ h _ _)) = subst Fair (sym (h .binding)) p
-      go p (acts _ _ (signs _ _ _ _ h _ _ _ w)) = elim (binding-after w) [
-        | inl f ↦ subst Fair (sym (h .binding ∙ f)) p
-        | inr (_, (m, f, q)) ↦ subst Fair (sym (h .binding ∙ f)) (prepared-mono (known is k ok n) (subst (λ z. Prepared z (recordOf run k n) m) (fixed is k ok n .sender) q))
-      ]
+      on : {b : ℕ → Binding} → controllerOf run k (suc n) .binding ≡ b → Fair (b notice) → Fair (controllerOf run k (suc n) .binding notice)
+      on e p = subst (λ b. Fair (b notice)) (sym e) p
+
+      go : Fair (controllerOf run k n .binding notice) → Next is k n → Fair (controllerOf run k (suc n) .binding notice)
+      go p (waits e _) = on (ap (λ o. o .controller .binding) e) p
+      go p (acts _ _ (rests _ _ h _ _)) = on (h .binding) p
+      go p (acts _ _ (adds _ _ _ h _ _)) = on (h .binding) p
+      go p (acts _ _ (signs _ _ _ _ h _ _ _ w)) = on (h .binding) (elim (binding-after notice w) [
+        | inl f ↦ subst Fair (sym f) p
+        | inr (_, (m, f, q)) ↦ subst Fair (sym f) (prepared-mono (known is k ok n) (subst (λ z. Prepared z (recordOf run k n) notice m) (fixed is k ok n .senders) q))
+      ])
       go p (acts _ _ (enters _ _ _ _ h _ w)) =
-          subst Fair (sym (h .binding ∙ w .merged)) (merge-all-fair (controllerOf run k n .binding) (countedReports (controllerOf run k n) (recordOf run k n)) p
-          (λ s i. counted-fair s (fixed is k ok n .sender) (known is k ok n) (counted-out (controllerOf run k n) (recordOf run k n) i .1)))
-      go p (acts _ _ (delivers _ _ _ h _ _ _)) = subst Fair (sym (h .binding)) p
+          on (h .binding) (subst Fair (sym (w .merged notice)) (merge-all-fair (controllerOf run k n .binding notice) (countedReports (controllerOf run k n) (recordOf run k n)) p
+          (λ s i.
+          let (j, d, r) = counted-out (controllerOf run k n) (recordOf run k n) i in
+          counted-fair s (known is k ok n) (subst (λ z. Counted (controllerOf run k n .ring) z (recordOf run k n) s) (fixed is k ok n .senders) d) (tells-of-all is r k ok n j))))
+      go p (acts _ _ (delivers _ _ _ _ h _ _ _ _)) = on (h .binding) p
 
 pub never-barred : {run : Run} → IsRun run → NeverBarred run
 unfolding NeverBarred
-never-barred is n k honest ok e = subst (Fair is honest) e (fair is honest k ok n)
+never-barred is notice n k honest ok e = subst (Fair is notice honest) e (fair is notice honest k ok n)

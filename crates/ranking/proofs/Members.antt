@@ -2,13 +2,12 @@
 -- Assumes nothing.
 use mathlib.Core.Path.{_≡_, refl, sym, ap, ap₂, _∙_}
 use mathlib.Core.Logic.{_⊎_, inl, inr}
-use mathlib.Core.List.{List, [], _∷_, _++_, List·Memᴰ·head, List·Memᴰ·tail, List·Memᴰ·cases-cons, List·Memᴰ·not-nil, List·Memᴰ·append-cases, List·Memᴰ·eq-of-singleton, Memᴰ·cast}
+use mathlib.Core.List.{List, [], _∷_, _++_, List·Memᴰ·head, List·Memᴰ·tail, List·Memᴰ·cases-cons, List·Memᴰ·not-nil, Memᴰ·cast}
 use Prim.Native.Nat.{ℕ, zero, suc, _+_, _<_}
 use native.Mathlib.Decide.{decLt}
 use native.Mathlib.Omega.{arith}
-use Rattle.protocol.specs.Lists.{_∈_, _⊆_}
+use Rattle.protocol.specs.Lists.{_∈_, _⊆_, listOf}
 use Rattle.protocol.proofs.Different.{Ordered}
-use Rattle.views.specs.Table.{table}
 
 module _ {A : Type 0} where
   pub in-left : {a : A} (k l : List A) → a ∈ k → a ∈ k ++ l
@@ -24,18 +23,10 @@ module _ {A : Type 0} where
 
   -- an element of a list by index
 
-  pub table-in : (n : ℕ) (f : ℕ → A) (i : ℕ) → i < n → f i ∈ table n f
-  unfolding table
-  table-in zero f i l = absurd (omega arith)
-  table-in (suc n) f i l = elim (decLt i n) [ yes m ↦ in-left (table n f) (f n ∷ []) (table-in n f i m) | no m ↦ (let e : i ≡ n = omega arith in Memᴰ·cast (ap f e) (in-last (table n f) (f n))) ]
-
-  pub table-out : (n : ℕ) (f : ℕ → A) {a : A} → a ∈ table n f → (i : ℕ) × (i < n) × (f i ≡ a)
-  unfolding table
-  table-out zero f m = absurd (List·Memᴰ·not-nil m)
-  table-out (suc n) f {a} m = elim (List·Memᴰ·append-cases (table n f) m) [
-    | inl i ↦ (let (j, l, e) = table-out n f i in (j, omega arith, e))
-    | inr i ↦ (n, omega arith, sym (List·Memᴰ·eq-of-singleton i))
-  ]
+  pub listOf-in : (n : ℕ) (f : ℕ → A) (i : ℕ) → i < n → f i ∈ listOf n f
+  unfolding listOf
+  listOf-in zero f i l = absurd (omega arith)
+  listOf-in (suc n) f i l = elim (decLt i n) [ yes m ↦ in-left (listOf n f) (f n ∷ []) (listOf-in n f i m) | no m ↦ (let e : i ≡ n = omega arith in Memᴰ·cast (ap f e) (in-last (listOf n f) (f n))) ]
 
   -- two lists that rise and have the same members are the same
 

@@ -18,6 +18,7 @@ use Rattle.protocol.proofs.Says.{Says, says-or}
 use Rattle.protocol.proofs.Decided.{says-within}
 use Rattle.protocol.proofs.Quorums.{someone}
 use Rattle.protocol.proofs.Histories.{init-in, size-le}
+use Rattle.protocol.proofs.Numbered.{listOf-out}
 use Rattle.protocol.proofs.Asked.{says-pairwise, candidates-exact}
 use Rattle.protocol.proofs.Order as order
 use Rattle.views.specs.View.{viewOf, ringOfWord}
@@ -27,7 +28,7 @@ use Rattle.pool.proofs.Laws.{view-fits}
 use Rattle.tables.specs.Index.{keyAt}
 use Rattle.ranking.specs.Slots.{viewScale, choiceMark, Stands, Slots, Clash, occupied, Broken, Listed}
 use Rattle.ranking.specs.Ranking.{AllFit, MarkedChoices, CandidatesOf}
-use Rattle.ranking.proofs.Members.{Climbs, same-members, table-out}
+use Rattle.ranking.proofs.Members.{Climbs, same-members}
 use Rattle.ranking.proofs.Slots.{within-size, occupied-in, occupied-out, occupied-climbs}
 
 abbrev Compare : View → View → Type 0
@@ -60,7 +61,7 @@ climbs R w (u ∷ l) (g, o) f c = (
 -- the statements of a record are read from the pool
 pub record-fits : (W ids : List ℕ) (n : ℕ) → AllFit (recordUpTo W ids n)
 unfolding recordUpTo
-record-fits W ids n s m = let (i, l, e) = table-out _ _ m in subst (λ s. Fits 16 (s .view)) e (view-fits W (getD ids i 0))
+record-fits W ids n s m = let (i, l, e) = listOf-out _ _ m in subst (λ s. Fits 16 (s .view)) (sym e) (view-fits W (getD ids i 0))
 
 -- the initial view, of which nothing is asked, or one that is greater and of the sixteen controllers
 abbrev pub Later : ℕ → View → Type 0

@@ -13,13 +13,12 @@ use lib.ListN.{length, getD, set, replicate, length-set, length-append, length-r
 use lib.Seq.{getD-set-same, getD-set-other}
 use borrow.Author.Tests.{eq-eqb, ne-eqb, lt-ltb}
 use Rattle.protocol.specs.Sets.{bit}
-use Rattle.protocol.specs.Lists.{if_then_else_, _∈_, _⊆_}
+use Rattle.protocol.specs.Lists.{if_then_else_, _∈_, _⊆_, listOf}
 use Rattle.protocol.specs.View.{View, size, Within}
 use Rattle.protocol.proofs.Counting.{count-mono}
+use Rattle.protocol.proofs.Numbered.{listOf-length, listOf-cong}
 use Rattle.protocol.proofs.Different.{ordered-append}
-use Rattle.views.specs.Table.{table}
 use Rattle.views.specs.View.{viewOf, viewsOf}
-use Rattle.views.proofs.Tables.{table-length, table-cong}
 use Rattle.ranking.specs.Slots.{Scale, viewScale, Stands, Slots, Filled, here, occupied, Broken, Chain, Compared, Listed}
 use Rattle.ranking.proofs.Members.{in-left, in-right, Climbs}
 
@@ -243,10 +242,10 @@ module _ (Q : Scale) where
 
 -- one word more
 pub views-put : (a : List ℕ) (n v : ℕ) → n < length a → viewsOf (set a n v) (suc n) ≡ viewsOf a n ++ (viewOf v ∷ [])
-unfolding viewsOf table
+unfolding viewsOf listOf
 views-put a n v l =
     ap₂ (λ l x. l ++ (viewOf x ∷ []))
-    (table-cong n (λ i. viewOf (getD (set a n v) i 0)) (λ i. viewOf (getD a i 0)) (λ i h. ap viewOf (getD-set-other a n i v 0 (λ q. omega arith))))
+    (listOf-cong n (λ i. viewOf (getD (set a n v) i 0)) (λ i. viewOf (getD a i 0)) (λ i h. ap viewOf (getD-set-other a n i v 0 (λ q. omega arith))))
     (getD-set-same a n v 0 l)
 
 module _ (S : List ℕ) where
@@ -269,7 +268,7 @@ module _ (S : List ℕ) where
     pub views : viewsOf out n ≡ shown k
 
   pub listed-first : (out : List ℕ) → length out ≡ 16 → ListedTo out 0 0
-  unfolding viewsOf occupied table
+  unfolding viewsOf occupied listOf
   listed-first out l = record { long = l; views = refl }
 
   pub listed-skip : (out : List ℕ) (n k v m : ℕ) → v ≡ getD S k 0 → m ≡ size 16 (viewOf v) → (m ≡ k → ⊥) → ListedTo out n k → ListedTo out n (k + 1)
@@ -277,7 +276,7 @@ module _ (S : List ℕ) where
 
   listed-length : {out : List ℕ} {n k : ℕ} → ListedTo out n k → length (shown k) ≡ n
   unfolding viewsOf
-  listed-length {out} {n} c = ap length (sym (c .views)) ∙ table-length n (λ i. viewOf (getD out i 0))
+  listed-length {out} {n} c = ap length (sym (c .views)) ∙ listOf-length n (λ i. viewOf (getD out i 0))
 
   module _ (out : List ℕ) (n k v m : ℕ) (is : v ≡ getD S k 0) (sized : m ≡ size 16 (viewOf v)) (there : m ≡ k) (c : ListedTo out n k) where
     slot-level : size 16 (viewOf (getD S k 0)) ≡ k

@@ -9,7 +9,7 @@ use native.Mathlib.Numerals.{add-one}
 use native.Mathlib.Omega.{arith}
 use lib.Dec.{T}
 use lib.ListN.{length, getD, set}
-use Rattle.protocol.specs.Lists.{_∈_, _⊆_, any}
+use Rattle.protocol.specs.Lists.{_∈_, _⊆_, any, listOf}
 use Rattle.protocol.specs.View.{View, sameView, size}
 use Rattle.protocol.specs.History.{holds, Holds, Rising}
 use Rattle.protocol.specs.Statement.{Stmt}
@@ -19,9 +19,8 @@ use Rattle.protocol.proofs.Decided.{says-in}
 use Rattle.protocol.proofs.Asked.{says-holds, says-pairwise, sealed-in, sealed-out}
 use Rattle.protocol.proofs.Different.{Different, ordered-map, different-length}
 use Rattle.protocol.proofs.Histories.{start-in}
-use Rattle.views.specs.Table.{table}
+use Rattle.protocol.proofs.Numbered.{listOf-length}
 use Rattle.views.specs.View.{viewOf, ringOfWord, viewsOf}
-use Rattle.views.proofs.Tables.{table-length}
 use Rattle.views.proofs.Views.{passes, fails}
 use Rattle.pool.specs.Pool.{countOf, viewAt, stmtAt}
 use Rattle.pool.proofs.Laws.{views-of}
@@ -33,7 +32,7 @@ use Rattle.ranking.proofs.Slots.{views-put, occupied-in, occupied-out}
 -- ---- lengths
 
 pub views-length : (W : List ℕ) (n c : ℕ) → c ≡ countOf W n → c ≡ length (stmtAt W n .views)
-views-length W n c e = sym (table-length c (viewAt W n)) ∙ ap length (views-of W n c e)
+views-length W n c e = sym (listOf-length c (viewAt W n)) ∙ ap length (views-of W n c e)
 
 pub views-short : (W : List ℕ) (n : ℕ) → length (stmtAt W n .views) < 17
 unfolding countOf
@@ -41,12 +40,12 @@ views-short W n = omega (arith, views-length W n (countOf W n) refl)
 
 -- ---- copying
 
-pub copy-first : (out : List ℕ) (f : ℕ → View) → viewsOf out 0 ≡ table 0 f
-unfolding viewsOf table
+pub copy-first : (out : List ℕ) (f : ℕ → View) → viewsOf out 0 ≡ listOf 0 f
+unfolding viewsOf listOf
 copy-first out f = refl
 
-pub copy-more : (out : List ℕ) (p v : ℕ) (f : ℕ → View) → p < length out → viewsOf out p ≡ table p f → viewOf v ≡ f p → viewsOf (set out p v) (p + 1) ≡ table (p + 1) f
-unfolding table
+pub copy-more : (out : List ℕ) (p v : ℕ) (f : ℕ → View) → p < length out → viewsOf out p ≡ listOf p f → viewOf v ≡ f p → viewsOf (set out p v) (p + 1) ≡ listOf (p + 1) f
+unfolding listOf
 copy-more out p v f l e g = rw add-one (views-put out p v l ∙ ap₂ (λ l x. l ++ (x ∷ [])) e g)
 
 -- ---- a chain of histories
@@ -65,7 +64,7 @@ links-end W S k last some e c = record { good = λ t. (some, subst (λ k. Chain 
 
 -- the history of the initial view
 pub alone-views : (out : List ℕ) (init : ℕ) → length out ≡ 16 → viewsOf (set out 0 init) 1 ≡ viewOf init ∷ []
-unfolding viewsOf table
+unfolding viewsOf listOf
 alone-views out init l = views-put out 0 init (omega arith)
 
 -- ---- sealed histories rise

@@ -1,44 +1,40 @@
 -- Each rule in terms of what it looks at: the tests in the order of the code, and what is done if all pass.
 -- Assumes nothing.
 use mathlib.Core.Path.{_≡_, refl, sym, ap, ap₂, subst, _∙_}
-use mathlib.Core.Bool.{Bool, true, false, not, _&&_, _||_, false≢true}
+use mathlib.Core.Bool.{Bool, true, false, not, _&&_}
 use mathlib.Core.List.{List, [], _∷_}
 use mathlib.Core.Option.{Option, some, none}
-use Prim.Native.Nat.{ℕ, _-_, _<_}
+use Prim.Native.Nat.{ℕ, _-_, _<_, min}
 use native.Mathlib.Omega.{arith}
-use lib.Dec.{ltb}
 use denote.Enum.Declared.{tagOf}
 use types.Run.{OneOf, miss}
-use lib.ListN.{length, getD}
-use Rattle.protocol.specs.Sets.{bit}
-use Rattle.protocol.specs.Lists.{any, find, when, given, isSome}
+use lib.ListN.{getD}
+use Rattle.protocol.specs.Lists.{any, find, when, given, isSome, listOf}
 use Rattle.protocol.specs.View.{View, sameView, member, hasMembers, below}
 use Rattle.protocol.specs.History.{last}
-use Rattle.protocol.specs.Statement.{Stmt, sameStmt, join, leave, agreeView, agreeHistory, report, prepare, ack, store, reportsOn, acksAt, storesAt}
-use Rattle.protocol.specs.Evidence.{prepares, candidates, isStored}
+use Rattle.protocol.specs.Statement.{Stmt, Binding, sameStmt, join, leave, agreeView, agreeHistory, report, prepare, ack, store, reportsOn}
+use Rattle.protocol.specs.Evidence.{candidates}
 use Rattle.protocol.specs.Controller.{Controller}
 use Rattle.protocol.specs.Turn as turn
+use Rattle.protocol.proofs.Numbered.{listOf-cong}
 use Rattle.views.specs.declared.View as held
 use Rattle.views.specs.View.{viewOf, viewIn, viewsIn}
 use Rattle.views.specs.Held.{viewIs}
 use Rattle.views.proofs.Histories.{last-some}
-use Rattle.statements.specs.declared.Binding as bindings
-use Rattle.statements.specs.declared.Binding.the-variants.{Unbound, Bound, Barred}
 use Rattle.statements.specs.declared.Statement.{Statement}
-use Rattle.statements.specs.Meaning.{bindingIs, stmtOf}
-use Rattle.statements.specs.Made.{Made}
-use Rattle.evidence.specs.Evidence.{ringIs, certificateOf, reportedAll, reportsBelow}
-use Rattle.evidence.proofs.Turns.{reported-turn, counted-turn}
-use Rattle.rules.specs.declared.OptionalPayload.{OptionalPayload}
-use Rattle.rules.specs.declared.OptionalPayload.the-variants.{Nothing, Payload}
+use Rattle.statements.specs.Block.{groupAt}
+use Rattle.statements.specs.Meaning.{stmtOf}
+use Rattle.statements.specs.Made.{Made, Reports}
+use Rattle.evidence.specs.Evidence.{ringIs, reportedAll}
+use Rattle.evidence.specs.Notices.{sendersOf}
+use Rattle.evidence.proofs.Turns.{reported-turn}
 use Rattle.rules.specs.declared.Situation.{Situation}
 use Rattle.rules.specs.declared.Action.{Action}
 use Rattle.rules.specs.declared.Action.the-variants.{Rest, Report, Enter, AgreeView, AgreeHistory, Ack, Store, Deliver, Join, Leave, Prepare}
-use Rattle.rules.specs.Payloads.{payloadIs}
-use Rattle.rules.specs.Actions.{statementOf, actionIs, acts}
-use Rattle.rules.specs.Rules.{ownKind, ownAt, firstPrepare, reportDue, Owns, SituationOf, Lent, statements, ownStatements, candidateViews, greatestViews, AllLent, Rule, Does, Acks}
+use Rattle.rules.specs.Actions.{statementOf, actionIs, acts, Makes}
+use Rattle.rules.specs.Rules.{ownAt, reportDue, Owns, SituationOf, ToldOf, Lent, statements, ownStatements, candidateViews, greatestViews, senders, AllLent, Rule, mergedBy, Does}
 use Rattle.rules.proofs.Action as action
-use Rattle.rules.proofs.Scans.{owns-same, owns-at, owns-kind}
+use Rattle.rules.proofs.Scans.{owns-same, owns-at}
 
 -- ---- tests one after the other
 
@@ -60,52 +56,27 @@ pub done : (a : Action) → a ≡ each [] a
 unfolding each
 done a = refl
 
--- tests that do not all pass for a do not for b either
-each-off : (l : List Bool) (a b : Action) → (Rest ≡ a → ⊥) → Rest ≡ each l a → each l b ≡ Rest
-unfolding each
-each-off [] a b n e = absurd (n e)
-each-off (true ∷ l) a b n e = each-off l a b n e
-each-off (false ∷ l) a b n e = refl
-
-module _ (s : Situation) (H : List View) (a : Action) {x : turn.Action} (is : some x ≡ actionIs s H a) where
-  all2 : (b c : Bool) → when (b && c) x ≡ actionIs s H (each (b ∷ c ∷ []) a)
+module _ (s : Situation) (H : List View) (B : List ℕ) (b : ℕ → Binding) (a : Action) {x : turn.Action} (is : some x ≡ actionIs s H B b a) where
+  all2 : (p q : Bool) → when (p && q) x ≡ actionIs s H B b (each (p ∷ q ∷ []) a)
   unfolding each actionIs
   all2 true true = is
   all2 true false = refl
-  all2 false c = refl
+  all2 false q = refl
 
-  all3 : (b c d : Bool) → when (b && c && d) x ≡ actionIs s H (each (b ∷ c ∷ d ∷ []) a)
+  pub all3 : (p q r : Bool) → when (p && q && r) x ≡ actionIs s H B b (each (p ∷ q ∷ r ∷ []) a)
   unfolding each actionIs
-  all3 true c d = all2 c d
-  all3 false c d = refl
+  all3 true q r = all2 q r
+  all3 false q r = refl
 
-  all4 : (b c d e : Bool) → when (b && c && d && e) x ≡ actionIs s H (each (b ∷ c ∷ d ∷ e ∷ []) a)
+  all4 : (p q r o : Bool) → when (p && q && r && o) x ≡ actionIs s H B b (each (p ∷ q ∷ r ∷ o ∷ []) a)
   unfolding each actionIs
-  all4 true c d e = all3 c d e
-  all4 false c d e = refl
-
-given-when : {A : Type 0} (s : Situation) (H : List View) (b : Bool) (m : A) (f : A → Option turn.Action) (l : List Bool) (a : Action)
-    → (b ≡ true → f m ≡ actionIs s H (each l a)) → given (when b m) f ≡ actionIs s H (each (b ∷ l) a)
-unfolding each actionIs
-given-when s H true m f l a h = h refl
-given-when s H false m f l a h = refl
-
-given-cong : {A B : Type 0} (o : Option A) (f g : A → Option B) → ((m : A) → f m ≡ g m) → given o f ≡ given o g
-given-cong none f g h = refl
-given-cong (some m) f g h = h m
-
-given-off : {A B : Type 0} (o : Option A) (f : A → Option B) → ((m : A) → f m ≡ none) → given o f ≡ none
-given-off none f h = refl
-given-off (some m) f h = h m
+  all4 true q r o = all3 q r o
+  all4 false q r o = refl
 
 find-cong : {A : Type 0} (p q : A → Bool) (l : List A) → ((a : A) → p a ≡ q a) → find p l ≡ find q l
 unfolding find
 find-cong p q [] h = refl
 find-cong p q (a ∷ l) h = rw (h a, find-cong p q l h)
-
-some-when : {A : Type 0} (b : Bool) (m : A) → isSome (when b m) ≡ b
-some-when true m = refl
-some-when false m = refl
 
 -- ---- actions by their tags
 
@@ -113,87 +84,106 @@ some-when false m = refl
 pub acts-else : (a : Action) → OneOf (1 ∷ 2 ∷ 3 ∷ 4 ∷ 5 ∷ 6 ∷ 7 ∷ 8 ∷ 9 ∷ 10 ∷ []) (tagOf action.the-type a) → true ≡ acts a
 acts-else Rest k = absurd (miss (1 ∷ 2 ∷ 3 ∷ 4 ∷ 5 ∷ 6 ∷ 7 ∷ 8 ∷ 9 ∷ 10 ∷ []) 0 tt k)
 acts-else (Report u) k = refl
-acts-else (Enter v b) k = refl
+acts-else (Enter v) k = refl
 acts-else AgreeView k = refl
 acts-else AgreeHistory k = refl
-acts-else (Ack m) k = refl
-acts-else (Store m) k = refl
-acts-else (Deliver m) k = refl
+acts-else (Ack j m) k = refl
+acts-else (Store j m) k = refl
+acts-else (Deliver j m) k = refl
 acts-else Join k = refl
 acts-else Leave k = refl
-acts-else (Prepare m) k = refl
+acts-else (Prepare j m) k = refl
 
 -- all but four sign, and do nothing else
-pub signs-else : (s : Situation) (H : List View) (a : Action) → OneOf (1 ∷ 3 ∷ 4 ∷ 6 ∷ 8 ∷ 9 ∷ 10 ∷ []) (tagOf action.the-type a) → actionIs s H a ≡ some (turn.sign (statementOf s H a))
+pub signs-else : (s : Situation) (H : List View) (B : List ℕ) (b : ℕ → Binding) (a : Action) → OneOf (1 ∷ 3 ∷ 4 ∷ 6 ∷ 8 ∷ 9 ∷ 10 ∷ []) (tagOf action.the-type a)
+    → actionIs s H B b a ≡ some (turn.sign (statementOf s H B a))
 unfolding actionIs
-signs-else s H Rest k = absurd (miss (1 ∷ 3 ∷ 4 ∷ 6 ∷ 8 ∷ 9 ∷ 10 ∷ []) 0 tt k)
-signs-else s H (Report u) k = refl
-signs-else s H (Enter v b) k = absurd (miss (1 ∷ 3 ∷ 4 ∷ 6 ∷ 8 ∷ 9 ∷ 10 ∷ []) 2 tt k)
-signs-else s H AgreeView k = refl
-signs-else s H AgreeHistory k = refl
-signs-else s H (Ack m) k = absurd (miss (1 ∷ 3 ∷ 4 ∷ 6 ∷ 8 ∷ 9 ∷ 10 ∷ []) 5 tt k)
-signs-else s H (Store m) k = refl
-signs-else s H (Deliver m) k = absurd (miss (1 ∷ 3 ∷ 4 ∷ 6 ∷ 8 ∷ 9 ∷ 10 ∷ []) 7 tt k)
-signs-else s H Join k = refl
-signs-else s H Leave k = refl
-signs-else s H (Prepare m) k = refl
+signs-else s H B b Rest k = absurd (miss (1 ∷ 3 ∷ 4 ∷ 6 ∷ 8 ∷ 9 ∷ 10 ∷ []) 0 tt k)
+signs-else s H B b (Report u) k = refl
+signs-else s H B b (Enter v) k = absurd (miss (1 ∷ 3 ∷ 4 ∷ 6 ∷ 8 ∷ 9 ∷ 10 ∷ []) 2 tt k)
+signs-else s H B b AgreeView k = refl
+signs-else s H B b AgreeHistory k = refl
+signs-else s H B b (Ack j m) k = absurd (miss (1 ∷ 3 ∷ 4 ∷ 6 ∷ 8 ∷ 9 ∷ 10 ∷ []) 5 tt k)
+signs-else s H B b (Store j m) k = refl
+signs-else s H B b (Deliver j m) k = absurd (miss (1 ∷ 3 ∷ 4 ∷ 6 ∷ 8 ∷ 9 ∷ 10 ∷ []) 7 tt k)
+signs-else s H B b Join k = refl
+signs-else s H B b Leave k = refl
+signs-else s H B b (Prepare j m) k = refl
+
+-- whether something is done
+pub acts-is : (s : Situation) (H : List View) (B : List ℕ) (b : ℕ → Binding) (a : Action) → isSome (actionIs s H B b a) ≡ acts a
+unfolding actionIs
+acts-is s H B b Rest = refl
+acts-is s H B b (Report u) = refl
+acts-is s H B b (Enter v) = refl
+acts-is s H B b AgreeView = refl
+acts-is s H B b AgreeHistory = refl
+acts-is s H B b (Ack j m) = refl
+acts-is s H B b (Store j m) = refl
+acts-is s H B b (Deliver j m) = refl
+acts-is s H B b Join = refl
+acts-is s H B b Leave = refl
+acts-is s H B b (Prepare j m) = refl
 
 -- ---- what is signed
 
 pub made-as : {a b : Stmt} {st : Statement} → a ≡ b → Made a st → Made b st
-made-as e m = record { means = m .means ∙ e; short = m .short }
+made-as e m = record { means = λ B. m .means B ∙ e; short = m .short }
 
 module _ (s : Situation) (H : List View) {a : Action} {st : Statement} where
-  by-action : (b : Action) {x : Stmt} → x ≡ statementOf s H b → a ≡ b → Made x st → Made (statementOf s H a) st
-  by-action b q e m = made-as (q ∙ ap (statementOf s H) (sym e)) m
+  by-action : (b : Action) {x : Stmt} → ((B : List ℕ) → x ≡ statementOf s H B b) → a ≡ b → Made x st → Makes s H a st
+  by-action b q e m = record { means = λ B. m .means B ∙ q B ∙ ap (statementOf s H B) (sym e); short = m .short }
 
-  pub rest-made : a ≡ Rest → Made (join (s .number)) st → Made (statementOf s H a) st
+  pub report-made : {u : held.View} → a ≡ Report u → Makes s H (Report u) st → Makes s H a st
+  report-made e m = record { means = λ B. m .means B ∙ ap (statementOf s H B) (sym e); short = m .short }
+
+  pub rest-made : a ≡ Rest → Made (join (s .number)) st → Makes s H a st
   unfolding statementOf
-  rest-made = by-action Rest refl
+  rest-made = by-action (Rest) (λ B. refl)
 
-  pub report-made : {u : held.View} → a ≡ Report u → Made (statementOf s H (Report u)) st → Made (statementOf s H a) st
-  report-made {u} = by-action (Report u) refl
-
-  pub enter-made : {v : held.View} {b : bindings.Binding} → a ≡ Enter v b → Made (join (s .number)) st → Made (statementOf s H a) st
+  pub enter-made : {v : held.View} → a ≡ Enter v → Made (join (s .number)) st → Makes s H a st
   unfolding statementOf
-  enter-made {v} {b} = by-action (Enter v b) refl
+  enter-made {v} = by-action (Enter v) (λ B. refl)
 
-  pub view-made : {w : View} → w ≡ viewIn (s .shown .wished) → a ≡ AgreeView → Made (agreeView (s .number) (viewIs (s .top)) w) st → Made (statementOf s H a) st
+  pub view-made : {w : View} → w ≡ viewIn (s .shown .wished) → a ≡ AgreeView → Made (agreeView (s .number) (viewIs (s .top)) w) st → Makes s H a st
   unfolding statementOf
-  view-made q = by-action AgreeView (ap (agreeView (s .number) (viewIs (s .top))) q)
+  view-made q = by-action AgreeView (λ B. ap (agreeView (s .number) (viewIs (s .top))) q)
 
-  pub history-made : {K : List View} → K ≡ H → a ≡ AgreeHistory → Made (agreeHistory (s .number) (viewIs (s .top)) K) st → Made (statementOf s H a) st
+  pub history-made : {K : List View} → K ≡ H → a ≡ AgreeHistory → Made (agreeHistory (s .number) (viewIs (s .top)) K) st → Makes s H a st
   unfolding statementOf
-  history-made q = by-action AgreeHistory (ap (agreeHistory (s .number) (viewIs (s .top))) q)
+  history-made q = by-action AgreeHistory (λ B. ap (agreeHistory (s .number) (viewIs (s .top))) q)
 
-  pub ack-made : {m : ℕ} → a ≡ Ack m → Made (ack (s .number) (viewIs (s .top)) m) st → Made (statementOf s H a) st
+  pub ack-made : {j m : ℕ} → a ≡ Ack j m → Made (ack (s .number) (viewIs (s .top)) j m) st → Makes s H a st
   unfolding statementOf
-  ack-made {m} = by-action (Ack m) refl
+  ack-made {j} {m} = by-action (Ack j m) (λ B. refl)
 
-  pub store-made : {m : ℕ} → a ≡ Store m → Made (store (s .number) (viewIs (s .top)) m) st → Made (statementOf s H a) st
+  pub store-made : {j m : ℕ} → a ≡ Store j m → Made (store (s .number) (viewIs (s .top)) j m) st → Makes s H a st
   unfolding statementOf
-  store-made {m} = by-action (Store m) refl
+  store-made {j} {m} = by-action (Store j m) (λ B. refl)
 
-  pub deliver-made : {m : ℕ} → a ≡ Deliver m → Made (join (s .number)) st → Made (statementOf s H a) st
+  pub deliver-made : {j m : ℕ} → a ≡ Deliver j m → Made (join (s .number)) st → Makes s H a st
   unfolding statementOf
-  deliver-made {m} = by-action (Deliver m) refl
+  deliver-made {j} {m} = by-action (Deliver j m) (λ B. refl)
 
-  pub join-made : a ≡ Join → Made (join (s .number)) st → Made (statementOf s H a) st
+  pub join-made : a ≡ Join → Made (join (s .number)) st → Makes s H a st
   unfolding statementOf
-  join-made = by-action Join refl
+  join-made = by-action (Join) (λ B. refl)
 
-  pub leave-made : a ≡ Leave → Made (leave (s .number)) st → Made (statementOf s H a) st
+  pub leave-made : a ≡ Leave → Made (leave (s .number)) st → Makes s H a st
   unfolding statementOf
-  leave-made = by-action Leave refl
+  leave-made = by-action (Leave) (λ B. refl)
 
-  pub prepare-made : {m : ℕ} → a ≡ Prepare m → Made (prepare (s .number) m) st → Made (statementOf s H a) st
+  pub prepare-made : {j m : ℕ} → a ≡ Prepare j m → Made (prepare (s .number) j m) st → Makes s H a st
   unfolding statementOf
-  prepare-made {m} = by-action (Prepare m) refl
+  prepare-made {j} {m} = by-action (Prepare j m) (λ B. refl)
 
 pub reporting-made : (s : Situation) {H K : List View} (u : held.View) {w : View} {st : Statement} → w ≡ viewIn (s .shown .wished) → K ≡ H
-    → Made (report (s .number) (viewIs u) w (bindingIs (s .binding)) (certificateOf (s .shown)) K) st → Made (statementOf s H (Report u)) st
+    → Reports (s .number) (viewIs u) w (s .ring .notices) K st → Makes s H (Report u) st
 unfolding statementOf
-reporting-made s u q e m = made-as (ap₂ (λ v H. report (s .number) (viewIs u) v (bindingIs (s .binding)) (certificateOf (s .shown)) H) q e) m
+reporting-made s u q e m = record {
+  means = λ B. m .means B ∙ ap₂ (λ v H. report (s .number) (viewIs u) v (listOf (min (s .ring .notices) 64) (groupAt B)) H) q e;
+  short = m .short;
+}
 
 -- ---- what is asked
 
@@ -202,8 +192,8 @@ not-asked : {A : Type 0} (p : A → Bool) {x y : A} {b r : Bool} → b ≡ p x �
 not-asked p e q f = ap not (sym (ap p q) ∙ sym e ∙ f)
 
 -- whether the record has what st means
-pub holds-asked : {a : Stmt} {st : Statement} (X : List Stmt) (b : Bool) {r : Bool} → Made a st → b ≡ any (sameStmt (stmtOf st)) X → b ≡ r → not (any (sameStmt a) X) ≡ not r
-holds-asked X b m e = not-asked (λ x. any (sameStmt x) X) e (m .means)
+pub holds-asked : {a : Stmt} {st : Statement} (X : List Stmt) (b : Bool) (B : List ℕ) {r : Bool} → Made a st → b ≡ any (sameStmt (stmtOf st B)) X → b ≡ r → not (any (sameStmt a) X) ≡ not r
+holds-asked X b B m e = not-asked (λ x. any (sameStmt x) X) e (m .means B)
 
 -- whether it has a statement of k, of this kind, at the view of a word
 pub own-asked : (X : List Stmt) (b : Bool) (k kind u : ℕ) {v : View} {r : Bool} → viewOf u ≡ v → b ≡ any (ownAt k kind (viewOf u)) X → b ≡ r → not (any (ownAt k kind v) X) ≡ not r
@@ -219,17 +209,33 @@ members-asked b c q e f = ap (hasMembers 16) (sym q) ∙ sym e ∙ f
 
 -- ---- the rules
 
--- the rule has every controller whose situation s is, and of whom L is lent, do a
+-- what the action a has the controller d do
+abbrev pub doing : Situation → Controller → List Stmt → List ℕ → Action → Option turn.Action
+doing s d X B a = actionIs s (candidates (d .ring) X) B (mergedBy d X) a
+
+-- the rule has every controller whose situation s is, and of whom L is lent, do a, and no merged binding matters
+abbrev pub IsAny : List Lent → Situation → Rule → Action → Type 0
+IsAny L s rule a = (d : Controller) (X : List Stmt) (B : List ℕ) (b : ℕ → Binding) → SituationOf d X s → AllLent s d X L → rule d X ≡ actionIs s (candidates (d .ring) X) B b a
+
+-- the same where it may matter
 abbrev pub Is : List Lent → Situation → Rule → Action → Type 0
-Is L s rule a = (d : Controller) (X : List Stmt) → SituationOf d X s → AllLent s d X L → rule d X ≡ actionIs s (candidates (d .ring) X) a
+Is L s rule a = (d : Controller) (X : List Stmt) (B : List ℕ) → SituationOf d X s → ToldOf d X B → AllLent s d X L → rule d X ≡ doing s d X B a
 
 pub does : {L : List Lent} {s : Situation} {rule : Rule} {a r : Action} → Is L s rule a → r ≡ a → Does L s rule r
-does {s = s} f e = record { means = λ d X k h. ap (actionIs s (candidates (d .ring) X)) e ∙ sym (f d X k h) }
+does {s = s} f e = record { means = λ d X B k t h. ap (doing s d X B) e ∙ sym (f d X B k t h) }
+
+pub does-any : {L : List Lent} {s : Situation} {rule : Rule} {a r : Action} → IsAny L s rule a → r ≡ a → Does L s rule r
+does-any f e = does (λ d X B k t h. f d X B (mergedBy d X) k h) e
 
 -- where the record is lent, it is the one that is asked of
-with-record : (L : List Lent) {s : Situation} (rule : Rule) (a : Action) (Z : List Stmt)
-    → ((d : Controller) → SituationOf d Z s → AllLent s d Z L → rule d Z ≡ actionIs s (candidates (d .ring) Z) a) → Is (statements Z ∷ L) s rule a
-with-record L {s} rule a Z f d X k h = subst (λ X. SituationOf d X s → AllLent s d X L → rule d X ≡ actionIs s (candidates (d .ring) X) a) (h .0) (f d) k (h .1)
+pub with-record : (L : List Lent) {s : Situation} (rule : Rule) (a : Action) (Z : List Stmt)
+    → ((d : Controller) (B : List ℕ) → SituationOf d Z s → ToldOf d Z B → AllLent s d Z L → rule d Z ≡ doing s d Z B a) → Is (statements Z ∷ L) s rule a
+with-record L {s} rule a Z f d X B k t h = subst (λ X. SituationOf d X s → ToldOf d X B → AllLent s d X L → rule d X ≡ doing s d X B a) (h .0) (f d B) k t (h .1)
+
+-- the block has the groups of a report
+told-whole : (s : Situation) (d : Controller) (X : List Stmt) (B : List ℕ) → SituationOf d X s → ToldOf d X B → turn.told d X ≡ listOf (min (s .ring .notices) 64) (groupAt B)
+unfolding turn.told
+told-whole s d X B k t = sym (listOf-cong _ _ _ (t .at)) ∙ ap (λ n. listOf n (groupAt B)) (k .notices)
 
 width-is : {d : Controller} {X : List Stmt} {s : Situation} → SituationOf d X s → d .ring .width ≡ 16
 width-is k = ap (λ R. R .width) (k .ring)
@@ -244,9 +250,6 @@ module _ (Y : List Stmt) (s : Situation) where
   abbrev w : View
   w = viewIn (s .shown .wished)
 
-  abbrev m : ℕ
-  m = s .shown .payload
-
   due-cong : (d : Controller) (X : List Stmt) → SituationOf d X s → (u : View) → (below (d .ring .width) u (turn.T d X) && member u (d .number) && not (turn.own d X (reportsOn u))) ≡ reportDue X n t u
   unfolding turn.own reportsOn reportDue ownAt
   due-cong d X k u = rw (k .top, width-is k, k .number)
@@ -256,199 +259,79 @@ module _ (Y : List Stmt) (s : Situation) where
   due-own y u = rw (owns-at y 5 u)
 
   module _ (G : List ℕ) where
-    reporting : (o : Option View) → o ≡ find (reportDue Y n t) (viewsIn G (s .shown .length)) → (d : Controller) (X : List Stmt) → SituationOf d X s → AllLent s d X (ownStatements Y ∷ greatestViews G ∷ [])
-        → turn.rule1 d X ≡ given o (λ u. some (turn.sign (report n u w (bindingIs (s .binding)) (certificateOf (s .shown)) (candidates (d .ring) X))))
+    reporting : (o : Option View) → o ≡ find (reportDue Y n t) (viewsIn G (s .shown .length)) → (d : Controller) (X : List Stmt) (B : List ℕ) → SituationOf d X s → ToldOf d X B
+        → AllLent s d X (ownStatements Y ∷ greatestViews G ∷ [])
+        → turn.rule1 d X ≡ given o (λ u. some (turn.sign (report n u w (listOf (min (s .ring .notices) 64) (groupAt B)) (candidates (d .ring) X))))
     unfolding turn.rule1
-    reporting o e d X k h = rw (find-cong _ _ _ (λ u. due-cong d X k u ∙ due-own (h .0) u), ← h .1 .0, ← e, k .certificate, k .wished, k .number, k .binding)
+    reporting o e d X B k l h = rw (find-cong _ _ _ (λ u. due-cong d X k u ∙ due-own (h .0) u), ← h .1 .0, ← e, told-whole s d X B k l, k .wished, k .number)
 
     pub first-none : none ≡ find (reportDue Y n t) (viewsIn G (s .shown .length)) → Is (ownStatements Y ∷ greatestViews G ∷ []) s turn.rule1 Rest
     unfolding actionIs
-    first-none e d X k h = reporting none e d X k h
+    first-none e d X B k l h = reporting none e d X B k l h
 
     pub first-on : (u : held.View) → some (viewIs u) ≡ find (reportDue Y n t) (viewsIn G (s .shown .length)) → Is (ownStatements Y ∷ greatestViews G ∷ []) s turn.rule1 (Report u)
     unfolding actionIs statementOf
-    first-on u e d X k h = reporting (some (viewIs u)) e d X k h
+    first-on u e d X B k l h = reporting (some (viewIs u)) e d X B k l h
 
-  pub third : Is (ownStatements Y ∷ []) s turn.rule3 (each (s .stands ∷ hasMembers 16 w ∷ not (sameView w t) ∷ not (any (sameStmt (agreeView n t w)) Y) ∷ []) AgreeView)
+  pub third : IsAny (ownStatements Y ∷ []) s turn.rule3 (each (s .stands ∷ hasMembers 16 w ∷ not (sameView w t) ∷ not (any (sameStmt (agreeView n t w)) Y) ∷ []) AgreeView)
   unfolding turn.rule3 turn.hasSigned actionIs statementOf
-  third d X k h = rw (owns-same (h .0) (agreeView n t w) refl, k .stands, k .wished, k .top, ap (λ i. hasMembers i w) (width-is k), k .number) (all4 s (candidates (d .ring) X) AgreeView refl _ _ _ _)
+  third d X B b k h = rw (owns-same (h .0) (agreeView n t w) refl, k .stands, k .wished, k .top, ap (λ i. hasMembers i w) (width-is k), k .number) (all4 s (candidates (d .ring) X) B b AgreeView refl _ _ _ _)
 
   module _ (C : List ℕ) where
     newest : (u : View) → 0 < s .shown .count → viewIn (getD C (s .shown .count - 1) 0) ≡ last u (viewsIn C (s .shown .count))
     unfolding viewsIn
     newest u h = last-some _ (s .shown .count) u (λ e. omega arith)
 
-    agreeing : (d : Controller) (X : List Stmt) → SituationOf d X s → Owns X Y n → (H : List View) → H ≡ candidates (d .ring) X → (v : View) → v ≡ last (d .ring .init) H
-        → turn.rule4 d X ≡ actionIs s H (each (s .stands ∷ not (sameView v t) ∷ not (any (sameStmt (agreeHistory n t H)) Y) ∷ []) AgreeHistory)
+    agreeing : (d : Controller) (X : List Stmt) (B : List ℕ) (b : ℕ → Binding) → SituationOf d X s → Owns X Y n → (H : List View) → H ≡ candidates (d .ring) X → (v : View) → v ≡ last (d .ring .init) H
+        → turn.rule4 d X ≡ actionIs s H B b (each (s .stands ∷ not (sameView v t) ∷ not (any (sameStmt (agreeHistory n t H)) Y) ∷ []) AgreeHistory)
     unfolding turn.rule4 turn.hasSigned actionIs statementOf
-    agreeing d X k y H e v q = rw (owns-same y (agreeHistory n t H) refl, q, e, k .stands, k .top, k .number) (all3 s (candidates (d .ring) X) AgreeHistory refl _ _ _)
+    agreeing d X B b k y H e v q = rw (owns-same y (agreeHistory n t H) refl, q, e, k .stands, k .top, k .number) (all3 s (candidates (d .ring) X) B b AgreeHistory refl _ _ _)
 
     pub fourth : {K : List View} → K ≡ viewsIn C (s .shown .count) → 0 < s .shown .count
-        → Is (ownStatements Y ∷ candidateViews C ∷ []) s turn.rule4 (each (s .stands ∷ not (sameView (viewIn (getD C (s .shown .count - 1) 0)) t) ∷ not (any (sameStmt (agreeHistory n t K)) Y) ∷ []) AgreeHistory)
-    fourth {K} q l d X k h =
-        agreeing d X k (h .0) (candidates (d .ring) X) refl (viewIn (getD C (s .shown .count - 1) 0)) (newest (d .ring .init) l ∙ ap (last (d .ring .init)) (h .1 .0))
-        ∙ ap (λ K. actionIs s (candidates (d .ring) X) (each (s .stands ∷ not (sameView (viewIn (getD C (s .shown .count - 1) 0)) t) ∷ not (any (sameStmt (agreeHistory n t K)) Y) ∷ []) AgreeHistory)) (sym (q ∙ h .1 .0))
+        → IsAny (ownStatements Y ∷ candidateViews C ∷ []) s turn.rule4 (each (s .stands ∷ not (sameView (viewIn (getD C (s .shown .count - 1) 0)) t) ∷ not (any (sameStmt (agreeHistory n t K)) Y) ∷ []) AgreeHistory)
+    fourth {K} q l d X B b k h =
+        agreeing d X B b k (h .0) (candidates (d .ring) X) refl (viewIn (getD C (s .shown .count - 1) 0)) (newest (d .ring .init) l ∙ ap (last (d .ring .init)) (h .1 .0))
+        ∙ ap (λ K. actionIs s (candidates (d .ring) X) B b (each (s .stands ∷ not (sameView (viewIn (getD C (s .shown .count - 1) 0)) t) ∷ not (any (sameStmt (agreeHistory n t K)) Y) ∷ []) AgreeHistory)) (sym (q ∙ h .1 .0))
 
-  storing : (d : Controller) (X : List Stmt) → SituationOf d X s → Owns X Y n
-      → when (turn.stands d X && not (turn.own d X (storesAt (turn.T d X)))) (turn.sign (store (d .number) (turn.T d X) m)) ≡ actionIs s (candidates (d .ring) X) (each (s .stands ∷ not (any (ownAt n 8 t) Y) ∷ []) (Store m))
-  unfolding turn.own ownAt actionIs statementOf
-  storing d X k y = rw (owns-at y 8 t, k .stands, k .top, k .number) (all2 s (candidates (d .ring) X) (Store m) refl _ _)
-
-  pub sixth : Is (ownStatements Y ∷ []) s turn.rule6 (each (s .shown .certified ∷ s .stands ∷ not (any (ownAt n 8 t) Y) ∷ []) (Store m))
-  unfolding turn.rule6
-  sixth d X k h =
-      ap (λ o. given o (λ m. when (turn.stands d X && not (turn.own d X (storesAt (turn.T d X)))) (turn.sign (store (d .number) (turn.T d X) m)))) (k .certificate)
-      ∙ given-when s (candidates (d .ring) X) (s .shown .certified) m (λ m. when (turn.stands d X && not (turn.own d X (storesAt (turn.T d X)))) (turn.sign (store (d .number) (turn.T d X) m))) _ _ (λ c. storing d X k (h .0))
-
-  pub eighth : Is (ownStatements Y ∷ []) s turn.rule8 (each (s .joining ∷ not (any (sameStmt (join n)) Y) ∷ []) Join)
+  pub eighth : IsAny (ownStatements Y ∷ []) s turn.rule8 (each (s .joining ∷ not (any (sameStmt (join n)) Y) ∷ []) Join)
   unfolding turn.rule8 turn.hasSigned actionIs statementOf
-  eighth d X k h = rw (owns-same (h .0) (join n) refl, k .joining, k .number) (all2 s (candidates (d .ring) X) Join refl _ _)
-
-  pub ninth : Is (ownStatements Y ∷ []) s turn.rule9 (each (s .leaving ∷ not (any (sameStmt (leave n)) Y) ∷ (s .delivered || not (s .shown .certified || any (ownKind n 6) Y)) ∷ []) Leave)
-  unfolding turn.rule9 turn.hasSigned turn.own ownKind actionIs statementOf
-  ninth d X k h =
-      rw (owns-same (h .0) (leave n) refl, owns-kind (h .0) 6, k .certificate, some-when (s .shown .certified) m, k .leaving, k .number, k .delivered) (all3 s (candidates (d .ring) X) Leave refl _ _ _)
-
-  pub tenth-none : s .sending ≡ Nothing → Is (ownStatements Y ∷ []) s turn.rule10 Rest
-  unfolding turn.rule10 actionIs
-  tenth-none e d X k h = rw (k .sending ∙ ap payloadIs e)
-
-  preparing : (d : Controller) (X : List Stmt) → SituationOf d X s → Owns X Y n → (p : ℕ)
-      → when (turn.stands d X && not (turn.hasSigned d X (leave (d .number))) && not (turn.hasSigned d X (prepare (d .number) p))) (turn.sign (prepare (d .number) p))
-      ≡ actionIs s (candidates (d .ring) X) (each (s .stands ∷ not (any (sameStmt (leave n)) Y) ∷ not (any (sameStmt (prepare n p)) Y) ∷ []) (Prepare p))
-  unfolding turn.hasSigned actionIs statementOf
-  preparing d X k y p = rw (owns-same y (leave n) refl, owns-same y (prepare n p) refl, k .stands, k .number) (all3 s (candidates (d .ring) X) (Prepare p) refl _ _ _)
-
-  pub tenth : (p : ℕ) → s .sending ≡ Payload p
-      → Is (ownStatements Y ∷ []) s turn.rule10 (each (s .stands ∷ not (any (sameStmt (leave n)) Y) ∷ not (any (sameStmt (prepare n p)) Y) ∷ []) (Prepare p))
-  unfolding turn.rule10
-  tenth p e d X k h =
-      ap (λ o. given o (λ p. when (turn.stands d X && not (turn.hasSigned d X (leave (d .number))) && not (turn.hasSigned d X (prepare (d .number) p))) (turn.sign (prepare (d .number) p)))) (k .sending ∙ ap payloadIs e)
-      ∙ preparing d X k (h .0) p
-
--- ---- rule 7
-
-module _ (s : Situation) where
-  delivering : (d : Controller) (X : List Stmt) → SituationOf d X s → s .shown .certified ≡ true
-      → when (ltb 0 (length (d .entered)) && not (bit (turn.T d X .left) (d .number)) && not (d .delivered) && isStored (d .ring) X (s .shown .payload)) (turn.deliver (s .shown .payload))
-      ≡ actionIs s (candidates (d .ring) X) (each (s .active ∷ not (s .left) ∷ not (s .delivered) ∷ s .shown .stored ∷ []) (Deliver (s .shown .payload)))
-  unfolding actionIs
-  delivering d X k c = rw (k .left, k .stored c, k .active, k .delivered) (all4 s (candidates (d .ring) X) (Deliver (s .shown .payload)) refl _ _ _ _)
-
-  pub seventh : Is [] s turn.rule7 (each (s .shown .certified ∷ s .active ∷ not (s .left) ∷ not (s .delivered) ∷ s .shown .stored ∷ []) (Deliver (s .shown .payload)))
-  unfolding turn.rule7
-  seventh d X k h =
-      ap (λ o. given o (λ m. when (ltb 0 (length (d .entered)) && not (bit (turn.T d X .left) (d .number)) && not (d .delivered) && isStored (d .ring) X m) (turn.deliver m))) (k .certificate)
-      ∙ given-when s (candidates (d .ring) X) (s .shown .certified) (s .shown .payload) (λ m. when (ltb 0 (length (d .entered)) && not (bit (turn.T d X .left) (d .number)) && not (d .delivered) && isStored (d .ring) X m) (turn.deliver m)) _ _ (delivering d X k)
-
--- ---- rule 5
-
-module _ (X Y : List Stmt) (s : Situation) where
-  abbrev ackTests : List Bool
-  ackTests = s .stands ∷ not (any (ownAt (s .number) 7 (viewIs (s .top))) Y) ∷ []
-
-  abbrev Is5 : Action → Type 0
-  Is5 a = Is (statements X ∷ ownStatements Y ∷ []) s turn.rule5 a
-
-  -- "bound to m, or unbound [..]: bind to m and sign"
-  acking : (d : Controller) → SituationOf d X s → Owns X Y (s .number) → (m : ℕ)
-      → when (turn.stands d X && not (turn.own d X (acksAt (turn.T d X)))) (turn.bindAndSign m (ack (d .number) (turn.T d X) m)) ≡ actionIs s (candidates (d .ring) X) (each ackTests (Ack m))
-  unfolding turn.own ownAt actionIs statementOf
-  acking d k y m = rw (owns-at y 7 (viewIs (s .top)), k .stands, k .top, k .number) (all2 s (candidates (d .ring) X) (Ack m) refl _ _)
-
-  module _ (r : OptionalPayload) (a : Acks X s r) where
-    pub fifth-none : r ≡ Nothing → Is5 Rest
-    unfolding turn.rule5 actionIs
-    fifth-none q = with-record (ownStatements Y ∷ []) turn.rule5 Rest X (λ d k h. rw (a .means d k ∙ ap payloadIs q))
-
-    pub fifth-on : (m : ℕ) → r ≡ Payload m → Is5 (each ackTests (Ack m))
-    unfolding turn.rule5
-    fifth-on m q = with-record (ownStatements Y ∷ []) turn.rule5 (each ackTests (Ack m)) X (λ d k h. rw (a .means d k ∙ ap payloadIs q) (acking d k (h .0) m))
-
-  -- whatever there is to ack
-  pub fifth-off : Rest ≡ each ackTests (Ack 0) → Is5 Rest
-  unfolding turn.rule5 actionIs
-  fifth-off e = with-record (ownStatements Y ∷ []) turn.rule5 Rest X (λ d k h. given-off (turn.toAck d X (d .binding)) _ (λ m. acking d k (h .0) m ∙ ap (actionIs s (candidates (d .ring) X)) (each-off ackTests (Ack 0) (Ack m) (λ q. false≢true (ap acts q)) e)))
-
-module _ (X : List Stmt) (s : Situation) where
-  -- ---- what there is to ack
-
-  acks-by : (b : bindings.Binding) (r : OptionalPayload) → s .binding ≡ b → ((d : Controller) → SituationOf d X s → turn.toAck d X (bindingIs b) ≡ payloadIs r) → Acks X s r
-  acks-by b r e h = record { means = λ d k. ap (turn.toAck d X) (k .binding ∙ ap bindingIs e) ∙ h d k }
-
-  pub ack-bound : (m : ℕ) → s .binding ≡ Bound m → Acks X s (Payload m)
-  unfolding turn.toAck
-  ack-bound m e = acks-by (Bound m) (Payload m) e (λ d k. refl)
-
-  pub ack-barred : s .binding ≡ Barred → Acks X s Nothing
-  unfolding turn.toAck
-  ack-barred e = acks-by Barred Nothing e (λ d k. refl)
-
-  module _ (b : Bool) (e : s .binding ≡ Unbound) (is : b ≡ member (viewIs (s .top)) (s .ring .sender)) where
-    the-payload : b ≡ true → (d : Controller) → SituationOf d X s → (x : Stmt) → when (member (turn.T d X) (d .sender)) (x .payload) ≡ some (x .payload)
-    the-payload f d k x = rw (k .top, k .sender, sym is ∙ f)
-
-    no-payload : b ≡ false → (d : Controller) → SituationOf d X s → (x : Stmt) → when (member (turn.T d X) (d .sender)) (x .payload) ≡ none
-    no-payload f d k x = rw (k .top, k .sender, sym is ∙ f)
-
-    pub ack-outside : b ≡ false → Acks X s Nothing
-    unfolding turn.toAck
-    ack-outside f = acks-by Unbound Nothing e (λ d k. given-off (find (prepares (d .sender)) X) (λ x. when (member (turn.T d X) (d .sender)) (x .payload)) (no-payload f d k))
-
-    pub ack-first : (r : OptionalPayload) → b ≡ true → payloadIs r ≡ firstPrepare (s .ring .sender) X → Acks X s r
-    unfolding turn.toAck firstPrepare
-    ack-first r f q = acks-by Unbound r e (λ d k.
-        given-cong (find (prepares (d .sender)) X) (λ x. when (member (turn.T d X) (d .sender)) (x .payload)) (λ x. some (x .payload)) (the-payload f d k)
-        ∙ ap (λ x. given (find (prepares x) X) (λ y. some (y .payload))) (k .sender) ∙ sym q)
+  eighth d X B b k h = rw (owns-same (h .0) (join n) refl, k .joining, k .number) (all2 s (candidates (d .ring) X) B b Join refl _ _)
 
 -- ---- rule 2
 
-module _ (X : List Stmt) (s : Situation) where
+module _ (X : List Stmt) (S : List ℕ) (s : Situation) where
   abbrev Is2 : Action → Type 0
-  Is2 a = Is (statements X ∷ []) s turn.rule2 a
+  Is2 a = Is (statements X ∷ senders S ∷ []) s turn.rule2 a
 
   entering : (d : Controller) → SituationOf d X s → (reported : Bool) → turn.isReported d X ≡ reported
-      → turn.rule2 d X ≡ when (member (viewIs (s .top)) (s .number) && not (s .entered) && reported) (turn.enter (viewIs (s .top)) (turn.mergeAll (d .binding) (turn.countedReports d X)))
+      → turn.rule2 d X ≡ when (member (viewIs (s .top)) (s .number) && not (s .entered) && reported) (turn.enter (viewIs (s .top)) (mergedBy d X))
   unfolding turn.rule2
   entering d k reported e = rw (e, k .top, k .entered, k .number)
 
   -- what the evidence says of the reports
-  in-ring : (d : Controller) → SituationOf d X s → (b : Bool) → b ≡ reportedAll (ringIs (s .ring)) (s .ring .sender) X → turn.isReported d X ≡ b
-  in-ring d k b e = reported-turn d X ∙ ap₂ (λ x y. reportedAll x y X) (k .ring) (k .sender) ∙ sym e
-
-  merging : (d : Controller) → SituationOf d X s → (b : bindings.Binding) → bindingIs b ≡ turn.mergeAll (bindingIs (s .binding)) (reportsBelow (ringIs (s .ring)) (s .ring .sender) X)
-      → turn.mergeAll (d .binding) (turn.countedReports d X) ≡ bindingIs b
-  merging d k b e = ap₂ turn.mergeAll (k .binding) (counted-turn d X ∙ ap₂ (λ x y. reportsBelow x y X) (k .ring) (k .sender)) ∙ sym e
+  in-ring : (d : Controller) → SituationOf d X s → d .senders ≡ sendersOf S (s .ring .notices) → (b : Bool) → b ≡ reportedAll (ringIs (s .ring)) (sendersOf S (s .ring .notices)) X → turn.isReported d X ≡ b
+  in-ring d k l b e = reported-turn d X ∙ ap₂ (λ x y. reportedAll x y X) (k .ring) l ∙ sym e
 
   module _ (inside : Bool) (i : inside ≡ member (viewIs (s .top)) (s .number)) where
     pub outside : inside ≡ false → Is2 Rest
     unfolding actionIs
-    outside f = with-record [] turn.rule2 Rest X (λ d k h. entering d k (turn.isReported d X) refl ∙ rw (sym i ∙ f))
+    outside f = with-record (senders S ∷ []) turn.rule2 Rest X (λ d B k t h. entering d k (turn.isReported d X) refl ∙ rw (sym i ∙ f))
 
     module _ (f : inside ≡ true) where
       pub entered-already : s .entered ≡ true → Is2 Rest
       unfolding actionIs
-      entered-already g = with-record [] turn.rule2 Rest X (λ d k h. entering d k (turn.isReported d X) refl ∙ rw (sym i ∙ f, g))
+      entered-already g = with-record (senders S ∷ []) turn.rule2 Rest X (λ d B k t h. entering d k (turn.isReported d X) refl ∙ rw (sym i ∙ f, g))
 
-      module _ (g : s .entered ≡ false) (reported : Bool) (e : reported ≡ reportedAll (ringIs (s .ring)) (s .ring .sender) X) where
+      module _ (g : s .entered ≡ false) (reported : Bool) (e : reported ≡ reportedAll (ringIs (s .ring)) (sendersOf S (s .ring .notices)) X) where
         pub not-reported : reported ≡ false → Is2 Rest
         unfolding actionIs
-        not-reported b = with-record [] turn.rule2 Rest X (λ d k h. entering d k reported (in-ring d k reported e) ∙ rw (sym i ∙ f, g, b))
+        not-reported b = with-record (senders S ∷ []) turn.rule2 Rest X (λ d B k t h. entering d k reported (in-ring d k (h .0) reported e) ∙ rw (sym i ∙ f, g, b))
 
-        pub enters : reported ≡ true → (merged : bindings.Binding) → bindingIs merged ≡ turn.mergeAll (bindingIs (s .binding)) (reportsBelow (ringIs (s .ring)) (s .ring .sender) X) → Is2 (Enter (s .top) merged)
+        pub enters : reported ≡ true → Is2 (Enter (s .top))
         unfolding actionIs
-        enters b merged q = with-record [] turn.rule2 (Enter (s .top) merged) X (λ d k h. entering d k reported (in-ring d k reported e) ∙ rw (sym i ∙ f, g, b, merging d k merged q))
+        enters b = with-record (senders S ∷ []) turn.rule2 (Enter (s .top)) X (λ d B k t h. entering d k reported (in-ring d k (h .0) reported e) ∙ rw (sym i ∙ f, g, b))
 
 -- ---- the parts of a rule
-
-pub leave-late : (a x : Bool) → a ≡ true → true ≡ (a || x)
-leave-late a x e = rw e
-
-pub leave-waits : (a b x : Bool) → a ≡ false → b ≡ true → false ≡ (a || not (b || x))
-leave-waits a b x e f = rw (e, f)
-
-pub leave-free : (a b x y : Bool) → a ≡ false → b ≡ false → y ≡ x → not y ≡ (a || not (b || x))
-leave-free a b x y e f g = rw (e, f, g)
 
 module _ (X : List Stmt) (k : ℕ) (t u : View) where
   pub due-above : (b : Bool) → b ≡ below 16 u t → b ≡ false → false ≡ reportDue X k t u

@@ -1,2 +1,3 @@
-pub mod Applied
 pub mod Scans
+pub mod Applied
+pub mod Notices

@@ -1,7 +1,6 @@
--- What the rules of a turn look at and promise, each by itself.
+-- What the rules of a turn look at and tell, each by itself.
 
--- ---- what is promised
-pub mod Payloads
 -- ---- inside: what functions tell each other, and what loops keep
+pub mod Payloads
 pub mod Actions
 pub mod Rules

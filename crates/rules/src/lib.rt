@@ -20,39 +20,39 @@ pub use requests::rule8;
 pub use requests::rule9;
 pub use requests::rule10;
 pub use signed::own_of;
-use statements::Binding;
 use views::View;
 
-// A payload that is to be sent, or none.
-pub enum OptionalPayload {
+// A payload that is to be acked, or none.
+enum OptionalPayload {
     Nothing,
     Payload(u64),
 }
 
-// What a rule has the controller do. Most turns rest, so an action holds no statement: `statement` makes the one that is signed.
+// What a rule has the controller do; of a notice, its number and a payload. Most turns rest, so an action holds no statement: `statement` makes the one that is signed.
+// With which bindings a view is entered is found where that is done.
 pub enum Action {
     Rest,
     Report(View),
-    Enter(View, Binding),
+    Enter(View),
     AgreeView,
     AgreeHistory,
-    Ack(u64),
-    Store(u64),
-    Deliver(u64),
+    Ack(u8, u64),
+    Store(u8, u64),
+    Deliver(u8, u64),
     Join,
     Leave,
-    Prepare(u64),
+    Prepare(u8, u64),
 }
 
-// What the rules look at: the controller's own fields, and what its record shows. The views that it shows are lent beside it.
+// What the rules look at: the controller's own fields, and what its record shows. What it shows as views or by notice is lent beside it.
 pub struct Situation {
     pub number: u8,
     pub ring: Ring,
-    pub binding: Binding,
-    pub delivered: bool,
+    // Sets of notices: those delivered, and those of which a send was requested.
+    pub delivered: u64,
+    pub requested: u64,
     pub joining: bool,
     pub leaving: bool,
-    pub sending: OptionalPayload,
     // It has entered some view; the top; the top and nothing greater.
     pub active: bool,
     pub entered: bool,

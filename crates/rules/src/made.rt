@@ -2,9 +2,8 @@
 ghost use mathlib.Core.Path.{_≡_};
 ghost use Prim.Native.Nat.{_≤_};
 ghost use Rattle.views.specs.Held.{viewsIs};
-ghost use Rattle.statements.specs.Made.{Made};
 ghost use Rattle.views.specs.View.{viewsIn};
-ghost use Rattle.rules.specs.Actions.{acts, statementOf};
+ghost use Rattle.rules.specs.Actions.{acts, Makes};
 use crate::Action;
 use crate::Situation;
 use statements::Statement;
@@ -39,22 +38,22 @@ pub fn history_of(list: &[u64; View::LIMIT], n: usize) -> History
     }
 }
 
-// The report on u.
+// The report on u. What it tells of each notice stands in the block that goes with it.
 fn report(candidates: &[u64; View::LIMIT], s: Situation, u: View) -> Statement
     requires { ⌜ s .shown .count ≤ 16 ⌝ }
-    ensures { λ r. ⌜ Made (statementOf s (viewsIn (now (candidates .entry)) (s .shown .count)) (Action.Report u)) r ⌝ }
+    ensures { λ r. ⌜ Makes s (viewsIn (now (candidates .entry)) (s .shown .count)) (Action.Report u) r ⌝ }
 {
     let e = s.shown;
-    let b = s.binding;
+    let ring = s.ring;
     let h = history_of(candidates, e.count);
     let w = View::of_word(e.wished);
-    statements::report(s.number, u, w, b, e.certified, e.payload, h)
+    statements::report(s.number, u, w, ring.notices, h)
 }
 
 // The statement that an action signs. Of an action that signs none it means nothing.
 pub fn statement(candidates: &[u64; View::LIMIT], s: Situation, a: Action) -> Statement
     requires { ⌜ s .shown .count ≤ 16 ⌝ }
-    ensures { λ r. ⌜ Made (statementOf s (viewsIn (now (candidates .entry)) (s .shown .count)) a) r ⌝ }
+    ensures { λ r. ⌜ Makes s (viewsIn (now (candidates .entry)) (s .shown .count)) a r ⌝ }
 {
     let k = s.number;
     let t = s.top;
@@ -62,14 +61,14 @@ pub fn statement(candidates: &[u64; View::LIMIT], s: Situation, a: Action) -> St
     match a {
         Action::Rest => statements::join(k),
         Action::Report(u) => report(candidates, s, u),
-        Action::Enter(_, _) => statements::join(k),
+        Action::Enter(_) => statements::join(k),
         Action::AgreeView => statements::agree_view(k, t, View::of_word(e.wished)),
         Action::AgreeHistory => statements::agree_history(k, t, history_of(candidates, e.count)),
-        Action::Ack(m) => statements::ack(k, t, m),
-        Action::Store(m) => statements::store(k, t, m),
-        Action::Deliver(_) => statements::join(k),
+        Action::Ack(j, m) => statements::ack(k, t, j, m),
+        Action::Store(j, m) => statements::store(k, t, j, m),
+        Action::Deliver(_, _) => statements::join(k),
         Action::Join => statements::join(k),
         Action::Leave => statements::leave(k),
-        Action::Prepare(m) => statements::prepare(k, m),
+        Action::Prepare(j, m) => statements::prepare(k, j, m),
     }
 }

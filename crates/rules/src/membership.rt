@@ -8,13 +8,17 @@ ghost use Rattle.views.specs.View.{viewIn};
 ghost use Rattle.views.specs.Held.{viewIs};
 ghost use Rattle.pool.specs.Pool.{recordIn};
 ghost use Rattle.evidence.specs.Evidence.{ringIs, Settled};
+ghost use Rattle.evidence.specs.Notices.{sendersOf};
 ghost use Rattle.rules.specs.Rules.{reportDue, statements, ownStatements, candidateViews, greatestViews, Does};
+ghost use Rattle.rules.specs.Rules as lent;
 use crate::Action;
 use crate::Situation;
 use crate::made;
 use crate::signed;
 use pool::POOL_WORDS;
 use pool::RECORD;
+use statements::BLOCK;
+use statements::NOTICES;
 use views::View;
 
 // Whether a report on the view of the word u is due.
@@ -56,16 +60,18 @@ pub fn rule1(
     Action::Rest
 }
 
-// Rule 2: enter the top, once the older views are reported on, with what the reports and the own binding come to.
+// Rule 2: enter the top, once the older views are reported on.
 pub fn rule2(
     words: &[u64; POOL_WORDS],
     ids: &[u16; RECORD],
     candidates: &[u64; View::LIMIT],
     greatest: &[u64; View::LIMIT],
+    senders: &[u8; NOTICES],
+    certs: &[u64; NOTICES],
     s: Situation,
 ) -> Action
-    requires { ⌜ Settled (ringIs (s .ring)) (s .ring .sender) (recordIn (now words) (now ids)) (now candidates) (now greatest) (s .shown) ⌝ }
-    ensures { λ r. ⌜ Does (statements (recordIn (now (words .entry)) (now (ids .entry))) ∷ []) s turn.rule2 r ⌝ }
+    requires { ⌜ Settled (ringIs (s .ring)) (sendersOf (now senders) (s .ring .notices)) (recordIn (now words) (now ids)) (now candidates) (now greatest) (now certs) (s .shown) ⌝ }
+    ensures { λ r. ⌜ Does (statements (recordIn (now (words .entry)) (now (ids .entry))) ∷ lent.senders (now (senders .entry)) ∷ []) s turn.rule2 r ⌝ }
 {
     let t = s.top;
     if !t.has_member(s.number) {
@@ -76,16 +82,19 @@ pub fn rule2(
     }
     let ring = s.ring;
     let e = s.shown;
-    if !evidence::reported(words, ids, ring, e, candidates, greatest) {
+    if !evidence::reported(words, ids, ring, senders, e, candidates, greatest, certs) {
         return Action::Rest;
     }
-    let b = s.binding;
-    let merged = evidence::merged(words, ids, ring, e, candidates, greatest, b);
-    Action::Enter(t, merged)
+    Action::Enter(t)
 }
 
-// Rule 3: agree to the wished view.
-pub fn rule3(words: &[u64; POOL_WORDS], own: &[u16; RECORD], s: Situation) -> Action
+// Rule 3: agree to the wished view. The block may be any, here and below: only a report is asked for with its block.
+pub fn rule3(
+    words: &[u64; POOL_WORDS],
+    own: &[u16; RECORD],
+    block: &[u64; BLOCK],
+    s: Situation,
+) -> Action
     ensures { λ r. ⌜ Does (ownStatements (recordIn (now (words .entry)) (now (own .entry))) ∷ []) s turn.rule3 r ⌝ }
 {
     if !s.stands {
@@ -100,7 +109,7 @@ pub fn rule3(words: &[u64; POOL_WORDS], own: &[u16; RECORD], s: Situation) -> Ac
     if w.same(t) {
         return Action::Rest;
     }
-    if pool::record_holds(words, own, statements::agree_view(s.number, t, w)) {
+    if pool::record_holds(words, own, statements::agree_view(s.number, t, w), block) {
         return Action::Rest;
     }
     Action::AgreeView
@@ -111,6 +120,7 @@ pub fn rule4(
     words: &[u64; POOL_WORDS],
     own: &[u16; RECORD],
     candidates: &[u64; View::LIMIT],
+    block: &[u64; BLOCK],
     s: Situation,
 ) -> Action
     requires { ⌜ (0 < s .shown .count) × (s .shown .count ≤ 16) ⌝ }
@@ -127,7 +137,7 @@ pub fn rule4(
         return Action::Rest;
     }
     let h = made::history_of(candidates, n);
-    if pool::record_holds(words, own, statements::agree_history(s.number, t, h)) {
+    if pool::record_holds(words, own, statements::agree_history(s.number, t, h), block) {
         return Action::Rest;
     }
     Action::AgreeHistory

@@ -1,29 +1,28 @@
--- Whole lines other than a lie: read as they are written, and refused if they are the text of none.
+-- Whole lines other than a setup and a lie: read as they are written, and refused if they are the text of none.
 -- Assumes nothing.
-use Prim.Native.Nat.{ℕ, _+_, _^_, _<_, _≤_}
+use Prim.Native.Nat.{ℕ, _<_}
 use native.Mathlib.Omega.{arith}
 use mathlib.Core.Path.{_≡_, refl, sym, ap, subst, _∙_}
 use mathlib.Core.Bool.{true, false, false≢true}
-use mathlib.Core.List.{List, [], _∷_, _++_, append-nil}
-use lib.ListN.{length, drop, drop-of-length-le}
+use mathlib.Core.List.{List, [], _∷_, _++_}
+use lib.ListN.{length, drop}
 use lib.Seq.{drop-append-seam}
 use types.Run.{OneOf, miss}
 use denote.Enum.Declared.{tagOf}
 use Rattle.schedule.proofs.verb.Verb as verb
-use Rattle.text.specs.Text.{decText, hexText}
+use Rattle.text.specs.Text.{decText}
 use Rattle.statements.specs.declared.Part.{Part}
 use Rattle.statements.specs.Text.{parted}
 use Rattle.statements.specs.Parts.{NumberAt}
-use Rattle.statements.proofs.Views.{ok-before}
+use Rattle.statements.proofs.Sequence.{ok-before}
 use Rattle.schedule.specs.declared.line.Line as held
 use Rattle.schedule.specs.declared.line.Line.the-variants as is
 use Rattle.schedule.specs.declared.line.Parsed.the-variants.{Readable, Unreadable}
 use Rattle.schedule.specs.declared.verb.Verb.{Verb}
 use Rattle.schedule.specs.declared.verb.Verb.the-variants.{Setup, Join, Leave, Send, Give, All, Turn, Lie, Unknown}
-use Rattle.schedule.specs.Line.{setupWord, ended, Written}
-use Rattle.schedule.specs.Reading.{verbText, verbOf, LastAt, SetAt, IsNamed, IsNumbered, NamedBy, NumberedBy, SetBy, LieBy, Understood}
-use Rattle.schedule.proofs.Words.{begins, ended-same, OfVerb, reads-none}
-use Rattle.schedule.proofs.Fields.{left-none}
+use Rattle.schedule.specs.Line.{sendWord, giveWord, ended}
+use Rattle.schedule.specs.Reading.{verbText, verbOf, LastAt, IsNamed, NamedBy, BeginsWith, Understood}
+use Rattle.schedule.proofs.Words.{begins, ended-same, OfVerb, NotSo, reads-none}
 
 -- what follows the word w of the text T
 module _ (T w rest : List ℕ) where
@@ -57,23 +56,23 @@ module _ (T w : List ℕ) (p : Part) (l : LastAt T (length w) 15 p) where
 module _ (T : List ℕ) (at : ℕ) (p : Part) where
   some : (v : Verb) → NamedBy T v at → LastAt T at 15 p → p .ok ≡ true → Understood T (Readable (namedLine v (p .value)))
   some Setup n l o = absurd (n .named)
-  some Join n l o = record { reads = named-written T (verbText Join) p (rw (n .place) at l) (begins T Join (n .word)) o }
-  some Leave n l o = record { reads = named-written T (verbText Leave) p (rw (n .place) at l) (begins T Leave (n .word)) o }
+  some Join n l o = record { reads = λ n′. named-written T (verbText Join) p (rw (n .place) at l) (begins T Join (n .word)) o }
+  some Leave n l o = record { reads = λ n′. named-written T (verbText Leave) p (rw (n .place) at l) (begins T Leave (n .word)) o }
   some Send n l o = absurd (n .named)
   some Give n l o = absurd (n .named)
-  some All n l o = record { reads = named-written T (verbText All) p (rw (n .place) at l) (begins T All (n .word)) o }
-  some Turn n l o = record { reads = named-written T (verbText Turn) p (rw (n .place) at l) (begins T Turn (n .word)) o }
+  some All n l o = record { reads = λ n′. named-written T (verbText All) p (rw (n .place) at l) (begins T All (n .word)) o }
+  some Turn n l o = record { reads = λ n′. named-written T (verbText Turn) p (rw (n .place) at l) (begins T Turn (n .word)) o }
   some Lie n l o = absurd (n .named)
   some Unknown n l o = absurd (n .named)
 
-  none : (v : Verb) → NamedBy T v at → LastAt T at 15 p → p .ok ≡ false → OfVerb v (λ l. ¬ Written l (ended T))
+  none : (v : Verb) → NamedBy T v at → LastAt T at 15 p → p .ok ≡ false → OfVerb v (NotSo T)
   none Setup n l o = absurd (n .named)
-  none Join n l o = named-not T (verbText Join) p (rw (n .place) at l) o
-  none Leave n l o = named-not T (verbText Leave) p (rw (n .place) at l) o
+  none Join n l o = λ k _. named-not T (verbText Join) p (rw (n .place) at l) o k
+  none Leave n l o = λ k _. named-not T (verbText Leave) p (rw (n .place) at l) o k
   none Send n l o = absurd (n .named)
   none Give n l o = absurd (n .named)
-  none All n l o = named-not T (verbText All) p (rw (n .place) at l) o
-  none Turn n l o = named-not T (verbText Turn) p (rw (n .place) at l) o
+  none All n l o = λ k _. named-not T (verbText All) p (rw (n .place) at l) o k
+  none Turn n l o = λ k _. named-not T (verbText Turn) p (rw (n .place) at l) o k
   none Lie n l o = absurd (n .named)
   none Unknown n l o = absurd (n .named)
 
@@ -83,107 +82,54 @@ module _ (T : List ℕ) (at : ℕ) (p : Part) where
   pub named-none : (v : Verb) → NamedBy T v at → LastAt T at 15 p → p .ok ≡ false → Understood T Unreadable
   named-none v n l o = record { reads = reads-none T v (n .word) (none v n l o) }
 
--- ---- a controller and a number
-abbrev pub numberedLine : Verb → ℕ → ℕ → held.Line
-numberedLine Setup k n = is.Lie
-numberedLine Join k n = is.Lie
-numberedLine Leave k n = is.Lie
-numberedLine Send k n = is.Send k n
-numberedLine Give k n = is.Give k n
-numberedLine All k n = is.Lie
-numberedLine Turn k n = is.Lie
-numberedLine Lie k n = is.Lie
-numberedLine Unknown k n = is.Lie
-
+-- ---- a controller and a statement's number
 abbrev most : ℕ
 most = 18446744073709551615
 
-module _ (T w : List ℕ) (p q : Part) (n : NumberAt T (length w) 15 p) (l : LastAt T (p .next) most q) where
-  numbered-written : T ≡ w ++ drop (length w) T → q .ok ≡ true → (p .value < 16) × (q .value < 2 ^ 64) × (ended T ≡ ended (parted (w ∷ decText (p .value) ∷ decText (q .value) ∷ [])))
+module _ (T : List ℕ) (by : BeginsWith Give T) (k n : Part) (ck : NumberAt T 4 15 k) (cn : LastAt T (k .next) most n) where
+  pub give-some : n .ok ≡ true → Understood T (Readable (is.Give (k .value) (n .value)))
   unfolding parted
-  numbered-written b o =
-      let d = l .only o in
-      let first = n .only (ok-before T (p .next) 44 (decText (q .value)) (p .ok) d (n .stop)) in
-      (omega (arith, n .low), omega (arith, l .low), put-together T w (44 ∷ (decText (p .value) ++ 44 ∷ decText (q .value))) b (first ∙ ap (λ (r : List ℕ). 44 ∷ (decText (p .value) ++ r)) d))
-
-  numbered-not : q .ok ≡ false → (k m : ℕ) → ¬ ((k < 16) × (m < 2 ^ 64) × (ended T ≡ ended (parted (w ∷ decText k ∷ decText m ∷ []))))
-  unfolding parted
-  numbered-not o k m h =
-      let g = n .back k (44 ∷ decText m) (omega (arith, h .0)) refl (follows T w (44 ∷ (decText k ++ 44 ∷ decText m)) (h .2)) in
-      false≢true (sym o ∙ l .back m (omega (arith, h .1)) (g .2) .0)
-
-module _ (T : List ℕ) (p q : Part) (n : NumberAt T 4 15 p) (l : LastAt T (p .next) most q) where
-  both : (v : Verb) → NumberedBy T v → q .ok ≡ true → Understood T (Readable (numberedLine v (p .value) (q .value)))
-  both Setup b o = absurd (b .numbered)
-  both Join b o = absurd (b .numbered)
-  both Leave b o = absurd (b .numbered)
-  both Send b o = record { reads = numbered-written T (verbText Send) p q n l (begins T Send (b .word)) o }
-  both Give b o = record { reads = numbered-written T (verbText Give) p q n l (begins T Give (b .word)) o }
-  both All b o = absurd (b .numbered)
-  both Turn b o = absurd (b .numbered)
-  both Lie b o = absurd (b .numbered)
-  both Unknown b o = absurd (b .numbered)
-
-  neither : (v : Verb) → NumberedBy T v → q .ok ≡ false → OfVerb v (λ l. ¬ Written l (ended T))
-  neither Setup b o = absurd (b .numbered)
-  neither Join b o = absurd (b .numbered)
-  neither Leave b o = absurd (b .numbered)
-  neither Send b o = numbered-not T (verbText Send) p q n l o
-  neither Give b o = numbered-not T (verbText Give) p q n l o
-  neither All b o = absurd (b .numbered)
-  neither Turn b o = absurd (b .numbered)
-  neither Lie b o = absurd (b .numbered)
-  neither Unknown b o = absurd (b .numbered)
-
-  pub numbered-some : (v u : Verb) → v ≡ u → NumberedBy T v → q .ok ≡ true → Understood T (Readable (numberedLine u (p .value) (q .value)))
-  numbered-some v u e b o = subst (λ u. Understood T (Readable (numberedLine u (p .value) (q .value)))) e (both v b o)
-
-  pub numbered-none : (v : Verb) → NumberedBy T v → q .ok ≡ false → Understood T Unreadable
-  numbered-none v b o = record { reads = reads-none T v (b .word) (neither v b o) }
-
--- ---- a setup
-module _ (T : List ℕ) (m s f : Part) (cm : SetAt T 5 m) (cs : NumberAt T (m .next) 255 s) (cf : SetAt T (s .next) f) (by : SetBy T) where
-  abbrev setupText : ℕ → ℕ → ℕ → List ℕ
-  setupText a b c = 44 ∷ (hexText 4 a ++ 44 ∷ (decText b ++ 44 ∷ hexText 4 c))
-
-  pub setup-some : length T ≤ f .next → f .ok ≡ true → Understood T (Readable (is.Setup (m .value) (s .value) (f .value)))
-  unfolding parted
-  setup-some h o =
-      let d3 = cf .only o ∙ ap (λ (r : List ℕ). 44 ∷ (hexText 4 (f .value) ++ r)) (drop-of-length-le T h) ∙ ap (λ (r : List ℕ). 44 ∷ r) (append-nil (hexText 4 (f .value))) in
-      let d2 = cs .only (ok-before T (s .next) 44 (hexText 4 (f .value)) (s .ok) d3 (cs .stop)) ∙ ap (λ (r : List ℕ). 44 ∷ (decText (s .value) ++ r)) d3 in
-      let d1 = cm .only (ok-before T (m .next) 44 (decText (s .value) ++ 44 ∷ hexText 4 (f .value)) (m .ok) d2 (cm .stop)) ∙ ap (λ (r : List ℕ). 44 ∷ (hexText 4 (m .value) ++ r)) d2 in record {
-        reads = (omega (arith, cm .low), omega (arith, cs .low), omega (arith, cf .low), put-together T setupWord (setupText (m .value) (s .value) (f .value)) (begins T Setup (by .word)) d1);
+  give-some o =
+      let d2 = cn .only o in
+      let d1 = ck .only (ok-before T (k .next) 44 (decText (n .value)) (k .ok) d2 (ck .stop)) ∙ ap (λ (r : List ℕ). 44 ∷ (decText (k .value) ++ r)) d2 in record {
+        reads = λ _. (omega (arith, ck .low), omega (arith, cn .low), put-together T giveWord (44 ∷ (decText (k .value) ++ 44 ∷ decText (n .value))) (begins T Give (by .word)) d1);
       }
 
-  -- what the fields are, if the line is a setup
-  fields : (a b c : ℕ) → a < 2 ^ 16 → b < 256 → c < 2 ^ 16 → ended T ≡ ended (setupWord ++ setupText a b c) → (f .ok ≡ true) × (drop (f .next) T ≡ [])
-  fields a b c ha hb hc e =
-      let g1 = cm .back a (44 ∷ (decText b ++ 44 ∷ hexText 4 c)) (omega arith) (follows T setupWord (setupText a b c) e) in
-      let g2 = cs .back b (44 ∷ hexText 4 c) (omega arith) refl (g1 .2) in
-      let g3 = cf .back c [] (omega arith) (g2 .2 ∙ ap (λ (r : List ℕ). 44 ∷ r) (sym (append-nil (hexText 4 c)))) in
-      (g3 .0, g3 .2)
-
-  pub setup-more : f .next < length T → Understood T Unreadable
+  pub give-none : n .ok ≡ false → Understood T Unreadable
   unfolding parted
-  setup-more h = record { reads = reads-none T Setup (by .word) (λ a b c w. let g = left-none T (f .next) (fields a b c (w .0) (w .1) (w .2) (w .3) .1) in omega arith) }
+  give-none o = record {
+    reads = reads-none T Give (by .word) (λ a b _ w.
+        let g = ck .back a (44 ∷ decText b) (omega (arith, w .0)) refl (follows T giveWord (44 ∷ (decText a ++ 44 ∷ decText b)) (w .2)) in
+        false≢true (sym o ∙ cn .back b (omega (arith, w .1)) (g .2) .0));
+  }
 
-  pub setup-none : f .ok ≡ false → Understood T Unreadable
+-- ---- a controller, a notice and a payload
+module _ (T : List ℕ) (by : BeginsWith Send T) (k i m : Part) (ck : NumberAt T 4 15 k) (ci : NumberAt T (k .next) 255 i) (cm : LastAt T (i .next) most m) where
+  pub send-some : m .ok ≡ true → Understood T (Readable (is.Send (k .value) (i .value) (m .value)))
   unfolding parted
-  setup-none o = record { reads = reads-none T Setup (by .word) (λ a b c w. false≢true (sym o ∙ fields a b c (w .0) (w .1) (w .2) (w .3) .0)) }
+  send-some o =
+      let d3 = cm .only o in
+      let d2 = ci .only (ok-before T (i .next) 44 (decText (m .value)) (i .ok) d3 (ci .stop)) ∙ ap (λ (r : List ℕ). 44 ∷ (decText (i .value) ++ r)) d3 in
+      let d1 = ck .only (ok-before T (k .next) 44 (decText (i .value) ++ 44 ∷ decText (m .value)) (k .ok) d2 (ck .stop)) ∙ ap (λ (r : List ℕ). 44 ∷ (decText (k .value) ++ r)) d2 in record {
+        reads = λ _. (omega (arith, ck .low), ci .low, omega (arith, cm .low), put-together T sendWord (44 ∷ (decText (k .value) ++ 44 ∷ (decText (i .value) ++ 44 ∷ decText (m .value)))) (begins T Send (by .word)) d1);
+      }
+
+  pub send-none : m .ok ≡ false → Understood T Unreadable
+  unfolding parted
+  send-none o = record {
+    reads = reads-none T Send (by .word) (λ a b p _ w.
+        let g = ck .back a (44 ∷ (decText b ++ 44 ∷ decText p)) (omega (arith, w .0)) refl (follows T sendWord (44 ∷ (decText a ++ 44 ∷ (decText b ++ 44 ∷ decText p))) (w .3)) in
+        let h = ci .back b (44 ∷ decText p) (w .1) refl (g .2) in
+        false≢true (sym o ∙ cm .back p (omega (arith, w .2)) (h .2) .0));
+  }
 
 -- ---- by the word
 module _ (T : List ℕ) (v : Verb) (by : v ≡ verbOf T) where
   pub named-by : (u : Verb) (at : ℕ) → v ≡ u → at ≡ length (verbText u) → IsNamed u → NamedBy T v at
   named-by u at e a n = record { word = by; place = a ∙ ap (λ (x : Verb). length (verbText x)) (sym e); named = subst IsNamed (sym e) n }
 
-  pub numbered-by : (u : Verb) → v ≡ u → IsNumbered u → NumberedBy T v
-  numbered-by u e n = record { word = by; numbered = subst IsNumbered (sym e) n }
-
-  pub set-by : v ≡ Setup → SetBy T
-  set-by e = record { word = sym e ∙ by }
-
-  pub lie-by : v ≡ Lie → LieBy T
-  lie-by e = record { word = sym e ∙ by }
+  pub begins-by : (u : Verb) → v ≡ u → BeginsWith u T
+  begins-by u e = record { word = sym e ∙ by }
 
   pub unknown : v ≡ Unknown → Understood T Unreadable
   unknown e = record { reads = reads-none T Unknown (sym e ∙ by) tt }
@@ -200,13 +146,6 @@ last-named Turn t n = refl
 last-named Lie t n = absurd n
 last-named Unknown t n = absurd n
 
-pub last-numbered : (v : Verb) → OneOf (0 ∷ 1 ∷ 2 ∷ 4 ∷ 5 ∷ 6 ∷ 7 ∷ 8 ∷ []) (tagOf verb.the-type v) → IsNumbered v → v ≡ Give
-last-numbered Setup t n = absurd n
-last-numbered Join t n = absurd n
-last-numbered Leave t n = absurd n
-last-numbered Send t n = absurd (miss (0 ∷ 1 ∷ 2 ∷ 4 ∷ 5 ∷ 6 ∷ 7 ∷ 8 ∷ []) 3 tt t)
-last-numbered Give t n = refl
-last-numbered All t n = absurd n
-last-numbered Turn t n = absurd n
-last-numbered Lie t n = absurd n
-last-numbered Unknown t n = absurd n
+-- any other word than a setup's
+pub no-setup-word : (v : Verb) → OneOf (1 ∷ 2 ∷ 3 ∷ 4 ∷ 5 ∷ 6 ∷ 7 ∷ 8 ∷ []) (tagOf verb.the-type v) → v ≡ Setup → ⊥
+no-setup-word v t e = miss (1 ∷ 2 ∷ 3 ∷ 4 ∷ 5 ∷ 6 ∷ 7 ∷ 8 ∷ []) 0 tt (subst (λ u. OneOf (1 ∷ 2 ∷ 3 ∷ 4 ∷ 5 ∷ 6 ∷ 7 ∷ 8 ∷ []) (tagOf verb.the-type u)) e t)

@@ -4,7 +4,7 @@ use Prim.Native.Nat.{ℕ, _+_}
 use native.Mathlib.Omega.{arith}
 use mathlib.Core.Path.{_≡_, refl, sym, ap, subst, _∙_}
 use mathlib.Core.Bool.{Bool, true, false, cond, false≢true}
-use mathlib.Core.List.{List, [], _∷_, _++_}
+use mathlib.Core.List.{List, [], _∷_, _++_, map}
 use mathlib.Core.Option.{none}
 use lib.Dec.{eqb}
 use lib.ListN.{length, take, drop, length-append}
@@ -55,34 +55,34 @@ ended-same a b e =
 
 -- ---- the word of a line
 abbrev pub verbIs : Line → Verb
-verbIs (setup members sender faulty) = Setup
+verbIs (setup members senders faulty) = Setup
 verbIs (join k) = Join
 verbIs (leave k) = Leave
-verbIs (send k payload) = Send
+verbIs (send k notice payload) = Send
 verbIs (give k n) = Give
 verbIs (all k) = All
 verbIs (turn k) = Turn
 verbIs (lie s) = Lie
 verbIs noStatement = Lie
 
-pub written-verb : (T : List ℕ) (l : Line) → Written l (ended T) → verbOf T ≡ verbIs l
+pub written-verb : (T : List ℕ) (notices : ℕ) (l : Line) → Written notices l (ended T) → verbOf T ≡ verbIs l
 unfolding verbOf startsWith parted
-written-verb T (setup m s f) w = ap verbOf (ended-same T (parted (setupWord ∷ hexText 4 m ∷ decText s ∷ hexText 4 f ∷ [])) (w .3))
-written-verb T (join k) w = ap verbOf (ended-same T (parted (joinWord ∷ decText k ∷ [])) (w .1))
-written-verb T (leave k) w = ap verbOf (ended-same T (parted (leaveWord ∷ decText k ∷ [])) (w .1))
-written-verb T (send k p) w = ap verbOf (ended-same T (parted (sendWord ∷ decText k ∷ decText p ∷ [])) (w .2))
-written-verb T (give k n) w = ap verbOf (ended-same T (parted (giveWord ∷ decText k ∷ decText n ∷ [])) (w .2))
-written-verb T (all k) w = ap verbOf (ended-same T (parted (allWord ∷ decText k ∷ [])) (w .1))
-written-verb T (turn k) w = ap verbOf (ended-same T (parted (turnWord ∷ decText k ∷ [])) (w .1))
-written-verb T (lie s) w = ap verbOf (ended-same T (parted (lieWord ∷ text s ∷ [])) (w .1))
-written-verb T noStatement w = ap verbOf (ended-same T (parted (lieWord ∷ w .0 ∷ [])) (w .1))
+written-verb T n (setup m L f) w = ap verbOf (ended-same T (parted (setupWord ∷ hexText 4 m ∷ decText (length L) ∷ (map decText L ++ (hexText 4 f ∷ [])))) (w .4))
+written-verb T n (join k) w = ap verbOf (ended-same T (parted (joinWord ∷ decText k ∷ [])) (w .1))
+written-verb T n (leave k) w = ap verbOf (ended-same T (parted (leaveWord ∷ decText k ∷ [])) (w .1))
+written-verb T n (send k i p) w = ap verbOf (ended-same T (parted (sendWord ∷ decText k ∷ decText i ∷ decText p ∷ [])) (w .3))
+written-verb T n (give k i) w = ap verbOf (ended-same T (parted (giveWord ∷ decText k ∷ decText i ∷ [])) (w .2))
+written-verb T n (all k) w = ap verbOf (ended-same T (parted (allWord ∷ decText k ∷ [])) (w .1))
+written-verb T n (turn k) w = ap verbOf (ended-same T (parted (turnWord ∷ decText k ∷ [])) (w .1))
+written-verb T n (lie s) w = ap verbOf (ended-same T (parted (lieWord ∷ text s ∷ [])) (w .1))
+written-verb T n noStatement w = ap verbOf (ended-same T (parted (lieWord ∷ w .0 ∷ [])) (w .1))
 
 -- P holds of every line with this word.
 abbrev pub OfVerb : Verb → (Line → Type 0) → Type 0
-OfVerb Setup P = (m s f : ℕ) → P (setup m s f)
+OfVerb Setup P = (m : ℕ) (L : List ℕ) (f : ℕ) → P (setup m L f)
 OfVerb Join P = (k : ℕ) → P (join k)
 OfVerb Leave P = (k : ℕ) → P (leave k)
-OfVerb Send P = (k n : ℕ) → P (send k n)
+OfVerb Send P = (k i n : ℕ) → P (send k i n)
 OfVerb Give P = (k n : ℕ) → P (give k n)
 OfVerb All P = (k : ℕ) → P (all k)
 OfVerb Turn P = (k : ℕ) → P (turn k)
@@ -90,16 +90,20 @@ OfVerb Lie P = ((s : Stmt) → P (lie s)) × P noStatement
 OfVerb Unknown P = Unit {0}
 
 pub of-verb : (l : Line) (P : Line → Type 0) → OfVerb (verbIs l) P → P l
-of-verb (setup m s f) P o = o m s f
+of-verb (setup m L f) P o = o m L f
 of-verb (join k) P o = o k
 of-verb (leave k) P o = o k
-of-verb (send k n) P o = o k n
+of-verb (send k i n) P o = o k i n
 of-verb (give k n) P o = o k n
 of-verb (all k) P o = o k
 of-verb (turn k) P o = o k
 of-verb (lie s) P o = o .0 s
 of-verb noStatement P o = o .1
 
+-- The text T is written as no line such as l.
+abbrev pub NotSo : List ℕ → Line → Type 0
+NotSo T l = (notices : ℕ) → ¬ Written notices l (ended T)
+
 -- A text whose word tells of no line that it is written so reads as none.
-pub reads-none : (T : List ℕ) (v : Verb) → v ≡ verbOf T → OfVerb v (λ l. ¬ Written l (ended T)) → Reads (ended T) none
-reads-none T v e o l w = of-verb l (λ l. ¬ Written l (ended T)) (subst (λ u. OfVerb u (λ l. ¬ Written l (ended T))) (e ∙ written-verb T l w) o) w
+pub reads-none : (T : List ℕ) (v : Verb) → v ≡ verbOf T → OfVerb v (NotSo T) → (notices : ℕ) → Reads notices (ended T) none
+reads-none T v e o n l w = of-verb l (NotSo T) (subst (λ u. OfVerb u (NotSo T)) (e ∙ written-verb T n l w) o) n w

@@ -1,23 +1,26 @@
--- The lines of a schedule (document 01, "Bench schedule"). A text is the list of its bytes' numbers.
+-- The lines of a schedule (document 01, "Bench schedule"; document 02, A1). A text is the list of its bytes' numbers.
 -- Assumes nothing.
 use mathlib.Core.Path.{_≡_}
 use mathlib.Core.Logic.{_≢_}
-use mathlib.Core.List.{List, [], _∷_, _++_}
+use mathlib.Core.List.{List, [], _∷_, _++_, map}
 use mathlib.Core.Option.{Option, some, none}
-use Prim.Native.Nat.{ℕ, _^_, _<_}
+use Prim.Native.Nat.{ℕ, _^_, _<_, _≤_}
 use lib.Dec.{T, eqb}
+use lib.ListN.{length}
 use Rattle.protocol.specs.Lists.{if_then_else_}
 use Rattle.protocol.specs.Statement.{Stmt, fieldRules}
 use Rattle.text.specs.Text.{decText, hexText}
 use Rattle.statements.specs.Text.{parted, text}
+use Rattle.statements.specs.Meaning.{Each}
 
 -- "setup,members,sender,faulty (sets as four hexadecimal digits); join,k; leave,k; send,k,payload; give,k,n; all,k; turn,k; lie,statement."
+-- "in its line the sender becomes their count, then their senders, notice 0 first". "A send line names the notice before the payload."
 -- A lie whose text is no statement is `noStatement`.
 pub data Line : Type 0 where
-  setup : ℕ → ℕ → ℕ → Line
+  setup : ℕ → List ℕ → ℕ → Line
   join : ℕ → Line
   leave : ℕ → Line
-  send : ℕ → ℕ → Line
+  send : ℕ → ℕ → ℕ → Line
   give : ℕ → ℕ → Line
   all : ℕ → Line
   turn : ℕ → Line
@@ -56,24 +59,29 @@ lieWord = 108 ∷ 105 ∷ 101 ∷ []
 abbrev pub ended : List ℕ → List ℕ
 ended t = t ++ (10 ∷ [])
 
--- S is the line l as it is written. "Here k is 0 to 15 and a setup's sender 0 to 255; other numbers, and a last line without newline, are unreadable."
--- Payloads and statement numbers are of 64 bits.
-abbrev pub Written : Line → List ℕ → Type 0
-Written (setup members sender faulty) S =
-    (members < 2 ^ 16) × (sender < 256) × (faulty < 2 ^ 16) × (S ≡ ended (parted (setupWord ∷ hexText 4 members ∷ decText sender ∷ hexText 4 faulty ∷ [])))
-Written (join k) S = (k < 16) × (S ≡ ended (parted (joinWord ∷ decText k ∷ [])))
-Written (leave k) S = (k < 16) × (S ≡ ended (parted (leaveWord ∷ decText k ∷ [])))
-Written (send k payload) S = (k < 16) × (payload < 2 ^ 64) × (S ≡ ended (parted (sendWord ∷ decText k ∷ decText payload ∷ [])))
-Written (give k n) S = (k < 16) × (n < 2 ^ 64) × (S ≡ ended (parted (giveWord ∷ decText k ∷ decText n ∷ [])))
-Written (all k) S = (k < 16) × (S ≡ ended (parted (allWord ∷ decText k ∷ [])))
-Written (turn k) S = (k < 16) × (S ≡ ended (parted (turnWord ∷ decText k ∷ [])))
-Written (lie s) S = T (fieldRules 16 s) × (S ≡ ended (parted (lieWord ∷ text s ∷ [])))
-Written noStatement S = (t : List ℕ) × (S ≡ ended (parted (lieWord ∷ t ∷ []))) × ((s : Stmt) → T (fieldRules 16 s) → t ≢ text s)
+-- "Notice numbers and the count read from 0 to 255"; so does "a setup's sender".
+abbrev pub Byte : ℕ → Type 0
+Byte n = n ≤ 255
+
+-- S is the line l as it is written, in a ring with this number of notices. "Here k is 0 to 15 ..; other numbers, and a last line without newline, are unreadable."
+-- Payloads and statement numbers are of 64 bits. Only a lie asks the ring: a report has its four fields "for each notice of the setup (before one, for one notice)".
+abbrev pub Written : ℕ → Line → List ℕ → Type 0
+Written notices (setup members senders faulty) S =
+    (members < 2 ^ 16) × Byte (length senders) × Each Byte senders × (faulty < 2 ^ 16)
+    × (S ≡ ended (parted (setupWord ∷ hexText 4 members ∷ decText (length senders) ∷ (map decText senders ++ (hexText 4 faulty ∷ [])))))
+Written notices (join k) S = (k < 16) × (S ≡ ended (parted (joinWord ∷ decText k ∷ [])))
+Written notices (leave k) S = (k < 16) × (S ≡ ended (parted (leaveWord ∷ decText k ∷ [])))
+Written notices (send k notice payload) S = (k < 16) × Byte notice × (payload < 2 ^ 64) × (S ≡ ended (parted (sendWord ∷ decText k ∷ decText notice ∷ decText payload ∷ [])))
+Written notices (give k n) S = (k < 16) × (n < 2 ^ 64) × (S ≡ ended (parted (giveWord ∷ decText k ∷ decText n ∷ [])))
+Written notices (all k) S = (k < 16) × (S ≡ ended (parted (allWord ∷ decText k ∷ [])))
+Written notices (turn k) S = (k < 16) × (S ≡ ended (parted (turnWord ∷ decText k ∷ [])))
+Written notices (lie s) S = T (fieldRules 16 notices s) × (S ≡ ended (parted (lieWord ∷ text s ∷ [])))
+Written notices noStatement S = (t : List ℕ) × (S ≡ ended (parted (lieWord ∷ t ∷ []))) × ((s : Stmt) → T (fieldRules 16 notices s) → t ≢ text s)
 
 -- S reads as the line, or as none: "An unreadable line is refused there".
-abbrev pub Reads : List ℕ → Option Line → Type 0
-Reads S (some l) = Written l S
-Reads S none = (l : Line) → ¬ Written l S
+abbrev pub Reads : ℕ → List ℕ → Option Line → Type 0
+Reads notices S (some l) = Written notices l S
+Reads notices S none = (l : Line) → ¬ Written notices l S
 
 -- ---- the lines of a schedule, each with its newline; a last part may have none
 
@@ -84,10 +92,3 @@ before c (l ∷ L) = (c ∷ l) ∷ L
 unfoldable pub lines : List ℕ → List (List ℕ)
 lines [] = []
 lines (c ∷ S) = if eqb c 10 then (10 ∷ []) ∷ lines S else before c (lines S)
-
--- Every line reads so.
-abbrev pub ReadAll : List (List ℕ) → List (Option Line) → Type 0
-ReadAll [] [] = Unit {0}
-ReadAll [] (o ∷ O) = ⊥
-ReadAll (S ∷ L) [] = ⊥
-ReadAll (S ∷ L) (o ∷ O) = Reads S o × ReadAll L O

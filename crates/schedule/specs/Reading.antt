@@ -1,49 +1,58 @@
 -- What a line that was read means, and what the functions that read it promise each other. T is a line without its newline.
 -- Assumes nothing.
-use Prim.Native.Nat.{ℕ, suc, _+_, _<_, _≤_}
+use Prim.Native.Nat.{ℕ, suc, _+_, _<_, _≤_, min}
 use mathlib.Core.Path.{_≡_}
 use mathlib.Core.Bool.{Bool, true, false, cond}
 use mathlib.Core.List.{List, [], _∷_, _++_}
-use mathlib.Core.Option.{Option, some, none}
+use mathlib.Core.Option.{none}
 use lib.Dec.{eqb}
-use lib.ListN.{length, take, drop}
+use lib.ListN.{length, take, drop, getD}
+use Rattle.protocol.specs.Lists.{put}
 use Rattle.protocol.specs.Statement.{Stmt}
 use Rattle.text.specs.Text.{decText, hexText}
 use Rattle.statements.specs.declared.Part.{Part}
 use Rattle.statements.specs.declared.ReadStatement.{ReadStatement}
 use Rattle.statements.specs.Text.{parted}
-use Rattle.statements.specs.Meaning.{stmtOf}
+use Rattle.statements.specs.Meaning.{stmtOf, Many}
+use Rattle.statements.specs.Parts.{each, commaNumber, From}
 use Rattle.schedule.specs.declared.line.Line as held
 use Rattle.schedule.specs.declared.line.Line.the-variants as is
 use Rattle.schedule.specs.declared.line.Parsed.{Parsed}
 use Rattle.schedule.specs.declared.line.Parsed.the-variants.{Readable, Unreadable}
 use Rattle.schedule.specs.declared.line.ReadLine.{ReadLine}
+use Rattle.schedule.specs.declared.line.ReadSetup.{ReadSetup}
 use Rattle.schedule.specs.declared.verb.Verb.{Verb}
 use Rattle.schedule.specs.declared.verb.Verb.the-variants.{Setup, Join, Leave, Send, Give, All, Turn, Lie, Unknown}
-use Rattle.schedule.specs.Line.{Line, setup, join, leave, send, give, all, turn, lie, setupWord, joinWord, leaveWord, sendWord, giveWord, allWord, turnWord, lieWord, ended, Written, Reads, lines}
+use Rattle.schedule.specs.Line.{Line, setup, join, leave, send, give, all, turn, lie, setupWord, joinWord, leaveWord, sendWord, giveWord, allWord, turnWord, lieWord, ended, Byte, Written, Reads, lines}
 
 -- ---- what was read
 
--- What a line that was read says, but for a lie, whose statement is read apart.
-abbrev pub meant : held.Line → Option Line
-meant (is.Setup members sender faulty) = some (setup members sender faulty)
-meant (is.Join k) = some (join k)
-meant (is.Leave k) = some (leave k)
-meant (is.Send k payload) = some (send k payload)
-meant (is.Give k n) = some (give k n)
-meant (is.All k) = some (all k)
-meant (is.Turn k) = some (turn k)
-meant is.Lie = none
+-- What a line that was read says: the line itself; or that it is a setup or a lie, whose senders and statement are read apart.
+pub data Said : Type 0 where
+  aLine : Line → Said
+  aSetup : Said
+  aLie : Said
 
--- The text S says so; where nothing is said, it begins as a lie.
-abbrev pub Tells : Option Line → List ℕ → Type 0
-Tells (some l) S = Written l S
-Tells none S = (t : List ℕ) × (S ≡ ended (parted (lieWord ∷ t ∷ [])))
+abbrev pub meant : held.Line → Said
+meant is.Setup = aSetup
+meant (is.Join k) = aLine (join k)
+meant (is.Leave k) = aLine (leave k)
+meant (is.Send k notice payload) = aLine (send k notice payload)
+meant (is.Give k n) = aLine (give k n)
+meant (is.All k) = aLine (all k)
+meant (is.Turn k) = aLine (turn k)
+meant is.Lie = aLie
+
+-- The text S says so, in a ring with any number of notices.
+abbrev pub Tells : Said → List ℕ → Type 0
+Tells (aLine l) S = (notices : ℕ) → Written notices l S
+Tells aSetup S = (members : ℕ) × (senders : List ℕ) × (faulty : ℕ) × ((notices : ℕ) → Written notices (setup members senders faulty) S)
+Tells aLie S = (t : List ℕ) × (S ≡ ended (parted (lieWord ∷ t ∷ [])))
 
 -- S was read as p.
 abbrev pub ReadAs : Parsed → List ℕ → Type 0
 ReadAs (Readable l) S = Tells (meant l) S
-ReadAs Unreadable S = Reads S none
+ReadAs Unreadable S = (notices : ℕ) → Reads notices S none
 
 -- The line T was read as p.
 pub record Understood (T : List ℕ) (p : Parsed) : Type 0 where
@@ -58,14 +67,35 @@ pub record LineOf (S : List ℕ) (r : ReadLine) : Type 0 where
 
 -- The line T was read as a lie.
 pub record Lying (T : List ℕ) : Type 0 where
-  pub tells : Tells none (ended T)
+  pub tells : Tells aLie (ended T)
 
--- READING A LIE'S STATEMENT: T is the lie of the statement r, which keeps the field rules, or the lie of none. It may be any text.
-pub record LiedOf (T : List ℕ) (r : ReadStatement) : Type 0 where
-  pub told : r .ok ≡ true → Reads (ended T) (some (lie (stmtOf (r .statement))))
-  pub untold : r .ok ≡ false → (s : Stmt) → ¬ Reads (ended T) (some (lie s))
+-- READING A LIE'S STATEMENT in a ring with this number of notices, at most 64: T is the lie of the statement that r means with the block B, which keeps the field rules,
+-- or the lie of none. It may be any text.
+pub record LiedOf (T : List ℕ) (notices : ℕ) (B : List ℕ) (r : ReadStatement) : Type 0 where
+  pub told : r .ok ≡ true → Written (min notices 64) (lie (stmtOf (r .statement) B)) (ended T)
+  pub untold : r .ok ≡ false → (s : Stmt) → ¬ Written (min notices 64) (lie s) (ended T)
   pub near : r .ok ≡ true → r .statement .origin < 16
   pub short : r .statement .history .len ≤ 16
+
+-- The line T was read as a setup.
+pub record SettingUp (T : List ℕ) : Type 0 where
+  pub tells : Tells aSetup (ended T)
+
+-- The memory S has the first 64 of the senders.
+pub record SendersIn (S : List ℕ) (senders : List ℕ) : Type 0 where
+  pub each : (i : ℕ) → i < length senders → i < 64 → getD S i 0 ≡ getD senders i 0
+
+-- The line T is the setup that r says, with these senders.
+pub record ReadsSetup (T S : List ℕ) (r : ReadSetup) : Type 0 where
+  pub senders : List ℕ
+  pub count : length senders ≡ r .count
+  pub stand : SendersIn S senders
+  pub written : (notices : ℕ) → Written notices (setup (r .members) senders (r .faulty)) (ended T)
+
+-- READING A SETUP: T is the setup that r says, of the senders whose first 64 stand in the memory S after it, or no setup. It may be any text.
+pub record SetupOf (T S : List ℕ) (r : ReadSetup) : Type 0 where
+  pub told : r .ok ≡ true → ReadsSetup T S r
+  pub untold : r .ok ≡ false → (notices members : ℕ) (senders : List ℕ) (faulty : ℕ) → ¬ Written notices (setup members senders faulty) (ended T)
 
 -- ---- the line's end and its first word
 
@@ -110,6 +140,17 @@ pub record SetAt (T : List ℕ) (at : ℕ) (p : Part) : Type 0 where
   pub low : p .value < 65536
   pub stop : p .ok ≡ false → p .next ≡ length T
 
+-- n senders.
+pub record SendersAt (T : List ℕ) (at n : ℕ) (S : List ℕ) (p : Part) : Type 0 where
+  pub senders : List ℕ
+  pub many : Many Byte n senders
+  pub stand : SendersIn S senders
+  pub from : From (each commaNumber) (Many Byte n) T true at (p .ok) senders (p .next)
+
+-- One more, at place j, goes to the memory S if it has that place.
+pub record SenderPut (S : List ℕ) (j v : ℕ) (S′ : List ℕ) : Type 0 where
+  pub places : (i : ℕ) → i < 64 → getD S′ i 0 ≡ put j v (λ k. getD S k 0) i
+
 -- ---- which word the line begins with
 abbrev pub IsNamed : Verb → Type 0
 IsNamed Setup = ⊥
@@ -122,28 +163,11 @@ IsNamed Turn = Unit {0}
 IsNamed Lie = ⊥
 IsNamed Unknown = ⊥
 
-abbrev pub IsNumbered : Verb → Type 0
-IsNumbered Setup = ⊥
-IsNumbered Join = ⊥
-IsNumbered Leave = ⊥
-IsNumbered Send = Unit {0}
-IsNumbered Give = Unit {0}
-IsNumbered All = ⊥
-IsNumbered Turn = ⊥
-IsNumbered Lie = ⊥
-IsNumbered Unknown = ⊥
-
 pub record NamedBy (T : List ℕ) (v : Verb) (at : ℕ) : Type 0 where
   pub word : v ≡ verbOf T
   pub place : at ≡ length (verbText v)
   pub named : IsNamed v
 
-pub record NumberedBy (T : List ℕ) (v : Verb) : Type 0 where
+-- The line T begins with the word.
+pub record BeginsWith (v : Verb) (T : List ℕ) : Type 0 where
   pub word : v ≡ verbOf T
-  pub numbered : IsNumbered v
-
-pub record SetBy (T : List ℕ) : Type 0 where
-  pub word : Setup ≡ verbOf T
-
-pub record LieBy (T : List ℕ) : Type 0 where
-  pub word : Lie ≡ verbOf T

@@ -1,11 +1,16 @@
 // The lines of a schedule. A line is read from the part of the schedule that begins with it; its end is looked for once, and its fields
 // within it.
 ghost use mathlib.Core.Path.{_≡_};
-ghost use Rattle.schedule.specs.Reading.{bodyLength, LastAt, SetAt, NamedBy, NumberedBy, SetBy, LieBy, LiedOf, Understood, LineOf};
+ghost use mathlib.Core.Bool.{false};
+ghost use lib.ListN.{length};
+ghost use Rattle.schedule.specs.declared.verb.Verb.the-variants.{Setup, Send, Give, Lie};
+ghost use Rattle.schedule.specs.Reading.{bodyLength, LastAt, SetAt, SenderPut, SendersAt, NamedBy, BeginsWith, LiedOf, SetupOf, Understood, LineOf};
 use crate::verb::Verb;
 use crate::verb::starts_with;
 use crate::verb::verb_of;
+use statements::BLOCK;
 use statements::BYTE_MAX;
+use statements::NOTICES;
 use statements::Part;
 use statements::ReadStatement;
 use text::NEWLINE;
@@ -19,12 +24,13 @@ const SET_DIGITS: usize = 4;
 // The last controller's number.
 const LAST: u64 = View::WIDTH as u64 - 1;
 
-// A lie's statement is read where the lie is told (`lied`), so that no other line pays for it.
+// A setup is read where it is done (`read_setup`), since its senders need memory, and a lie's statement where the lie is told (`lied`), so that
+// no other line pays for them.
 pub enum Line {
-    Setup(u16, u8, u16),
+    Setup,
     Join(u8),
     Leave(u8),
-    Send(u8, u64),
+    Send(u8, u8, u64),
     Give(u8, u64),
     All(u8),
     Turn(u8),
@@ -34,6 +40,14 @@ pub enum Line {
 pub enum Parsed {
     Readable(Line),
     Unreadable,
+}
+
+// What a setup says, but for its senders; `ok` just where the line is one.
+pub struct ReadSetup {
+    pub ok: bool,
+    pub members: u16,
+    pub count: usize,
+    pub faulty: u16,
 }
 
 // What a line was read as, and where the next one begins.
@@ -112,46 +126,118 @@ fn read_named(line: &[u8], verb: Verb, at: usize) -> Parsed
     }
 }
 
-// A line that names a controller and a number.
-fn read_numbered(line: &[u8], verb: Verb) -> Parsed
-    requires { ⌜ NumberedBy (now line) verb ⌝ }
+fn read_give(line: &[u8]) -> Parsed
+    requires { ⌜ BeginsWith Give (now line) ⌝ }
     ensures { λ r. ⌜ Understood (now (line .entry)) r ⌝ }
 {
-    let p = statements::number_at(line, 4, LAST);
-    let n = last_at(line, p.next, NUMBER_MAX);
+    let k = statements::number_at(line, 4, LAST);
+    let n = last_at(line, k.next, NUMBER_MAX);
     if !n.ok {
         return Parsed::Unreadable;
     }
-    let k = p.value as u8;
-    match verb {
-        Verb::Send => Parsed::Readable(Line::Send(k, n.value)),
-        _ => Parsed::Readable(Line::Give(k, n.value)),
+    Parsed::Readable(Line::Give(k.value as u8, n.value))
+}
+
+fn read_send(line: &[u8]) -> Parsed
+    requires { ⌜ BeginsWith Send (now line) ⌝ }
+    ensures { λ r. ⌜ Understood (now (line .entry)) r ⌝ }
+{
+    let k = statements::number_at(line, 4, LAST);
+    let notice = statements::number_at(line, k.next, BYTE_MAX);
+    let payload = last_at(line, notice.next, NUMBER_MAX);
+    if !payload.ok {
+        return Parsed::Unreadable;
+    }
+    Parsed::Readable(Line::Send(k.value as u8, notice.value as u8, payload.value))
+}
+
+// How many senders have a place. A proof that one was put there asks for it.
+fn places(senders: &[u8; NOTICES]) -> usize
+    ensures { λ r. ⌜ length (now (senders .entry)) ≡ 64 ⌝ }
+{
+    let s = &senders[..];
+    s.len()
+}
+
+// A sender past the last place goes nowhere: a setup that names so many is refused by their count.
+fn put_sender(senders: &mut [u8; NOTICES], j: usize, sender: u8)
+    ensures { λ _. ⌜ SenderPut (now (senders .entry)) j sender (now (senders .exit)) ⌝ }
+{
+    places(senders);
+    if j < NOTICES {
+        senders[j] = sender;
     }
 }
 
-fn read_setup(line: &[u8]) -> Parsed
-    requires { ⌜ SetBy (now line) ⌝ }
-    ensures { λ r. ⌜ Understood (now (line .entry)) r ⌝ }
+// As many senders as are told, each with the comma before it.
+fn senders_at(line: &[u8], from: usize, n: usize, senders: &mut [u8; NOTICES]) -> Part
+    ensures { λ p. ⌜ SendersAt (now (line .entry)) from n (now (senders .exit)) p ⌝ }
+{
+    let mut ok = true;
+    let mut at = from;
+    let mut j = 0usize;
+    while j < n {
+        let p = statements::number_at(line, at, BYTE_MAX);
+        put_sender(senders, j, p.value as u8);
+        ok = p.ok;
+        at = p.next;
+        j += 1;
+    }
+    Part {
+        ok: ok,
+        value: 0,
+        next: at,
+    }
+}
+
+// What is told of a line that is no setup.
+fn no_setup() -> ReadSetup
+    ensures { λ r. ⌜ r .ok ≡ false ⌝ }
+{
+    ReadSetup {
+        ok: false,
+        members: 0,
+        count: 0,
+        faulty: 0,
+    }
+}
+
+// The fields of a setup after its word.
+fn setup_fields(line: &[u8], senders: &mut [u8; NOTICES]) -> ReadSetup
+    requires { ⌜ BeginsWith Setup (now line) ⌝ }
+    ensures { λ r. ⌜ SetupOf (now (line .entry)) (now (senders .exit)) r ⌝ }
 {
     let members = set_at(line, 5);
-    let sender = statements::number_at(line, members.next, BYTE_MAX);
-    let faulty = set_at(line, sender.next);
+    let count = statements::number_at(line, members.next, BYTE_MAX);
+    let n = count.value as usize;
+    let named = senders_at(line, count.next, n, senders);
+    let faulty = set_at(line, named.next);
     if faulty.next < line.len() {
-        return Parsed::Unreadable;
+        return no_setup();
     }
-    if !faulty.ok {
-        return Parsed::Unreadable;
+    ReadSetup {
+        ok: faulty.ok,
+        members: members.value as u16,
+        count: n,
+        faulty: faulty.value as u16,
     }
-    Parsed::Readable(Line::Setup(
-        members.value as u16,
-        sender.value as u8,
-        faulty.value as u16,
-    ))
+}
+
+fn is_setup(line: &[u8]) -> Parsed
+    requires { ⌜ BeginsWith Setup (now line) ⌝ }
+    ensures { λ r. ⌜ Understood (now (line .entry)) r ⌝ }
+{
+    let mut senders = [0u8; NOTICES];
+    let r = setup_fields(line, &mut senders);
+    if r.ok {
+        return Parsed::Readable(Line::Setup);
+    }
+    Parsed::Unreadable
 }
 
 // All after the comma is to be a statement's text; it is read where the lie is told.
 fn read_lie(line: &[u8]) -> Parsed
-    requires { ⌜ LieBy (now line) ⌝ }
+    requires { ⌜ BeginsWith Lie (now line) ⌝ }
     ensures { λ r. ⌜ Understood (now (line .entry)) r ⌝ }
 {
     if text::comma_at(line, 3) {
@@ -166,11 +252,11 @@ fn read_body(line: &[u8]) -> Parsed
 {
     let verb = verb_of(line);
     match verb {
-        Verb::Setup => read_setup(line),
+        Verb::Setup => is_setup(line),
         Verb::Join => read_named(line, verb, 4),
         Verb::Leave => read_named(line, verb, 5),
-        Verb::Send => read_numbered(line, verb),
-        Verb::Give => read_numbered(line, verb),
+        Verb::Send => read_send(line),
+        Verb::Give => read_give(line),
         Verb::All => read_named(line, verb, 3),
         Verb::Turn => read_named(line, verb, 4),
         Verb::Lie => read_lie(line),
@@ -195,18 +281,25 @@ pub fn read_line(s: &[u8]) -> ReadLine
     }
 }
 
-// The statement of a lie; `ok` just where the line is one, and its text that of a statement that keeps the field rules.
-pub fn lied(line: &[u8]) -> ReadStatement
-    ensures { λ r. ⌜ LiedOf (now (line .entry)) r ⌝ }
+// What a setup says. Of its senders, the first 64 go to the memory.
+pub fn read_setup(line: &[u8], senders: &mut [u8; NOTICES]) -> ReadSetup
+    ensures { λ r. ⌜ SetupOf (now (line .entry)) (now (senders .exit)) r ⌝ }
+{
+    let verb = verb_of(line);
+    let Verb::Setup = verb else {
+        return no_setup();
+    };
+    setup_fields(line, senders)
+}
+
+// The statement of a lie in a ring with this number of notices; `ok` just where the line is one, and its text that of a statement that keeps
+// the field rules.
+pub fn lied(line: &[u8], notices: usize, block: &mut [u64; BLOCK]) -> ReadStatement
+    ensures { λ r. ⌜ LiedOf (now (line .entry)) notices (now (block .exit)) r ⌝ }
 {
     if !starts_with(line, b"lie,") {
         // The empty text is no statement's.
-        return statements::read(b"");
+        return statements::read(b"", notices, block);
     }
-    let r = statements::read(&line[4..]);
-    let st = r.statement;
-    ReadStatement {
-        ok: r.ok & statements::keeps_field_rules(st),
-        statement: st,
-    }
+    statements::read(&line[4..], notices, block)
 }

@@ -1,37 +1,39 @@
 -- The text of a service screen: its lines in runs, how long they are, and that they are what the record shows.
 --     lines-shown   the lines of the evidence are the text of what it is of
 -- Assumes nothing.
-use Prim.Native.Nat.{ℕ, suc, _+_, _*_, _/_, _%_, _<_, _≤_}
+use Prim.Native.Nat.{ℕ, zero, suc, _+_, _*_, _/_, _%_, _<_, _≤_}
 use native.Mathlib.Omega.{arith}
 use native.Mathlib.Numerals.{add-one}
 use mathlib.Core.Path.{_≡_, refl, sym, ap, ap₂, subst, _∙_}
 use mathlib.Core.Bool.{Bool, true, false, not}
-use mathlib.Core.List.{List, [], _∷_, _++_, append-assoc}
-use lib.Dec.{T, ltb}
+use mathlib.Core.List.{List, [], _∷_, _++_, append-assoc, append-nil}
+use mathlib.Core.Option.{Option, some, none}
+use lib.Dec.{T, eqb, ltb}
 use lib.ListN.{length, getD, length-append}
 use borrow.Author.Tests.{ltb-false}
 use Rattle.text.specs.Text.{glyph, decText, hexText}
 use Rattle.text.proofs.Decimal.{long-below, most-long}
 use Rattle.text.specs.Written.{Wrote}
 use Rattle.text.proofs.Stores.{both, wrote-as}
-use Rattle.protocol.specs.Lists.{if_then_else_, first, when}
+use Rattle.protocol.specs.Sets.{bit}
+use Rattle.protocol.specs.Lists.{if_then_else_, first, when, listOf}
 use Rattle.protocol.specs.View.{View, Ring}
 use Rattle.protocol.specs.Statement.{Stmt}
 use Rattle.protocol.specs.Evidence.{wished, candidates, greatest, certificates, isConflict, isStored}
+use Rattle.protocol.proofs.Found.{none≢some, some-injective}
 use Rattle.protocol.proofs.Histories.{sealed-short}
 use Rattle.protocol.proofs.Asked.{greatest-holds}
-use Rattle.views.specs.Table.{table}
 use Rattle.views.specs.View.{viewOf, viewIn, viewsOf}
 use Rattle.views.proofs.Tables.{views-count}
 use Rattle.statements.specs.Text.{parted, viewText}
-use Rattle.statements.specs.Parts.{tailText}
+use Rattle.statements.specs.Parts.{each, tailText}
 use Rattle.statements.proofs.Fields.{view-long}
 use Rattle.statements.proofs.Views.{tail-long, tail-more}
 use Rattle.evidence.specs.declared.Evidence.{Evidence}
 use Rattle.evidence.specs.Evidence.{EvidenceOf}
 use Rattle.statements.proofs.Statements.{parted-tail}
-use Rattle.screen.specs.Screen.{wishedWord, candidatesWord, greatestWord, certificateWord, storedWord, keptWord, lineText, viewsLine, wishedLine, conflictLine, candidatesLine, certificateLine, agreedText, screenText, ScreenShows}
-use Rattle.screen.specs.ScreenParts.{certifiedLine, agreedLines, linesOf, Few}
+use Rattle.screen.specs.Screen.{wishedWord, candidatesWord, greatestWord, certificateWord, lineText, viewsLine, wishedLine, conflictLine, candidatesLine, certificateLine, uncertifiedLine, lineFor, linesBelow, orNone, certificatesText, agreedText, screenText, ScreenShows}
+use Rattle.screen.specs.ScreenParts.{keptOrStored, noticeText, linesTo, certifiedText, agreedLines, linesOf, Few}
 
 -- ---- the text of a view is that of its sets' sixteen low bits
 hex-more : (k a b : ℕ) → hexText k (a / 16) ≡ hexText k (b / 16) → a % 16 ≡ b % 16 → hexText (suc k) a ≡ hexText (suc k) b
@@ -52,14 +54,14 @@ word-text w x v e f = ap viewText e ∙ view-text w ∙ ap (λ (u : ℕ). viewTe
 
 -- ---- one view more of some words
 pub words-first : (out ws : List ℕ) (from : ℕ) → Wrote out from (tailText (viewsOf ws 0)) from out
-unfolding tailText viewsOf table
+unfolding each viewsOf listOf
 words-first out ws from = record { next = omega arith; is = refl }
 
 pub words-long : (ws : List ℕ) (n : ℕ) → length (tailText (viewsOf ws n)) ≡ 9 * n
 words-long ws n = tail-long (viewsOf ws n) ∙ ap (λ k. 9 * k) (views-count ws n)
 
 words-more : (ws : List ℕ) (i : ℕ) → viewsOf ws (i + 1) ≡ viewsOf ws i ++ (viewOf (getD ws i 0) ∷ [])
-unfolding viewsOf table
+unfolding viewsOf listOf
 words-more ws i = rw (add-one i)
 
 pub words-next : {out₀ out₁ out₂ : List ℕ} {from at n : ℕ} (ws : List ℕ) (i : ℕ) (v : View) → viewText v ≡ viewText (viewOf (getD ws i 0)) → Wrote out₀ from (tailText (viewsOf ws i)) at out₁
@@ -80,22 +82,18 @@ views-runs name l =
 held-runs : (name ws : List ℕ) (n : ℕ) → viewsLine name (viewsOf ws n) ≡ name ++ ((44 ∷ decText n) ++ (tailText (viewsOf ws n) ++ (10 ∷ [])))
 held-runs name ws n = views-runs name (viewsOf ws n) ∙ ap (λ (k : ℕ). name ++ ((44 ∷ decText k) ++ (tailText (viewsOf ws n) ++ (10 ∷ [])))) (views-count ws n)
 
--- the last word of a certificate's line
-abbrev pub keptOrStored : Bool → List ℕ
-keptOrStored stored = if stored then storedWord else keptWord
-
-certified-runs : (m : ℕ) (stored : Bool) → certifiedLine true m stored ≡ certificateWord ++ ((44 ∷ decText m) ++ ((44 ∷ keptOrStored stored) ++ (10 ∷ [])))
-unfolding certifiedLine certificateLine lineText parted
-certified-runs m stored = ap (λ (t : List ℕ). certificateWord ++ 44 ∷ t) (append-assoc (decText m) (44 ∷ keptOrStored stored) (10 ∷ []))
+-- a certificate's line, with its notice's number or without
+certified-runs : (one : Bool) (i m : ℕ) (stored : Bool) → certificateLine one i m stored ≡ certificateWord ++ (noticeText one i ++ ((44 ∷ decText m) ++ ((44 ∷ keptOrStored stored) ++ (10 ∷ []))))
+unfolding certificateLine noticeText lineText parted
+certified-runs true i m stored = ap (λ (t : List ℕ). certificateWord ++ 44 ∷ t) (append-assoc (decText m) (44 ∷ keptOrStored stored) (10 ∷ []))
+certified-runs false i m stored =
+    ap (λ (t : List ℕ). certificateWord ++ 44 ∷ t)
+    (append-assoc (decText i) (44 ∷ (decText m ++ 44 ∷ keptOrStored stored)) (10 ∷ []) ∙ ap (λ (t : List ℕ). decText i ++ 44 ∷ t) (append-assoc (decText m) (44 ∷ keptOrStored stored) (10 ∷ [])))
 
 -- ---- each line, as its parts wrote it
 module _ {out₀ out₁ out₂ out₃ : List ℕ} {at a b c : ℕ} where
   pub wished-wrote : (v : View) → Wrote out₀ at wishedWord a out₁ → Wrote out₁ a (44 ∷ viewText v) b out₂ → Wrote out₂ b (10 ∷ []) c out₃ → Wrote out₀ at (wishedLine v) c out₃
   wished-wrote v x y z = wrote-as (sym (wished-runs v)) (both x (both y z))
-
-  pub certified-wrote : (certified : Bool) (m : ℕ) (stored : Bool) (word : List ℕ) → certified ≡ true → keptOrStored stored ≡ word
-      → Wrote out₀ at certificateWord a out₁ → Wrote out₁ a (44 ∷ decText m) b out₂ → Wrote out₂ b ((44 ∷ word) ++ (10 ∷ [])) c out₃ → Wrote out₀ at (certifiedLine certified m stored) c out₃
-  certified-wrote certified m stored word p q x y z = wrote-as (sym (ap (λ k. certifiedLine k m stored) p ∙ certified-runs m stored)) (both x (both y (wrote-as (ap (λ (t : List ℕ). (44 ∷ t) ++ (10 ∷ [])) (sym q)) z)))
 
 pub views-wrote : {out₀ out₁ out₂ : List ℕ} {at a b : ℕ} (name ws : List ℕ) (n : ℕ)
     → Wrote out₀ at name a out₁ → Wrote out₁ a ((44 ∷ decText n) ++ (tailText (viewsOf ws n) ++ (10 ∷ []))) b out₂ → Wrote out₀ at (viewsLine name (viewsOf ws n)) b out₂
@@ -125,85 +123,201 @@ unfolding candidatesLine lineText parted
 candidates-most true ws n h = omega arith
 candidates-most false ws n h = views-most candidatesWord ws n (h refl)
 
-none-size : (m : ℕ) (stored : Bool) → length (certifiedLine false m stored) ≡ 17
-unfolding certifiedLine certificateLine lineText parted
-none-size m stored = refl
+none-size : length uncertifiedLine ≡ 17
+unfolding uncertifiedLine lineText parted
+none-size = refl
 
-pub certified-most : (certified : Bool) (m : ℕ) (stored : Bool) → m < 18446744073709551616 → length (certifiedLine certified m stored) ≤ 40
-certified-most true m true h = omega (arith, ap length (certified-runs m true), length-append (decText m) ((44 ∷ storedWord) ++ (10 ∷ [])), most-long m h)
-certified-most true m false h = omega (arith, ap length (certified-runs m false), length-append (decText m) ((44 ∷ keptWord) ++ (10 ∷ [])), most-long m h)
-certified-most false m stored h = omega (arith, none-size m stored)
+pub notice-most : (i : ℕ) → i < 64 → length (decText i) ≤ 2
+notice-most i h = long-below 1 i (omega arith)
+
+notice-size : (one : Bool) (i : ℕ) → i < 64 → length (noticeText one i) ≤ 3
+unfolding noticeText
+notice-size true i h = omega arith
+notice-size false i h = omega (arith, notice-most i h)
+
+standing-size : (stored : Bool) → length ((44 ∷ keptOrStored stored) ++ (10 ∷ [])) ≤ 8
+standing-size true = omega arith
+standing-size false = omega arith
+
+certified-most : (one : Bool) (i m : ℕ) (stored : Bool) → i < 64 → m < 18446744073709551616 → length (certificateLine one i m stored) ≤ 43
+certified-most one i m stored l h =
+    omega (
+      arith,
+      ap length (certified-runs one i m stored),
+      length-append (noticeText one i) ((44 ∷ decText m) ++ ((44 ∷ keptOrStored stored) ++ (10 ∷ []))),
+      length-append (decText m) ((44 ∷ keptOrStored stored) ++ (10 ∷ [])),
+      notice-size one i l,
+      most-long m h,
+      standing-size stored,
+    )
+
+-- ---- a certificate's line, as its parts wrote it
+
+pub notice-one : (out : List ℕ) (at i : ℕ) (one : Bool) → one ≡ true → Wrote out at (noticeText one i) at out
+unfolding noticeText
+notice-one out at i one e = rw e record { next = omega arith; is = refl }
+
+pub notice-number : {out after : List ℕ} {at n : ℕ} (i : ℕ) (one : Bool) → one ≡ false → Wrote out at (44 ∷ decText i) n after → Wrote out at (noticeText one i) n after
+unfolding noticeText
+notice-number i one e w = rw e w
+
+pub notice-end : {out after : List ℕ} {at n : ℕ} (one : Bool) (i : ℕ) → i < 64 → Wrote out at (noticeText one i) n after → n ≤ at + 3
+notice-end one i l w = omega (arith, w .next, notice-size one i l)
+
+pub number-end : {out after : List ℕ} {at n : ℕ} (m : ℕ) → m < 18446744073709551616 → Wrote out at (44 ∷ decText m) n after → n ≤ at + 21
+number-end m h w = omega (arith, w .next, most-long m h)
+
+pub certified-wrote : {out₀ out₁ out₂ out₃ out₄ : List ℕ} {at a b c d : ℕ} (one : Bool) (i m : ℕ) (stored : Bool) → i < 64 → m < 18446744073709551616
+    → Wrote out₀ at certificateWord a out₁ → Wrote out₁ a (noticeText one i) b out₂ → Wrote out₂ b (44 ∷ decText m) c out₃ → Wrote out₃ c ((44 ∷ keptOrStored stored) ++ (10 ∷ [])) d out₄
+    → Wrote out₀ at (certificateLine one i m stored) d out₄ × (d ≤ at + 43)
+certified-wrote {out₀} {out₁} {out₂} {out₃} {out₄} {at} {a} {b} {c} {d} one i m stored l h x y z w = (whole, omega (arith, whole .next, certified-most one i m stored l h))
+  where
+    whole : Wrote out₀ at (certificateLine one i m stored) d out₄
+    whole = wrote-as (sym (certified-runs one i m stored)) (both x (both y (both z w)))
+
+-- ---- one notice after the other
+
+module _ (one : Bool) (certified : ℕ) (P : List ℕ) (stored : ℕ) where
+  pub lines-first : (out : List ℕ) (from : ℕ) → Wrote out from (linesTo one certified P stored 0) from out
+  unfolding linesTo linesBelow
+  lines-first out from = record { next = omega arith; is = refl }
+
+  lines-more : (j : ℕ) → linesTo one certified P stored (j + 1) ≡ linesTo one certified P stored j ++ lineFor one (λ i. when (bit certified i) (getD P i 0)) (λ i m. bit stored i) j (when (bit certified j) (getD P j 0))
+  unfolding linesTo linesBelow
+  lines-more j = rw add-one
+
+  module _ {out₀ out₁ : List ℕ} {from at : ℕ} (j : ℕ) (w : Wrote out₀ from (linesTo one certified P stored j) at out₁) (r : Bool) (asked : r ≡ bit certified j) where
+    pub lines-skip : r ≡ false → Wrote out₀ from (linesTo one certified P stored (j + 1)) at out₁
+    unfolding lineFor
+    lines-skip f =
+        wrote-as (sym (lines-more j ∙ ap (λ b. linesTo one certified P stored j ++ lineFor one (λ i. when (bit certified i) (getD P i 0)) (λ i m. bit stored i) j (when b (getD P j 0))) (sym asked ∙ f) ∙ append-nil (linesTo one certified P stored j))) w
+
+    pub lines-next : {out₂ : List ℕ} {n : ℕ} (m : ℕ) (k : Bool) → r ≡ true → m ≡ getD P j 0 → k ≡ bit stored j → Wrote out₁ at (certificateLine one j m k) n out₂ → Wrote out₀ from (linesTo one certified P stored (j + 1)) n out₂
+    unfolding lineFor
+    lines-next m k f e g x =
+        wrote-as (sym (lines-more j ∙ ap (λ b. linesTo one certified P stored j ++ lineFor one (λ i. when (bit certified i) (getD P i 0)) (λ i m. bit stored i) j (when b (getD P j 0))) (sym asked ∙ f)
+        ∙ ap₂ (λ m k. linesTo one certified P stored j ++ certificateLine one j m k) (sym e) (sym g))) (both w x)
+
+  pub lines-all : {out₀ out₁ : List ℕ} {from at : ℕ} (j n : ℕ) → j ≡ n → Wrote out₀ from (linesTo one certified P stored j) at out₁ → Wrote out₀ from (linesTo one certified P stored n) at out₁
+  lines-all j n e w = wrote-as (ap (linesTo one certified P stored) e) w
+
+-- ---- or none
+
+module _ {out₀ out₁ : List ℕ} {from at : ℕ} (n certified : ℕ) (P : List ℕ) (stored : ℕ) (w : Wrote out₀ from (linesTo (eqb n 1) certified P stored n) at out₁) where
+  abbrev lines : List ℕ
+  lines = linesTo (eqb n 1) certified P stored n
+
+  some-lines : (t : List ℕ) → (length t ≡ 0 → ⊥) → orNone t ≡ t
+  unfolding orNone
+  some-lines [] d = absurd (d refl)
+  some-lines (b ∷ t) d = refl
+
+  no-lines : (t : List ℕ) → length t ≡ 0 → t ≡ []
+  no-lines [] e = refl
+  no-lines (b ∷ t) e = absurd (omega arith)
+
+  pub lines-some : (at ≡ from → ⊥) → Wrote out₀ from (certifiedText n certified P stored) at out₁
+  unfolding certifiedText
+  lines-some d = wrote-as (sym (some-lines lines (λ e. d (omega (arith, w .next))))) w
+
+  pub lines-none : {out₂ : List ℕ} {r : ℕ} → at ≡ from → Wrote out₁ at uncertifiedLine r out₂ → Wrote out₀ from (certifiedText n certified P stored) r out₂ × (r ≤ from + 2769)
+  unfolding certifiedText orNone
+  lines-none {out₂} {r} e x = (
+    wrote-as (sym (ap orNone empty)) (both (wrote-as empty w) x),
+    omega (arith, x .next, none-size),
+  )
+    where
+      empty : lines ≡ []
+      empty = no-lines lines (omega (arith, w .next))
 
 conflict-size : length conflictLine ≡ 9
 unfolding conflictLine lineText parted
 conflict-size = refl
 
 -- ---- the lines one after the other
-module _ {out₀ out₁ out₂ : List ℕ} {a b : ℕ} (e : Evidence) (C G : List ℕ) (w : Wrote out₀ 0 (wishedLine (viewOf (e .wished))) a out₁) where
-  pub conflict-wrote : e .conflict ≡ true → Wrote out₁ a conflictLine b out₂ → Wrote out₀ 0 (linesOf e C G) b out₂ × (b ≤ 512)
+module _ {out₀ out₁ out₂ : List ℕ} {a b : ℕ} (n : ℕ) (e : Evidence) (C G P : List ℕ) (w : Wrote out₀ 0 (wishedLine (viewOf (e .wished))) a out₁) where
+  pub conflict-wrote : e .conflict ≡ true → Wrote out₁ a conflictLine b out₂ → Wrote out₀ 0 (linesOf n e C G P) b out₂ × (b ≤ 4096)
   unfolding linesOf
   conflict-wrote p x = (rw p (both w x), omega (arith, x .next, w .next, wished-size (viewOf (e .wished)), conflict-size))
 
-  pub lines-wrote : {out₃ out₄ : List ℕ} {c d : ℕ} → e .conflict ≡ false → Few e → e .payload < 18446744073709551616
+  pub lines-wrote : {out₃ out₄ : List ℕ} {c d : ℕ} → e .conflict ≡ false → Few e
       → Wrote out₁ a (candidatesLine (e .many) (viewsOf C (e .count))) b out₂ → Wrote out₂ b (viewsLine greatestWord (viewsOf G (e .length))) c out₃
-      → Wrote out₃ c (certifiedLine (e .certified) (e .payload) (e .stored)) d out₄ → Wrote out₀ 0 (linesOf e C G) d out₄ × (d ≤ 512)
+      → Wrote out₃ c (certifiedText n (e .certified) P (e .stored)) d out₄ × (d ≤ c + 2769) → Wrote out₀ 0 (linesOf n e C G P) d out₄ × (d ≤ 4096)
   unfolding linesOf agreedLines
-  lines-wrote p f h x y z = (
+  lines-wrote p f x y (z, most) = (
     rw p (both w (both x (both y z))),
     omega (
       arith,
+      most,
       w .next,
       x .next,
       y .next,
-      z .next,
       wished-size (viewOf (e .wished)),
       candidates-most (e .many) C (e .count) (f .candidates p),
       views-most greatestWord G (e .length) (f .greatest p),
-      certified-most (e .certified) (e .payload) (e .stored) h,
     ),
   )
 
 -- ---- what the evidence is of
-certified-same : (certified : Bool) (m : ℕ) (stored : Bool) (f : ℕ → Bool) → (certified ≡ true → stored ≡ f m) → certificateLine (when certified m) (λ _. stored) ≡ certificateLine (when certified m) f
-unfolding certificateLine
-certified-same true m stored f e = ap (λ b. lineText (certificateWord ∷ decText m ∷ (if b then storedWord else keptWord) ∷ [])) (e refl)
-certified-same false m stored f e = refl
 
-module _ (R : Ring) (sender : ℕ) (X : List Stmt) (C G : List ℕ) (e : Evidence) (of : EvidenceOf R sender X C G e) where
+-- the same lines by what says the same of each notice
+lines-same : (one : Bool) (c c′ : ℕ → Option ℕ) (s s′ : ℕ → ℕ → Bool) (n : ℕ) → ((i : ℕ) → i < n → c i ≡ c′ i) → ((i : ℕ) → i < n → (m : ℕ) → c′ i ≡ some m → s i m ≡ s′ i m)
+    → linesBelow one c s n ≡ linesBelow one c′ s′ n
+unfolding linesBelow lineFor
+lines-same one c c′ s s′ zero f g = refl
+lines-same one c c′ s s′ (suc n) f g =
+    ap₂ _++_ (lines-same one c c′ s s′ n (λ i l. f i (omega arith)) (λ i l. g i (omega arith))) (ap (lineFor one c s n) (f n (omega arith)) ∙ line (c′ n) (g n (omega arith)))
+  where
+    line : (o : Option ℕ) → ((m : ℕ) → o ≡ some m → s n m ≡ s′ n m) → lineFor one c s n o ≡ lineFor one c′ s′ n o
+    line none h = refl
+    line (some m) h = ap (certificateLine one n m) (h m refl)
+
+module _ (R : Ring) (senders : List ℕ) (X : List Stmt) (C G P : List ℕ) (e : Evidence) (of : EvidenceOf R senders X C G P e) (n : ℕ) (count : n ≡ length senders) where
   module _ (p : e .conflict ≡ false) where
     candidates-shown : (many : Bool) → e .many ≡ many → candidatesLine (e .many) (viewsOf C (e .count)) ≡ candidatesLine (ltb 16 (length (candidates R X))) (candidates R X)
     unfolding candidatesLine
     candidates-shown true q = ap (λ b. candidatesLine b (viewsOf C (e .count))) q ∙ sym (ap (λ b. candidatesLine b (candidates R X)) (sym (of .many p) ∙ q))
     candidates-shown false q = ap₂ candidatesLine (of .many p) (of .candidates p q)
 
-    certificate-shown : certifiedLine (e .certified) (e .payload) (e .stored) ≡ certificateLine (first (certificates R sender X)) (isStored R X)
-    unfolding certifiedLine
-    certificate-shown = certified-same (e .certified) (e .payload) (e .stored) (isStored R X) (of .stored p) ∙ ap (λ o. certificateLine o (isStored R X)) (of .certificate p)
+    -- a notice with a certificate is one of the set, and its payload is that of its certificate
+    stored-shown : (i : ℕ) → i < length senders → (m : ℕ) → first (certificates R senders X i) ≡ some m → bit (e .stored) i ≡ isStored R X i m
+    stored-shown i l m q = go (bit (e .certified) i) refl (of .certificate p i l ∙ q)
+      where
+        go : (b : Bool) → bit (e .certified) i ≡ b → when (bit (e .certified) i) (getD P i 0) ≡ some m → bit (e .stored) i ≡ isStored R X i m
+        go true f h = of .stored p i l f ∙ ap (isStored R X i) (some-injective (ap (λ b. when b (getD P i 0)) (sym f) ∙ h))
+        go false f h = absurd (none≢some (ap (λ b. when b (getD P i 0)) (sym f) ∙ h))
 
-    agreed-shown : agreedLines e C G ≡ agreedText R sender X
+    certificates-shown : certifiedText n (e .certified) P (e .stored) ≡ certificatesText (length senders) (λ i. first (certificates R senders X i)) (isStored R X)
+    unfolding certifiedText linesTo certificatesText
+    certificates-shown =
+        ap (λ n. orNone (linesBelow (eqb n 1) (λ i. when (bit (e .certified) i) (getD P i 0)) (λ i m. bit (e .stored) i) n)) count
+        ∙ ap orNone (lines-same (eqb (length senders) 1) (λ i. when (bit (e .certified) i) (getD P i 0)) (λ i. first (certificates R senders X i)) (λ i m. bit (e .stored) i) (isStored R X) (length senders)
+        (of .certificate p) stored-shown)
+
+    agreed-shown : agreedLines n e C G P ≡ agreedText R senders X
     unfolding agreedLines agreedText
-    agreed-shown = ap₂ _++_ (candidates-shown (e .many) refl) (ap₂ _++_ (ap (viewsLine greatestWord) (of .greatest p)) certificate-shown)
+    agreed-shown = ap₂ _++_ (candidates-shown (e .many) refl) (ap₂ _++_ (ap (viewsLine greatestWord) (of .greatest p)) certificates-shown)
 
-  rest-shown : (conflict : Bool) → e .conflict ≡ conflict → (if e .conflict then conflictLine else agreedLines e C G) ≡ (if isConflict R sender X then conflictLine else agreedText R sender X)
-  rest-shown true p = ap (λ b. if b then conflictLine else agreedLines e C G) p ∙ sym (ap (λ b. if b then conflictLine else agreedText R sender X) (sym (of .conflict) ∙ p))
-  rest-shown false p = ap (λ b. if b then conflictLine else agreedLines e C G) p ∙ agreed-shown p ∙ sym (ap (λ b. if b then conflictLine else agreedText R sender X) (sym (of .conflict) ∙ p))
+  rest-shown : (conflict : Bool) → e .conflict ≡ conflict → (if e .conflict then conflictLine else agreedLines n e C G P) ≡ (if isConflict R senders X then conflictLine else agreedText R senders X)
+  rest-shown true p = ap (λ b. if b then conflictLine else agreedLines n e C G P) p ∙ sym (ap (λ b. if b then conflictLine else agreedText R senders X) (sym (of .conflict) ∙ p))
+  rest-shown false p = ap (λ b. if b then conflictLine else agreedLines n e C G P) p ∙ agreed-shown p ∙ sym (ap (λ b. if b then conflictLine else agreedText R senders X) (sym (of .conflict) ∙ p))
 
   -- THE LINES OF THE EVIDENCE ARE THE TEXT
-  pub lines-shown : linesOf e C G ≡ screenText R sender X
+  pub lines-shown : linesOf n e C G P ≡ screenText R senders X
   unfolding linesOf screenText
   lines-shown = ap₂ _++_ (ap wishedLine (of .wished)) (rest-shown (e .conflict) refl)
 
-  pub few-views : Few e
-  few-views = record {
-    candidates = λ p q. omega (arith, views-count C (e .count), ap length (of .candidates p q), ltb-false 16 (length (candidates R X)) (sym (of .many p) ∙ q));
-    greatest = λ p. omega (arith, views-count G (e .length), ap length (of .greatest p), sealed-short (greatest-holds R sender X (subst (λ b. T (not b)) (sym p ∙ of .conflict) tt) .0));
-  }
-
-  pub shows : (out after : List ℕ) (n : ℕ) → 512 ≤ length out → Wrote out 0 (linesOf e C G) n after × (n ≤ 512) → ScreenShows R sender X out n after
-  shows out after n room w =
-      let v : Wrote out 0 (screenText R sender X) n after = subst (λ t. Wrote out 0 t n after) lines-shown (w .0) in
-      let size : n ≡ length (screenText R sender X) = v .next ∙ omega arith in
+  pub shows : (out after : List ℕ) (r : ℕ) → 4096 ≤ length out → Wrote out 0 (linesOf n e C G P) r after × (r ≤ 4096) → ScreenShows R senders X out r after
+  shows out after r room w =
+      let v : Wrote out 0 (screenText R senders X) r after = subst (λ t. Wrote out 0 t r after) lines-shown (w .0) in
+      let size : r ≡ length (screenText R senders X) = v .next ∙ omega arith in
       record { count = λ h. size; fits = λ h. omega (arith, w .1); is = λ h. v .is; short = λ h. absurd (omega arith) }
 
-pub shows-nothing : (R : Ring) (sender : ℕ) (X : List Stmt) (out : List ℕ) → length out < 512 → ScreenShows R sender X out 0 out
-shows-nothing R sender X out h = record { count = λ l. absurd (omega arith); fits = λ l. absurd (omega arith); is = λ l. absurd (omega arith); short = λ l. (refl, refl) }
+pub few-views : (R : Ring) (senders : List ℕ) (X : List Stmt) (C G P : List ℕ) (e : Evidence) → EvidenceOf R senders X C G P e → Few e
+few-views R senders X C G P e of = record {
+  candidates = λ p q. omega (arith, views-count C (e .count), ap length (of .candidates p q), ltb-false 16 (length (candidates R X)) (sym (of .many p) ∙ q));
+  greatest = λ p. omega (arith, views-count G (e .length), ap length (of .greatest p), sealed-short (greatest-holds R senders X (subst (λ b. T (not b)) (sym p ∙ of .conflict) tt) .0));
+}
+
+pub shows-nothing : (R : Ring) (senders : List ℕ) (X : List Stmt) (out : List ℕ) → length out < 4096 → ScreenShows R senders X out 0 out
+shows-nothing R senders X out h = record { count = λ l. absurd (omega arith); fits = λ l. absurd (omega arith); is = λ l. absurd (omega arith); short = λ l. (refl, refl) }

@@ -1,11 +1,11 @@
 -- What a record shows, written for a service screen. A text is the list of its bytes' numbers.
 -- Assumes nothing.
-use Prim.Native.Nat.{ℕ, _≤_, _<_}
+use Prim.Native.Nat.{ℕ, zero, suc, _≤_, _<_}
 use mathlib.Core.Path.{_≡_}
 use mathlib.Core.Bool.{Bool}
 use mathlib.Core.List.{List, [], _∷_, _++_, map}
 use mathlib.Core.Option.{Option, some, none}
-use lib.Dec.{ltb}
+use lib.Dec.{eqb, ltb}
 use lib.ListN.{length}
 use lib.Seq.{sets}
 use Rattle.protocol.specs.Lists.{if_then_else_, first}
@@ -65,26 +65,53 @@ conflictLine = lineText (conflictWord ∷ [])
 unfoldable pub candidatesLine : Bool → List View → List ℕ
 candidatesLine many views = if many then lineText (candidatesWord ∷ manyWord ∷ []) else viewsLine candidatesWord views
 
--- The payload that has a certificate, and whether it is stored or only kept; or that there is none.
-unfoldable pub certificateLine : Option ℕ → (ℕ → Bool) → List ℕ
-certificateLine none stored = lineText (certificateWord ∷ noneWord ∷ [])
-certificateLine (some m) stored = lineText (certificateWord ∷ decText m ∷ (if stored m then storedWord else keptWord) ∷ [])
+-- The payload m for which notice i has a certificate, and whether it is stored or only kept. In a ring of one notice its number is not told.
+unfoldable pub certificateLine : Bool → ℕ → ℕ → Bool → List ℕ
+certificateLine one i m stored =
+    if one then lineText (certificateWord ∷ decText m ∷ (if stored then storedWord else keptWord) ∷ [])
+    else lineText (certificateWord ∷ decText i ∷ decText m ∷ (if stored then storedWord else keptWord) ∷ [])
+
+-- No notice has a certificate.
+unfoldable pub uncertifiedLine : List ℕ
+uncertifiedLine = lineText (certificateWord ∷ noneWord ∷ [])
+
+-- By the payloads of the certificates, and whether a payload of a notice is stored.
+module _ (one : Bool) (certificate : ℕ → Option ℕ) (stored : ℕ → ℕ → Bool) where
+  -- The line of notice i, if it has a certificate.
+  unfoldable pub lineFor : ℕ → Option ℕ → List ℕ
+  lineFor i none = []
+  lineFor i (some m) = certificateLine one i m (stored i m)
+
+  -- Those of the notices below n, in order.
+  unfoldable pub linesBelow : ℕ → List ℕ
+  linesBelow zero = []
+  linesBelow (suc n) = linesBelow n ++ lineFor n (certificate n)
+
+-- The lines, or that there is none.
+unfoldable pub orNone : List ℕ → List ℕ
+orNone [] = uncertifiedLine
+orNone (b ∷ t) = b ∷ t
+
+-- What is told of the certificates of n notices.
+unfoldable pub certificatesText : ℕ → (ℕ → Option ℕ) → (ℕ → ℕ → Bool) → List ℕ
+certificatesText n certificate stored = orNone (linesBelow (eqb n 1) certificate stored n)
 
 -- ---- the whole
 
--- Where there is no conflict: the candidates, the greatest history and the certificate.
-unfoldable pub agreedText : Ring → ℕ → List Stmt → List ℕ
-agreedText R sender X =
-    candidatesLine (ltb 16 (length (candidates R X))) (candidates R X) ++ (viewsLine greatestWord (greatest R X) ++ certificateLine (first (certificates R sender X)) (isStored R X))
+-- Where there is no conflict: the candidates, the greatest history and the certificates.
+unfoldable pub agreedText : Ring → List ℕ → List Stmt → List ℕ
+agreedText R senders X =
+    candidatesLine (ltb 16 (length (candidates R X))) (candidates R X)
+    ++ (viewsLine greatestWord (greatest R X) ++ certificatesText (length senders) (λ i. first (certificates R senders X i)) (isStored R X))
 
--- What X shows in the ring R with this sender. After a conflict nothing but the wished view is told.
-unfoldable pub screenText : Ring → ℕ → List Stmt → List ℕ
-screenText R sender X = wishedLine (wished R X) ++ (if isConflict R sender X then conflictLine else agreedText R sender X)
+-- What X shows in the ring R with these senders. After a conflict nothing but the wished view is told.
+unfoldable pub screenText : Ring → List ℕ → List Stmt → List ℕ
+screenText R senders X = wishedLine (wished R X) ++ (if isConflict R senders X then conflictLine else agreedText R senders X)
 
--- n was answered for the memory out, which holds `after` then: its text stands from the start if there are 512 bytes, which are enough, and what is behind it is
+-- n was answered for the memory out, which holds `after` then: its text stands from the start if there are 4096 bytes, which are enough, and what is behind it is
 -- as before; otherwise n is 0 and all is as before.
-pub record ScreenShows (R : Ring) (sender : ℕ) (X : List Stmt) (out : List ℕ) (n : ℕ) (after : List ℕ) : Type 0 where
-  pub count : 512 ≤ length out → n ≡ length (screenText R sender X)
-  pub fits : 512 ≤ length out → length (screenText R sender X) ≤ 512
-  pub is : 512 ≤ length out → after ≡ sets out 0 (screenText R sender X)
-  pub short : length out < 512 → (n ≡ 0) × (after ≡ out)
+pub record ScreenShows (R : Ring) (senders : List ℕ) (X : List Stmt) (out : List ℕ) (n : ℕ) (after : List ℕ) : Type 0 where
+  pub count : 4096 ≤ length out → n ≡ length (screenText R senders X)
+  pub fits : 4096 ≤ length out → length (screenText R senders X) ≤ 4096
+  pub is : 4096 ≤ length out → after ≡ sets out 0 (screenText R senders X)
+  pub short : length out < 4096 → (n ≡ 0) × (after ≡ out)

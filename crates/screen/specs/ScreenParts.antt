@@ -3,24 +3,40 @@
 use Prim.Native.Nat.{ℕ, _≤_}
 use mathlib.Core.Path.{_≡_}
 use mathlib.Core.Bool.{Bool, false}
-use mathlib.Core.List.{List, _++_}
+use mathlib.Core.List.{List, [], _∷_, _++_}
+use lib.Dec.{eqb}
+use lib.ListN.{getD}
+use Rattle.protocol.specs.Sets.{bit}
 use Rattle.protocol.specs.Lists.{if_then_else_, when}
 use Rattle.views.specs.View.{viewOf, viewsOf}
+use Rattle.text.specs.Text.{decText}
 use Rattle.evidence.specs.declared.Evidence.{Evidence}
-use Rattle.screen.specs.Screen.{wishedLine, conflictLine, candidatesLine, viewsLine, certificateLine, greatestWord}
+use Rattle.screen.specs.Screen.{wishedLine, conflictLine, candidatesLine, viewsLine, linesBelow, orNone, greatestWord, storedWord, keptWord}
 
--- The certificate's line.
-unfoldable pub certifiedLine : Bool → ℕ → Bool → List ℕ
-certifiedLine certified payload stored = certificateLine (when certified payload) (λ _. stored)
+-- The last word of a certificate's line.
+abbrev pub keptOrStored : Bool → List ℕ
+keptOrStored stored = if stored then storedWord else keptWord
 
--- The lines of the evidence e with the candidates C and the greatest history G, without a conflict and in all.
+-- The number of notice i, in a ring with more than one.
+unfoldable pub noticeText : Bool → ℕ → List ℕ
+noticeText one i = if one then [] else 44 ∷ decText i
 
-unfoldable pub agreedLines : Evidence → List ℕ → List ℕ → List ℕ
-agreedLines e C G =
-    candidatesLine (e .many) (viewsOf C (e .count)) ++ (viewsLine greatestWord (viewsOf G (e .length)) ++ certifiedLine (e .certified) (e .payload) (e .stored))
+-- The lines of the notices below j, by the sets of those that have a certificate and of which it is stored; P has the payloads.
+unfoldable pub linesTo : Bool → ℕ → List ℕ → ℕ → ℕ → List ℕ
+linesTo one certified P stored j = linesBelow one (λ i. when (bit certified i) (getD P i 0)) (λ i m. bit stored i) j
 
-unfoldable pub linesOf : Evidence → List ℕ → List ℕ → List ℕ
-linesOf e C G = wishedLine (viewOf (e .wished)) ++ (if e .conflict then conflictLine else agreedLines e C G)
+-- What is told of the certificates of n notices.
+unfoldable pub certifiedText : ℕ → ℕ → List ℕ → ℕ → List ℕ
+certifiedText n certified P stored = orNone (linesTo (eqb n 1) certified P stored n)
+
+-- The lines of the evidence e of n notices with the candidates C, the greatest history G and the payloads P, without a conflict and in all.
+
+unfoldable pub agreedLines : ℕ → Evidence → List ℕ → List ℕ → List ℕ → List ℕ
+agreedLines n e C G P =
+    candidatesLine (e .many) (viewsOf C (e .count)) ++ (viewsLine greatestWord (viewsOf G (e .length)) ++ certifiedText n (e .certified) P (e .stored))
+
+unfoldable pub linesOf : ℕ → Evidence → List ℕ → List ℕ → List ℕ → List ℕ
+linesOf n e C G P = wishedLine (viewOf (e .wished)) ++ (if e .conflict then conflictLine else agreedLines n e C G P)
 
 -- No more views are to be written than an array holds.
 pub record Few (e : Evidence) : Type 0 where

@@ -3,6 +3,7 @@ ghost use mathlib.Core.Path.{_≡_};
 ghost use mathlib.Core.Bool.{false};
 ghost use mathlib.Core.List.{[], _∷_, _++_};
 ghost use Prim.Native.Nat.{_+_, _*_, _≤_, _<_};
+ghost use lib.Dec.{eqb};
 ghost use lib.ListN.{length};
 ghost use Rattle.text.specs.Text.{decText};
 ghost use Rattle.text.specs.Written.{Wrote};
@@ -10,16 +11,18 @@ ghost use Rattle.statements.specs.Parts.{tailText};
 ghost use Rattle.views.specs.View.{viewOf, viewsOf};
 ghost use Rattle.pool.specs.Pool.{recordIn};
 ghost use Rattle.evidence.specs.Evidence.{ringIs};
-ghost use Rattle.screen.specs.Screen.{wishedLine, candidatesLine, viewsLine, greatestWord, ScreenShows};
-ghost use Rattle.screen.specs.ScreenParts.{certifiedLine, linesOf, Few};
+ghost use Rattle.evidence.specs.Notices.{sendersOf};
+ghost use Rattle.screen.specs.Screen.{wishedLine, candidatesLine, viewsLine, certificateLine, greatestWord, ScreenShows};
+ghost use Rattle.screen.specs.ScreenParts.{noticeText, keptOrStored, linesTo, certifiedText, linesOf, Few};
 use evidence::Evidence;
 use evidence::Ring;
 use pool::POOL_WORDS;
 use pool::RECORD;
+use statements::NOTICES;
 use views::View;
 
-// No text is longer: 16 bytes of the wished view, 158 of sixteen candidates, 156 of sixteen views of a history and 40 of a certificate.
-pub const SHOWN_BYTES: usize = 512;
+// No text is longer: 16 bytes of the wished view, 158 of sixteen candidates, 156 of sixteen views of a history and 43 of each of 64 certificates.
+pub const SHOWN_BYTES: usize = 4096;
 
 // A comma and a view for each of the first `n` of a list.
 fn put_list(out: &mut [u8], from: usize, list: &[u64; View::LIMIT], n: usize) -> usize
@@ -81,29 +84,103 @@ fn put_greatest(out: &mut [u8], at: usize, list: &[u64; View::LIMIT], n: usize) 
     put_views(out, a, list, n)
 }
 
-fn put_certificate(out: &mut [u8], at: usize, certified: bool, payload: u64, stored: bool) -> usize
-    requires { ⌜ at + 40 ≤ length (now out) ⌝ }
-    ensures { λ r. ⌜ Wrote (now (out .entry)) at (certifiedLine certified payload stored) r (now (out .exit)) ⌝ }
+// The number of notice j, in a ring with more than one.
+fn put_notice(out: &mut [u8], at: usize, one: bool, j: usize) -> usize
+    requires { ⌜ (j < 64) × (at + 3 ≤ length (now out)) ⌝ }
+    ensures { λ r. ⌜ Wrote (now (out .entry)) at (noticeText one j) r (now (out .exit)) ⌝ }
 {
-    if !certified {
-        return text::write_text(out, at, b"certificate,none\n");
+    if one {
+        return at;
     }
-    let a = text::write_text(out, at, b"certificate");
-    let b = statements::put_number(out, a, payload);
+    statements::put_number(out, at, j as u64)
+}
+
+// The end of a certificate's line.
+fn put_standing(out: &mut [u8], at: usize, stored: bool) -> usize
+    requires { ⌜ at + 8 ≤ length (now out) ⌝ }
+    ensures { λ r. ⌜ Wrote (now (out .entry)) at ((44 ∷ keptOrStored stored) ++ (10 ∷ [])) r (now (out .exit)) ⌝ }
+{
     if stored {
-        return text::write_text(out, b, b",stored\n");
+        return text::write_text(out, at, b",stored\n");
     }
-    text::write_text(out, b, b",kept\n")
+    text::write_text(out, at, b",kept\n")
+}
+
+// The line of the certificate of notice j, in at most 43 bytes.
+fn put_certificate(
+    out: &mut [u8],
+    at: usize,
+    one: bool,
+    j: usize,
+    payload: u64,
+    stored: bool,
+) -> usize
+    requires { ⌜ (j < 64) × (at + 43 ≤ length (now out)) ⌝ }
+    ensures { λ r. ⌜ Wrote (now (out .entry)) at (certificateLine one j payload stored) r (now (out .exit)) × (r ≤ at + 43) ⌝ }
+{
+    let a = text::write_text(out, at, b"certificate");
+    let b = put_notice(out, a, one, j);
+    let c = statements::put_number(out, b, payload);
+    put_standing(out, c, stored)
+}
+
+// The lines of the certificates of n notices.
+fn put_lines(
+    out: &mut [u8],
+    from: usize,
+    n: usize,
+    certified: u64,
+    certs: &[u64; NOTICES],
+    stored: u64,
+) -> usize
+    requires { ⌜ (n ≤ 64) × (from + 43 * n ≤ length (now out)) ⌝ }
+    ensures { λ r. ⌜ Wrote (now (out .entry)) from (linesTo (eqb n 1) certified (now (certs .entry)) stored n) r (now (out .exit)) × (r ≤ from + 43 * n) ⌝ }
+{
+    let one = n == 1;
+    let mut at = from;
+    let mut j = 0usize;
+    while j < n {
+        if !statements::has(certified, j) {
+            j += 1;
+            continue;
+        }
+        let m = evidence::word_of(certs, j);
+        let is_stored = statements::has(stored, j);
+        at = put_certificate(out, at, one, j, m, is_stored);
+        j += 1;
+    }
+    at
+}
+
+// The same, or that no notice has a certificate.
+fn put_certificates(
+    out: &mut [u8],
+    from: usize,
+    n: usize,
+    certified: u64,
+    certs: &[u64; NOTICES],
+    stored: u64,
+) -> usize
+    requires { ⌜ (n ≤ 64) × (from + 2769 ≤ length (now out)) ⌝ }
+    ensures { λ r. ⌜ Wrote (now (out .entry)) from (certifiedText n certified (now (certs .entry)) stored) r (now (out .exit)) × (r ≤ from + 2769) ⌝ }
+{
+    let at = put_lines(out, from, n, certified, certs, stored);
+    if at != from {
+        return at;
+    }
+    text::write_text(out, at, b"certificate,none\n")
 }
 
 fn put_evidence(
     out: &mut [u8],
+    n: usize,
     e: Evidence,
     candidates: &[u64; View::LIMIT],
     greatest: &[u64; View::LIMIT],
+    certs: &[u64; NOTICES],
 ) -> usize
-    requires { ⌜ (512 ≤ length (now out)) × Few e ⌝ }
-    ensures { λ r. ⌜ Wrote (now (out .entry)) 0 (linesOf e (now (candidates .entry)) (now (greatest .entry))) r (now (out .exit)) × (r ≤ 512) ⌝ }
+    requires { ⌜ (n ≤ 64) × (4096 ≤ length (now out)) × Few e ⌝ }
+    ensures { λ r. ⌜ Wrote (now (out .entry)) 0 (linesOf n e (now (candidates .entry)) (now (greatest .entry)) (now (certs .entry))) r (now (out .exit)) × (r ≤ 4096) ⌝ }
 {
     let a = put_wished(out, e.wished);
     if e.conflict {
@@ -111,18 +188,34 @@ fn put_evidence(
     }
     let b = put_candidates(out, a, e.many, candidates, e.count);
     let c = put_greatest(out, b, greatest, e.length);
-    put_certificate(out, c, e.certified, e.payload, e.stored)
+    put_certificates(out, c, n, e.certified, certs, e.stored)
 }
 
-// Writes what a record shows from the start of `out`, in lines, and answers the text's length; 0, and `out` as it was, where `out` has fewer than 512 bytes.
-pub fn shown(words: &[u64; POOL_WORDS], ids: &[u16; RECORD], ring: Ring, out: &mut [u8]) -> usize
-    ensures { λ r. ⌜ ScreenShows (ringIs ring) (ring .sender) (recordIn (now (words .entry)) (now (ids .entry))) (now (out .entry)) r (now (out .exit)) ⌝ }
+// Writes what a record shows from the start of `out`, in lines, and answers the text's length; 0, and `out` as it was, where `out` has fewer than 4096 bytes.
+pub fn shown(
+    words: &[u64; POOL_WORDS],
+    ids: &[u16; RECORD],
+    ring: Ring,
+    senders: &[u8; NOTICES],
+    out: &mut [u8],
+) -> usize
+    ensures { λ r. ⌜ ScreenShows (ringIs ring) (sendersOf (now (senders .entry)) (ring .notices)) (recordIn (now (words .entry)) (now (ids .entry))) (now (out .entry)) r (now (out .exit)) ⌝ }
 {
     if out.len() < SHOWN_BYTES {
         return 0;
     }
+    let n = statements::few(ring.notices);
     let mut candidates = [0u64; View::LIMIT];
     let mut greatest = [0u64; View::LIMIT];
-    let e = evidence::of_record(words, ids, ring, &mut candidates, &mut greatest);
-    put_evidence(out, e, &candidates, &greatest)
+    let mut certs = [0u64; NOTICES];
+    let e = evidence::of_record(
+        words,
+        ids,
+        ring,
+        senders,
+        &mut candidates,
+        &mut greatest,
+        &mut certs,
+    );
+    put_evidence(out, n, e, &candidates, &greatest, &certs)
 }

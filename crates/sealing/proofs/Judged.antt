@@ -15,25 +15,25 @@ use Rattle.views.specs.View.{viewOf}
 use Rattle.pool.proofs.Searches.{zeros}
 use Rattle.tables.specs.Index.{keyAt}
 use Rattle.votes.specs.Tables.{sealsAt, Tables, Verdicts}
-use Rattle.sealing.specs.Memos.{Memos, Later, Known, Blank}
+use Rattle.sealing.specs.Memos.{Memos, Later, RememberedFrom, Blank}
 use Rattle.sealing.proofs.Laws.{cand, about-choice, about-agreement, write}
 
 -- ---- places that remember something
 
-pub known-first : {n : ℕ} {M : List ℕ} → Known n n M
+pub known-first : {n : ℕ} {M : List ℕ} → RememberedFrom n n M
 known-first = record { known = λ k l m. absurd (omega arith) }
 
-pub known-kept : {W : List ℕ} {X : List Stmt} {init : ℕ} {K R : List ℕ} {from n : ℕ} {M N : List ℕ} → Known from n M → Later W X init K R M N → Known from n N
+pub known-kept : {W : List ℕ} {X : List Stmt} {init : ℕ} {K R : List ℕ} {from n : ℕ} {M N : List ℕ} → RememberedFrom from n M → Later W X init K R M N → RememberedFrom from n N
 known-kept w l = record { known = λ k h m e. w .known k h m (l .kept k e) }
 
-pub known-next : (x : ℕ) {from n m : ℕ} {M : List ℕ} → Known from n M → length M ≡ 1024 → n < 1024 → (x ≡ 0 → ⊥) → m ≤ n + 1 → Known from m (set M n x)
+pub known-next : (x : ℕ) {from n m : ℕ} {M : List ℕ} → RememberedFrom from n M → length M ≡ 1024 → n < 1024 → (x ≡ 0 → ⊥) → m ≤ n + 1 → RememberedFrom from m (set M n x)
 known-next x {from} {n} {m} {M} w e l d b = record { known = λ k h i q. go k h i q (ℕ-discrete k n) }
   where
     go : (k : ℕ) → from ≤ k → k < m → getD (set M n x) k 0 ≡ 0 → Dec (k ≡ n) → ⊥
     go k h i q (yes f) = d (sym (getD-set-same M n x 0 (omega arith)) ∙ subst (λ (j : ℕ). getD (set M n x) j 0 ≡ 0) f q)
     go k h i q (no f) = w .known k h (omega (arith, f)) (sym (getD-set-other M n k x 0 f) ∙ q)
 
-pub known-all : {from n m : ℕ} {M : List ℕ} → Known from m M → n ≤ m → Known from n M
+pub known-all : {from n m : ℕ} {M : List ℕ} → RememberedFrom from m M → n ≤ m → RememberedFrom from n M
 known-all w l = record { known = λ k h i. w .known k h (omega arith) }
 
 -- ---- nothing is remembered yet
@@ -57,7 +57,7 @@ module _ {W : List ℕ} {X : List Stmt} {init : ℕ} {K R M N : List ℕ} (ok : 
 -- ---- what the verdicts say
 
 module _ {W : List ℕ} {X : List Stmt} {init : ℕ} {K R : List ℕ} {choiceCount agreementCount : ℕ} where
-  pub verdicts-of : {M : List ℕ} → Tables W X init K R choiceCount agreementCount → Memos W X init K R M → Known 0 choiceCount M → Known 512 (512 + agreementCount) M → Verdicts W X init K R choiceCount agreementCount M
+  pub verdicts-of : {M : List ℕ} → Tables W X init K R choiceCount agreementCount → Memos W X init K R M → RememberedFrom 0 choiceCount M → RememberedFrom 512 (512 + agreementCount) M → Verdicts W X init K R choiceCount agreementCount M
   verdicts-of {M} ok m c a = record {
     candidate = λ i l. m .right i (c .known i (omega arith) l) ∙ about-choice (omega (arith, ok .chosen .few)) .so;
     sealed = λ i l. m .right (512 + i) (a .known (512 + i) (omega arith) (omega arith)) ∙ about-agreement i .so;

@@ -10,13 +10,12 @@ use lib.Dec.{eqb}
 use lib.ListN.{length, getD, set}
 use lib.Seq.{getD-set-same, getD-set-other, set-out}
 use borrow.Author.Tests.{eq-eqb, ne-eqb, lt-ltb, le-ltb}
-use Rattle.protocol.specs.Lists.{any, all}
+use Rattle.protocol.specs.Lists.{any, all, listOf}
 use Rattle.protocol.specs.View.{View, sameView, size}
 use Rattle.protocol.specs.Statement.{Stmt}
 use Rattle.protocol.specs.Evidence.{isCandidate}
 use Rattle.protocol.specs.Grounds.{isTop}
 use Rattle.protocol.proofs.Decided.{says-in}
-use Rattle.views.specs.Table.{table}
 use Rattle.views.specs.View.{viewOf, ringOfWord}
 use Rattle.views.proofs.Tables.{any-zero, any-suc, any-at, all-zero, all-more, all-miss}
 use Rattle.views.proofs.Views.{same-yes}
@@ -63,7 +62,7 @@ module _ (W : List ℕ) (X : List Stmt) (init : ℕ) (K R : List ℕ) where
 
   -- the first p views of statement n are candidates
   pub record AllTo (n p : ℕ) : Type 0 where
-    pub are : all (cand X init) (table p (viewAt W n)) ≡ true
+    pub are : all (cand X init) (listOf p (viewAt W n)) ≡ true
 
   give-other : (v i : ℕ) → (keyAt K 0 i ≡ v → ⊥) → gives W X init K R v i ≡ false
   unfolding gives
@@ -177,7 +176,7 @@ module _ {W : List ℕ} {X : List Stmt} {init : ℕ} {K R : List ℕ} {choiceCou
   pub seal-not : (a v : ℕ) {n e p : ℕ} {r : Bool} → n ≡ numberAt R 1 a → e ≡ countOf W n → p < e → viewOf v ≡ viewAt W n p → r ≡ cand X init (viewOf v) → r ≡ false → sealsAt W X init K R a ≡ false
   unfolding sealsAt stmtAt
   seal-not a v {n} {e} {p} {r} q f l y z w =
-      and-none (tops X init (agreementAt W R a .at)) (all (cand X init) (table (countOf W (numberAt R 1 a)) (viewAt W (numberAt R 1 a))))
+      and-none (tops X init (agreementAt W R a .at)) (all (cand X init) (listOf (countOf W (numberAt R 1 a)) (viewAt W (numberAt R 1 a))))
       (rw (sym q) (all-miss (cand X init) (viewAt W n) (countOf W n) (omega arith) (ap (cand X init) (sym y) ∙ sym z ∙ w)))
 
   pub all-first : (n : ℕ) → AllTo W X init K R n 0
@@ -190,7 +189,7 @@ module _ {W : List ℕ} {X : List Stmt} {init : ℕ} {K R : List ℕ} {choiceCou
   unfolding sealsAt stmtAt
   seal-by a t {n} {e} {p} q f l m al g h =
       let d : countOf W n ≡ p = omega arith in
-      rw (sym q) (ap₂ _&&_ (ap (tops X init) (sym g) ∙ h) (ap (λ m. all (cand X init) (table m (viewAt W n))) d ∙ al .are))
+      rw (sym q) (ap₂ _&&_ (ap (tops X init) (sym g) ∙ h) (ap (λ m. all (cand X init) (listOf m (viewAt W n))) d ∙ al .are))
 
   pub seal-init : (a t : ℕ) {n e p : ℕ} → n ≡ numberAt R 1 a → e ≡ countOf W n → p ≤ e → e ≤ p → AllTo W X init K R n p → viewOf t ≡ stmtAt W n .at → IsWord t → t ≡ init → sealsAt W X init K R a ≡ true
   seal-init a t q f l m al g k h = seal-by a t q f l m al g (top-init k h)

@@ -14,7 +14,7 @@ use Rattle.tables.specs.Index.{keyAt}
 use Rattle.votes.specs.Tables.{sealsAt, Tables, Verdicts}
 
 -- Each place from `from` to before n remembers something.
-pub record Known (from n : ℕ) (M : List ℕ) : Type 0 where
+pub record RememberedFrom (from n : ℕ) (M : List ℕ) : Type 0 where
   pub known : (k : ℕ) → from ≤ k → k < n → getD M k 0 ≡ 0 → ⊥
 
 -- Nothing is remembered.
@@ -36,7 +36,7 @@ module _ (W : List ℕ) (X : List Stmt) (init : ℕ) (K R : List ℕ) where
     pub among : a < agreements
 
   -- The same, and M has all verdicts.
-  pub record Judged (M : List ℕ) : Type 0 where
+  pub record VerdictsHeld (M : List ℕ) : Type 0 where
     pub choices : ℕ
     pub agreements : ℕ
     pub tables : Tables W X init K R choices agreements

@@ -7,7 +7,7 @@ ghost use Rattle.protocol.specs.Grounds.{isTop};
 ghost use Rattle.views.specs.View.{viewOf, ringOfWord};
 ghost use Rattle.pool.specs.Pool.{recordIn};
 ghost use Rattle.votes.specs.Tables.{Tables, Verdicts};
-ghost use Rattle.sealing.specs.Memos.{Judged, Memos, Later, Known, Blank};
+ghost use Rattle.sealing.specs.Memos.{VerdictsHeld, Memos, Later, RememberedFrom, Blank};
 use crate::cycle;
 use crate::cycle::MEMO;
 use pool::POOL_WORDS;
@@ -48,7 +48,7 @@ fn judge_choices(
     choices: usize,
 )
     requires { ⌜ ((agreementCount : ℕ) × Tables (now words) (recordIn (now words) (now ids)) init (now keys) (now rows) choices agreementCount) × Memos (now words) (recordIn (now words) (now ids)) init (now keys) (now rows) (now memo) ⌝ }
-    ensures { λ _. ⌜ Later (now (words .entry)) (recordIn (now (words .entry)) (now (ids .entry))) init (now (keys .entry)) (now (rows .entry)) (now (memo .entry)) (now (memo .exit)) × Known 0 choices (now (memo .exit)) ⌝ }
+    ensures { λ _. ⌜ Later (now (words .entry)) (recordIn (now (words .entry)) (now (ids .entry))) init (now (keys .entry)) (now (rows .entry)) (now (memo .entry)) (now (memo .exit)) × RememberedFrom 0 choices (now (memo .exit)) ⌝ }
 {
     let mut c = 0usize;
     while c < choices {
@@ -71,7 +71,7 @@ fn judge_agreements(
     agreements: usize,
 )
     requires { ⌜ ((choiceCount : ℕ) × Tables (now words) (recordIn (now words) (now ids)) init (now keys) (now rows) choiceCount agreements) × Memos (now words) (recordIn (now words) (now ids)) init (now keys) (now rows) (now memo) ⌝ }
-    ensures { λ _. ⌜ Later (now (words .entry)) (recordIn (now (words .entry)) (now (ids .entry))) init (now (keys .entry)) (now (rows .entry)) (now (memo .entry)) (now (memo .exit)) × Known 512 (512 + agreements) (now (memo .exit)) ⌝ }
+    ensures { λ _. ⌜ Later (now (words .entry)) (recordIn (now (words .entry)) (now (ids .entry))) init (now (keys .entry)) (now (rows .entry)) (now (memo .entry)) (now (memo .exit)) × RememberedFrom 512 (512 + agreements) (now (memo .exit)) ⌝ }
 {
     let mut a = 0usize;
     while a < agreements {
@@ -109,7 +109,7 @@ pub fn is_sealed_top(
     memo: &[u8; MEMO],
     t: u64,
 ) -> bool
-    requires { ⌜ Judged (now words) (recordIn (now words) (now ids)) init (now keys) (now rows) (now memo) ⌝ }
+    requires { ⌜ VerdictsHeld (now words) (recordIn (now words) (now ids)) init (now keys) (now rows) (now memo) ⌝ }
     ensures { λ r. ⌜ r ≡ isTop (ringOfWord init) (recordIn (now (words .entry)) (now (ids .entry))) (viewOf t) ⌝ }
 {
     if t == init {

@@ -1,52 +1,40 @@
--- The views of a statement are those of its history.
+-- The views of a statement are those of its history, and what the makers make.
 -- Assumes nothing.
-use mathlib.Core.Path.{_≡_, refl, ap, _∙_}
-use mathlib.Core.Bool.{Bool, true, false, cond}
-use mathlib.Core.List.{List, []}
-use Prim.Native.Nat.{ℕ, _≤_}
+use mathlib.Core.Path.{_≡_, sym, ap, _∙_}
+use mathlib.Core.Bool.{false}
+use mathlib.Core.List.{List}
+use Prim.Native.Nat.{ℕ, _≤_, min}
 use native.Mathlib.Omega.{arith}
-use Rattle.protocol.specs.Lists.{when}
+use lib.Dec.{eqb}
+use Rattle.protocol.specs.Lists.{listOf}
 use Rattle.protocol.specs.View.{View}
-use Rattle.protocol.specs.Statement.{bindingPayload, storedNumber, keptPayload}
-use Rattle.protocol.specs.Statement as says
-use Rattle.views.specs.declared.View as held
 use Rattle.views.specs.declared.History.{History}
-use Rattle.views.specs.Held.{viewIs, viewsIs}
-use Rattle.views.proofs.Held.{views-of}
-use Rattle.statements.specs.declared.Binding.{Binding}
-use Rattle.statements.specs.declared.Binding.the-variants.{Unbound, Bound, Barred}
+use Rattle.views.specs.Held.{viewIs, heldAt, viewsIs}
 use Rattle.statements.specs.declared.Statement.{Statement}
-use Rattle.statements.specs.Meaning.{firstViews, payloadOf, bindingIs, stmtOf}
-use Rattle.statements.specs.Made.{Made, plain}
-use Rattle.statements.proofs.FieldLaws.{views-table}
+use Rattle.statements.specs.Block.{groupsOf}
+use Rattle.statements.specs.Meaning.{firstViews, stmtOf}
+use Rattle.statements.specs.Made.{Made, Reports, plain}
+use Rattle.statements.proofs.FieldLaws.{views-meant}
 
 pub first-held : (h : History) → h .len ≤ 16 → firstViews (h .len) (h .views) ≡ viewsIs h
-first-held h l = views-table (h .len) (h .views) ∙ views-of h (h .len) (omega arith)
+first-held h l = sym (views-meant h l)
+
+-- a length above 16 counts as 16
+pub shortened-is : (h : History) (n : ℕ) → n ≡ min (h .len) 16 → viewsIs (record { views = h .views; len = n }) ≡ viewsIs h
+unfolding viewsIs
+shortened-is h n e = let d : min n 16 ≡ min (h .len) 16 = omega arith in ap (λ m. listOf m (heldAt (h .views))) d
 
 -- ---- what makes a statement
 
-pub plain-made : (r : Statement) → r .binding ≡ Unbound → r .stored ≡ false → r .kept ≡ 0 → r .history .len ≤ 16
-    → Made (plain (r .kind) (r .origin) (viewIs (r .at)) (viewIs (r .view)) (r .payload) (viewsIs (r .history))) r
-unfolding stmtOf
-plain-made r b s k l = record { means = rw (b, s, k, first-held (r .history) l); short = l }
+pub plain-made : (r : Statement) → eqb (r .kind) 5 ≡ false → r .history .len ≤ 16
+    → Made (plain (r .kind) (r .origin) (viewIs (r .at)) (viewIs (r .view)) (r .notice) (r .payload) (viewsIs (r .history))) r
+unfolding stmtOf groupsOf
+plain-made r k l = record { means = λ B. rw (k, first-held (r .history) l); short = l }
 
--- with a history that has no views
-pub brief-made : {kind k payload : ℕ} {at view : View} {H : List View} {r : Statement} → H ≡ [] → Made (plain kind k at view payload H) r → Made (plain kind k at view payload []) r
-brief-made {kind} {k} {payload} {at} {view} e m = record { means = m .means ∙ ap (plain kind k at view payload) e; short = m .short }
+-- with other views
+pub made-views : {kind k notice payload : ℕ} {at view : View} {H H′ : List View} {r : Statement} → H ≡ H′ → Made (plain kind k at view notice payload H) r → Made (plain kind k at view notice payload H′) r
+made-views {kind} {k} {notice} {payload} {at} {view} e m = record { means = λ B. m .means B ∙ ap (plain kind k at view notice payload) e; short = m .short }
 
-bound-payload : (b : Binding) → payloadOf b 0 ≡ bindingPayload (bindingIs b)
-bound-payload Unbound = refl
-bound-payload (Bound m) = refl
-bound-payload Barred = refl
-
-stored-number : (b : Bool) (m : ℕ) → cond b 1 0 ≡ storedNumber (when b m)
-stored-number true m = refl
-stored-number false m = refl
-
-pub report-made : (r : Statement) (m : ℕ) → r .kind ≡ 5 → r .payload ≡ 0 → r .kept ≡ keptPayload (when (r .stored) m) → r .history .len ≤ 16
-    → Made (says.report (r .origin) (viewIs (r .at)) (viewIs (r .view)) (bindingIs (r .binding)) (when (r .stored) m) (viewsIs (r .history))) r
-unfolding stmtOf
-report-made r m k p e l = record {
-  means = rw (k, p, e, bound-payload (r .binding), stored-number (r .stored) m, first-held (r .history) l);
-  short = l;
-}
+pub report-made : (r : Statement) (H : List View) → r .kind ≡ 5 → r .notice ≡ 0 → r .history .len ≤ 16 → viewsIs (r .history) ≡ H → Reports (r .origin) (viewIs (r .at)) (viewIs (r .view)) (r .groups) H r
+unfolding stmtOf groupsOf
+report-made r H k n l e = record { means = λ B. rw (k, n, first-held (r .history) l ∙ e); short = l }

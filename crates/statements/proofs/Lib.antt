@@ -1,10 +1,14 @@
-pub mod Held
 pub mod Fields
+pub mod NoticeSets
+pub mod Tells
+pub mod Sequence
+pub mod GroupLaws
 pub mod Views
 pub mod Statements
 pub mod Written
 pub mod FieldLaws
-pub mod Laws
-pub mod Example
 pub mod Fits
+pub mod Held
+pub mod Laws
 pub mod One
+pub mod Example

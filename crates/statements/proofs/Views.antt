@@ -3,13 +3,13 @@
 use Prim.Native.Nat.{ℕ, zero, suc, _+_, _*_, _<_, _≤_}
 use native.Mathlib.Numerals.{add-one}
 use native.Mathlib.Omega.{arith}
-use mathlib.Core.Path.{_≡_, refl, sym, ap, _∙_}
-use mathlib.Core.Bool.{Bool, true, false, false≢true}
-use mathlib.Core.List.{List, [], _∷_, _++_, append-assoc, append-nil}
-use lib.ListN.{length, take, drop, getD, set, length-append, length-drop, length-set, drop-of-length-le}
-use lib.Seq.{take-suc, drop-cons, take-all}
+use mathlib.Core.Path.{_≡_, refl, sym, ap, subst, _∙_}
+use mathlib.Core.Bool.{Bool, true, false}
+use mathlib.Core.List.{List, [], _∷_, _++_}
+use lib.ListN.{length, getD, set, length-append}
 use Rattle.protocol.specs.View.{View}
 use Rattle.protocol.specs.Statement.{noView}
+use Rattle.text.specs.Scan.{Stops}
 use Rattle.text.specs.Written.{Wrote}
 use Rattle.text.proofs.Stores.{both, wrote-as}
 use Rattle.views.specs.declared.View as held
@@ -17,129 +17,82 @@ use Rattle.statements.specs.declared.Part.{Part}
 use Rattle.statements.specs.declared.ViewPart.{ViewPart}
 use Rattle.statements.specs.Text.{viewText}
 use Rattle.views.specs.Held.{viewIs}
-use Rattle.statements.specs.Meaning.{firstViews, FitsView, EachFits}
-use Rattle.statements.specs.Parts.{ViewAt, ViewsAt, tailText}
+use Rattle.statements.specs.Meaning.{firstViews, Many, FitsView, FitsViews}
+use Rattle.statements.specs.Parts.{NumberAt, ViewAt, each, commaView, commaNumber, tailText, viewsText, Ends}
 use Rattle.statements.proofs.Fields.{view-long}
+use Rattle.statements.proofs.Sequence.{Comma, from-number, from-view, SoFar, so-far-first, so-far-next, so-far-all, ends-whole, ends-more, ends-two, ends-as, each-more}
 
 -- ---- lists of views
-pub tail-append : (k l : List View) → tailText (k ++ l) ≡ tailText k ++ tailText l
-unfolding tailText
-tail-append [] l = refl
-tail-append (v ∷ k) l = ap (λ (t : List ℕ). 44 ∷ (viewText v ++ t)) (tail-append k l) ∙ ap (λ (t : List ℕ). 44 ∷ t) (sym (append-assoc (viewText v) (tailText k) (tailText l)))
-
-pub tail-one : (v : View) → tailText (v ∷ []) ≡ 44 ∷ viewText v
-unfolding tailText
-tail-one v = ap (λ (t : List ℕ). 44 ∷ t) (append-nil (viewText v))
-
-tail-none : tailText [] ≡ []
-unfolding tailText
-tail-none = refl
-
-tail-cons : (v : View) (l : List View) → tailText (v ∷ l) ≡ 44 ∷ (viewText v ++ tailText l)
-unfolding tailText
-tail-cons v l = refl
+pub comma-view : Comma commaView
+comma-view v = (viewText v, refl)
 
 pub tail-long : (l : List View) → length (tailText l) ≡ 9 * length l
-unfolding tailText
+unfolding each
 tail-long [] = refl
 tail-long (v ∷ l) = omega (arith, length-append (viewText v) (tailText l), view-long v, tail-long l)
 
-pub first-set : (l : List held.View) (i : ℕ) (v : held.View) → i < length l → firstViews (suc i) (set l i v) ≡ firstViews i l ++ (viewIs v ∷ [])
+pub tail-stops : (l : List View) → Stops (tailText l)
+unfolding each
+tail-stops [] = tt
+tail-stops (v ∷ l) = refl
+
+pub first-none : (l : List held.View) → firstViews 0 l ≡ []
+unfolding firstViews
+first-none l = refl
+
+pub first-long : (n : ℕ) (l : List held.View) → length (firstViews n l) ≡ n
+unfolding firstViews
+first-long zero l = refl
+first-long (suc n) [] = ap suc (first-long n [])
+first-long (suc n) (v ∷ l) = ap suc (first-long n l)
+
+first-set : (l : List held.View) (i : ℕ) (v : held.View) → i < length l → firstViews (suc i) (set l i v) ≡ firstViews i l ++ (viewIs v ∷ [])
 unfolding firstViews
 first-set [] i v h = absurd (omega arith)
 first-set (u ∷ l) zero v h = refl
 first-set (u ∷ l) (suc i) v h = ap (λ (t : List View). viewIs u ∷ t) (first-set l i v (omega arith))
 
-each-at : (l : List View) (i : ℕ) → EachFits l → i < length l → FitsView (getD l i noView)
-each-at [] i f h = absurd (omega arith)
-each-at (v ∷ l) zero f h = f .0
-each-at (v ∷ l) (suc i) f h = each-at l i (f .1) (omega arith)
-
--- ---- a part that is followed by a comma was accepted
-pub ok-before : (S : List ℕ) (at x : ℕ) (rest : List ℕ) (ok : Bool) → drop at S ≡ x ∷ rest → (ok ≡ false → at ≡ length S) → ok ≡ true
-ok-before S at x rest true e stop = refl
-ok-before S at x rest false e stop = absurd (omega (arith, stop refl, sym (length-drop at S) ∙ ap length e))
-
--- ---- reading: i views were read, and the next is to begin at `at`
-pub record SoFar (S : List ℕ) (n : ℕ) (ok₀ : Bool) (at₀ : ℕ) (views : List held.View) (ok : Bool) (at i : ℕ) : Type 0 where
-  pub count : i ≤ n
-  pub size : length views ≡ 16
-  pub stop : ok ≡ false → at ≡ length S
-  pub only : ok ≡ true → (ok₀ ≡ true) × (drop at₀ S ≡ tailText (firstViews i views) ++ drop at S)
-  pub back : (l : List View) → length l ≡ n → EachFits l → ok₀ ≡ true → drop at₀ S ≡ tailText l → (ok ≡ true) × (firstViews i views ≡ take i l) × (drop at S ≡ tailText (drop i l))
-
+-- ---- reading: i views were read
 module _ (S : List ℕ) (n : ℕ) (ok₀ : Bool) (at₀ : ℕ) where
-  pub so-far-first : (views : List held.View) → length views ≡ 16 → (ok₀ ≡ false → at₀ ≡ length S) → SoFar S n ok₀ at₀ views ok₀ at₀ 0
-  unfolding firstViews tailText
-  so-far-first views size stop = record { count = omega arith; size = size; stop = stop; only = λ o. (o, refl); back = λ l e f o d. (o, refl, d) }
+  pub views-first : (views : List held.View) → (ok₀ ≡ false → at₀ ≡ length S) → SoFar commaView FitsView S n ok₀ at₀ (firstViews 0 views) ok₀ at₀
+  views-first views stop = subst (λ l. SoFar commaView FitsView S n ok₀ at₀ l ok₀ at₀) (sym (first-none views)) (so-far-first commaView FitsView S n ok₀ at₀ stop)
 
-  module _ (views : List held.View) (ok : Bool) (at i : ℕ) (sf : SoFar S n ok₀ at₀ views ok at i) where
-    module _ (p : ViewPart) (h : i < n) (few : n ≤ 16) (v : ViewAt S at p) where
-      longer : firstViews (i + 1) (set views i (p .view)) ≡ firstViews i views ++ (viewIs (p .view) ∷ [])
-      longer = ap (λ (k : ℕ). firstViews k (set views i (p .view))) (add-one i) ∙ first-set views i (p .view) (omega (arith, sf .size))
+  module _ (views : List held.View) (i : ℕ) (ok : Bool) (at : ℕ) (sf : SoFar commaView FitsView S n ok₀ at₀ (firstViews i views) ok at) where
+    pub views-next : (p : ViewPart) → i < n → i < length views → ViewAt S at p → SoFar commaView FitsView S n ok₀ at₀ (firstViews (i + 1) (set views i (p .view))) (p .ok) (p .next)
+    views-next p h size v =
+        subst (λ l. SoFar commaView FitsView S n ok₀ at₀ l (p .ok) (p .next)) (sym (ap (λ k. firstViews k (set views i (p .view))) (add-one i) ∙ first-set views i (p .view) size))
+        (so-far-next commaView FitsView S n ok₀ at₀ (firstViews i views) ok at sf comma-view (viewIs (p .view)) (p .ok) (p .next) (omega (arith, first-long i views)) (from-view S at p v))
 
-      only : p .ok ≡ true → (ok₀ ≡ true) × (drop at₀ S ≡ tailText (firstViews (i + 1) (set views i (p .view))) ++ drop (p .next) S)
-      only o =
-          let g = sf .only (ok-before S at 44 (viewText (viewIs (p .view)) ++ drop (p .next) S) ok (v .only o) (sf .stop)) in (
-            g .0,
-            g .1 ∙ ap (λ (t : List ℕ). tailText (firstViews i views) ++ t) (v .only o)
-                ∙ sym (ap (λ (t : List View). tailText t ++ drop (p .next) S) longer ∙ ap (λ (t : List ℕ). t ++ drop (p .next) S) (tail-append (firstViews i views) (viewIs (p .view) ∷ []) ∙ ap (λ (t : List ℕ). tailText (firstViews i views) ++ t) (tail-one (viewIs (p .view))))
-                ∙ append-assoc (tailText (firstViews i views)) (44 ∷ viewText (viewIs (p .view))) (drop (p .next) S)),
-          )
+    module _ (all : i ≡ n) where
+      abbrev Whole : Bool → Type 0
+      Whole b = Ends tailText (Many FitsView n) S ok₀ at₀ b (firstViews n views)
 
-      back : (l : List View) → length l ≡ n → EachFits l → ok₀ ≡ true → drop at₀ S ≡ tailText l → (p .ok ≡ true) × (firstViews (i + 1) (set views i (p .view)) ≡ take (i + 1) l) × (drop (p .next) S ≡ tailText (drop (i + 1) l))
-      back l e f o d =
-          let g = sf .back l e f o d in
-          let here = g .2 ∙ ap tailText (drop-cons l i noView (omega arith)) ∙ tail-cons (getD l i noView) (drop (suc i) l) in
-          let w = v .back (getD l i noView) (tailText (drop (suc i) l)) (each-at l i f (omega arith)) here in (
-            w .0,
-            longer ∙ ap (λ (t : List View). t ++ (viewIs (p .view) ∷ [])) (g .1) ∙ ap (λ (u : View). take i l ++ (u ∷ [])) (w .1)
-                ∙ sym (ap (λ (k : ℕ). take k l) (add-one i) ∙ take-suc l i noView (omega arith)),
-            w .2 ∙ ap (λ (k : ℕ). tailText (drop k l)) (sym (add-one i)),
-          )
+      pub views-more : at < length S → Whole false
+      views-more h = subst (λ k. Ends tailText (Many FitsView n) S ok₀ at₀ false (firstViews k views)) all
+          (ends-more tailText (Many FitsView n) S ok₀ at₀ ok (firstViews i views) at (so-far-all commaView FitsView S n ok₀ at₀ (firstViews i views) ok at sf (first-long i views ∙ all)) h)
 
-      pub so-far-next : SoFar S n ok₀ at₀ (set views i (p .view)) (p .ok) (p .next) (i + 1)
-      so-far-next = record { count = omega arith; size = length-set views i (p .view) ∙ sf .size; stop = v .stop; only = only; back = back }
+      pub views-whole : length S ≤ at → Whole ok
+      views-whole h = subst (λ k. Ends tailText (Many FitsView n) S ok₀ at₀ ok (firstViews k views)) all
+          (ends-whole tailText (Many FitsView n) S ok₀ at₀ ok (firstViews i views) at (so-far-all commaView FitsView S n ok₀ at₀ (firstViews i views) ok at sf (first-long i views ∙ all)) h)
 
-    module _ (few : n ≤ 16) (end : n ≤ i) where
-      all : i ≡ n
-      all = omega (arith, sf .count)
-
-      -- something is left
-      pub so-far-more : (count : Part) → count .ok ≡ ok₀ → count .value ≡ n → count .next ≡ at₀ → at < length S → ViewsAt S count (record { ok = false; history = record { views = views; len = n } })
-      so-far-more count eo en ea h = record {
-        counted = λ o. absurd (false≢true o);
-        only = λ o. absurd (false≢true o);
-        len = λ o. absurd (false≢true o);
-        back = λ l e f o d.
-            let g = sf .back l (e ∙ en) f (sym eo ∙ o) (ap (λ (k : ℕ). drop k S) (sym ea) ∙ d) in
-            let none = g .2 ∙ ap tailText (drop-of-length-le l {i = i} (omega (arith, all))) ∙ tail-none in
-            absurd (omega (arith, sym (length-drop at S) ∙ ap length none));
-        short = few;
-      }
-
-      -- nothing is left
-      pub so-far-whole : (count : Part) → count .ok ≡ ok₀ → count .value ≡ n → count .next ≡ at₀ → length S ≤ at → ViewsAt S count (record { ok = ok; history = record { views = views; len = n } })
-      so-far-whole count eo en ea h = record {
-        counted = λ o. eo ∙ sf .only o .0;
-        only = λ o. ap (λ (k : ℕ). drop k S) ea ∙ sf .only o .1 ∙ ap (λ (t : List ℕ). tailText (firstViews i views) ++ t) (drop-of-length-le S h) ∙ append-nil (tailText (firstViews i views)) ∙ ap (λ (k : ℕ). tailText (firstViews k views)) all;
-        len = λ o. sym en;
-        back = λ l e f o d.
-            let g = sf .back l (e ∙ en) f (sym eo ∙ o) (ap (λ (k : ℕ). drop k S) (sym ea) ∙ d) in
-            (g .0, ap (λ (k : ℕ). firstViews k views) (sym all) ∙ g .1 ∙ take-all i l (omega (arith, all)));
-        short = few;
-      }
+-- with their count before them
+pub tail-from : (S : List ℕ) (at : ℕ) (count : Part) (ok : Bool) (n : ℕ) (views : List held.View) → NumberAt S at 16 count → n ≡ count .value → Ends tailText (Many FitsView (count .value)) S (count .ok) (count .next) ok (firstViews n views) → Ends viewsText FitsViews S true at ok (firstViews n views)
+tail-from S at count ok n views c e f =
+    let low : ℕ → Type 0 = λ k. k ≤ 16 in
+    let l : List View = firstViews n views in
+    ends-as _ _ viewsText FitsViews (count .value, l) l (λ w. (length w, w)) (ap (λ k. commaNumber k ++ tailText l) (first-long n views ∙ e)) (λ w h. refl) (λ w h. (h .0, (refl, h .1))) (λ w h q. ap (λ x. x .1) q) S true at ok
+    (ends-two commaNumber low tailText (Many FitsView) S true at (count .ok) (count .value) (count .next) (from-number S at 16 count c) ok l tail-stops f)
 
 -- ---- writing
 pub put-first : (out : List ℕ) (from : ℕ) (l : List held.View) → Wrote out from (tailText (firstViews 0 l)) from out
-unfolding firstViews tailText
+unfolding firstViews each
 put-first out from l = record { next = omega arith; is = refl }
 
 abbrev pub blank : held.View
 blank = record { joined = 0; left = 0 }
 
 -- the list need not be so long: past its end a view is empty on both sides
-pub first-then : (l : List held.View) (i : ℕ) → firstViews (suc i) l ≡ firstViews i l ++ (viewIs (getD l i blank) ∷ [])
+first-then : (l : List held.View) (i : ℕ) → firstViews (suc i) l ≡ firstViews i l ++ (viewIs (getD l i blank) ∷ [])
 unfolding firstViews
 first-then [] zero = refl
 first-then [] (suc i) = ap (λ (t : List View). noView ∷ t) (first-then [] i)
@@ -149,7 +102,7 @@ first-then (u ∷ l) (suc i) = ap (λ (t : List View). viewIs u ∷ t) (first-th
 -- one view more
 pub tail-more : {out₀ out₁ out₂ : List ℕ} {from at n : ℕ} (k l : List View) (v : View) → l ≡ k ++ (v ∷ []) → Wrote out₀ from (tailText k) at out₁ → Wrote out₁ at (44 ∷ viewText v) n out₂
     → Wrote out₀ from (tailText l) n out₂
-tail-more k l v e a b = wrote-as (sym (ap tailText e ∙ tail-append k (v ∷ []) ∙ ap (λ (t : List ℕ). tailText k ++ t) (tail-one v))) (both a b)
+tail-more k l v e a b = wrote-as (sym (ap tailText e ∙ each-more commaView k v)) (both a b)
 
 pub put-next : {out₀ out₁ out₂ : List ℕ} {from at n : ℕ} (i : ℕ) (l : List held.View) → Wrote out₀ from (tailText (firstViews i l)) at out₁ → Wrote out₁ at (44 ∷ viewText (viewIs (getD l i blank))) n out₂
     → Wrote out₀ from (tailText (firstViews (i + 1) l)) n out₂

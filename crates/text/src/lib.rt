@@ -11,6 +11,9 @@ pub const COMMA: u8 = 44;
 
 pub const NEWLINE: u8 = 10;
 
+// The digit 0.
+pub const ZERO: u8 = 48;
+
 // The greatest number that a field has: 64 bits.
 pub const NUMBER_MAX: u64 = 18446744073709551615;
 // With one digit more a greater number than this is too great.
@@ -108,7 +111,7 @@ pub fn read_dec(s: &[u8], at: usize) -> Read
     }
     let c = s[at];
     let next = at + 1;
-    if c == 48 {
+    if c == ZERO {
         return after_zero(s, next);
     }
     let ok = digit(c);

@@ -12,16 +12,17 @@ use lib.ListN.{length, set}
 use lib.Seq.{getD-set-same, getD-set-other}
 use borrow.Author.Tests.{lt-ltb, le-ltb}
 use Rattle.protocol.specs.Sets.{bit, setOf}
+use Rattle.protocol.specs.Lists.{listOf}
 use Rattle.protocol.specs.View.{View, member, isView}
 use Rattle.protocol.specs.Turn.{enteredAfter}
 use Rattle.protocol.proofs.Bits.{bit-setOf, subset-and, Fits}
+use Rattle.protocol.proofs.Numbered.{listOf-length, listOf-cong}
 use Rattle.views.specs.declared.View as held
 use Rattle.views.specs.declared.History.{History}
-use Rattle.views.specs.Table.{table}
 use Rattle.views.specs.View.{viewOf, viewIn}
 use Rattle.views.specs.Held.{viewIs, heldAt, viewsIs}
 use Rattle.views.proofs.Sets.{bit-shift, bit-far, set-without}
-use Rattle.views.proofs.Tables.{table-length, table-cong, take-table}
+use Rattle.views.proofs.Tables.{take-listOf}
 use Rattle.views.proofs.Views.{pair}
 
 -- ---- one view
@@ -63,39 +64,39 @@ of-words p a b e f g = e ∙ ap₂ p f g
 
 -- a fact of the first n views of an array, where the history has n, is one of the history
 
-pub views-of : (h : History) (n : ℕ) → n ≡ min (h .len) 16 → table n (heldAt (h .views)) ≡ viewsIs h
+pub views-of : (h : History) (n : ℕ) → n ≡ min (h .len) 16 → listOf n (heldAt (h .views)) ≡ viewsIs h
 unfolding viewsIs
-views-of h n e = ap (λ k. table k (heldAt (h .views))) e
+views-of h n e = ap (λ k. listOf k (heldAt (h .views))) e
 
 module _ {A : Type 0} (g : List View → A) (h : History) where
-  pub of-history : (n : ℕ) {r : A} → n ≡ min (h .len) 16 → r ≡ g (table n (heldAt (h .views))) → r ≡ g (viewsIs h)
+  pub of-history : (n : ℕ) {r : A} → n ≡ min (h .len) 16 → r ≡ g (listOf n (heldAt (h .views))) → r ≡ g (viewsIs h)
   of-history n e q = q ∙ ap g (views-of h n e)
 
 pub none-held : (h : History) → h .len ≡ 0 → viewsIs h ≡ []
-unfolding viewsIs table
+unfolding viewsIs listOf
 none-held h e = let q : min (h .len) 16 ≡ 0 = omega arith in rw q
 
 -- v at place n of an array, after the first n
 
-set-view : (l : List held.View) (n : ℕ) (v : held.View) → n < length l → table (suc n) (heldAt (set l n v)) ≡ table n (heldAt l) ++ (viewIs v ∷ [])
-unfolding table
+set-view : (l : List held.View) (n : ℕ) (v : held.View) → n < length l → listOf (suc n) (heldAt (set l n v)) ≡ listOf n (heldAt l) ++ (viewIs v ∷ [])
+unfolding listOf
 set-view l n v h =
-    ap₂ (λ k u. k ++ (u ∷ [])) (table-cong n (heldAt (set l n v)) (heldAt l) (λ i m. ap viewIs (getD-set-other l n i v _ (λ e. omega arith)))) (ap viewIs (getD-set-same l n v _ h))
+    ap₂ (λ k u. k ++ (u ∷ [])) (listOf-cong n (heldAt (set l n v)) (heldAt l) (λ i m. ap viewIs (getD-set-other l n i v _ (λ e. omega arith)))) (ap viewIs (getD-set-same l n v _ h))
 
 -- an array that is filled place by place
-pub held-more : (l : List held.View) (n : ℕ) (v : held.View) (f : ℕ → View) → n < length l → table n (heldAt l) ≡ table n f → viewIs v ≡ f n → table (n + 1) (heldAt (set l n v)) ≡ table (n + 1) f
-unfolding table
+pub held-more : (l : List held.View) (n : ℕ) (v : held.View) (f : ℕ → View) → n < length l → listOf n (heldAt l) ≡ listOf n f → viewIs v ≡ f n → listOf (n + 1) (heldAt (set l n v)) ≡ listOf (n + 1) f
+unfolding listOf
 held-more l n v f h e q = rw add-one (set-view l n v h ∙ ap₂ (λ k u. k ++ (u ∷ [])) e q)
 
-pub cut-is : (l : List held.View) (n : ℕ) (v : held.View) (h : History) → length l ≡ 16 → n < 16 → h .views ≡ set l n v → h .len ≡ n + 1 → viewsIs h ≡ table n (heldAt l) ++ (viewIs v ∷ [])
-cut-is l n v h a b p q = sym (views-of h (suc n) (omega arith)) ∙ ap (λ k. table (suc n) (heldAt k)) p ∙ set-view l n v (omega arith)
+pub cut-is : (l : List held.View) (n : ℕ) (v : held.View) (h : History) → length l ≡ 16 → n < 16 → h .views ≡ set l n v → h .len ≡ n + 1 → viewsIs h ≡ listOf n (heldAt l) ++ (viewIs v ∷ [])
+cut-is l n v h a b p q = sym (views-of h (suc n) (omega arith)) ∙ ap (λ k. listOf (suc n) (heldAt k)) p ∙ set-view l n v (omega arith)
 
-pub push-room : (h : History) (n : ℕ) (v : View) → n ≡ min (h .len) 16 → n < 16 → table n (heldAt (h .views)) ++ (v ∷ []) ≡ enteredAfter v (viewsIs h)
+pub push-room : (h : History) (n : ℕ) (v : View) → n ≡ min (h .len) 16 → n < 16 → listOf n (heldAt (h .views)) ++ (v ∷ []) ≡ enteredAfter v (viewsIs h)
 unfolding enteredAfter
-push-room h n v e l = of-history (enteredAfter v) h n e (sym (rw (lt-ltb (length (table n (heldAt (h .views)))) 16 (rw (table-length n (heldAt (h .views))) l))))
+push-room h n v e l = of-history (enteredAfter v) h n e (sym (rw (lt-ltb (length (listOf n (heldAt (h .views)))) 16 (rw (listOf-length n (heldAt (h .views))) l))))
 
-pub push-full : (h : History) (n : ℕ) (v : View) → n ≡ min (h .len) 16 → (n < 16 → ⊥) → table 15 (heldAt (h .views)) ++ (v ∷ []) ≡ enteredAfter v (viewsIs h)
+pub push-full : (h : History) (n : ℕ) (v : View) → n ≡ min (h .len) 16 → (n < 16 → ⊥) → listOf 15 (heldAt (h .views)) ++ (v ∷ []) ≡ enteredAfter v (viewsIs h)
 unfolding enteredAfter
 push-full h n v e l =
     of-history (enteredAfter v) h n e
-    (sym (rw (le-ltb (length (table n (heldAt (h .views)))) 16 (omega (arith, table-length n (heldAt (h .views)))), take-table n 15 (heldAt (h .views)) (omega arith))))
+    (sym (rw (le-ltb (length (listOf n (heldAt (h .views)))) 16 (omega (arith, listOf-length n (heldAt (h .views)))), take-listOf n 15 (heldAt (h .views)) (omega arith))))

@@ -10,13 +10,13 @@ use native.Mathlib.Omega.{arith}
 use lib.Dec.{leb}
 use lib.ListN.{length, length-append}
 use borrow.Author.Tests.{le-leb}
-use Rattle.protocol.specs.Lists.{all}
+use Rattle.protocol.specs.Lists.{all, listOf}
 use Rattle.protocol.specs.View.{View, Ring, sameView, hasMembers, below}
 use Rattle.protocol.specs.History.{sameViews, last, top, rising, isHistory}
 use Rattle.protocol.specs.Statement.{isRising}
 use Rattle.protocol.proofs.Decided.{says-sames}
-use Rattle.views.specs.Table.{table}
-use Rattle.views.proofs.Tables.{all-append, table-length, tables-at}
+use Rattle.protocol.proofs.Numbered.{listOf-length}
+use Rattle.views.proofs.Tables.{all-append, listOf-same-at}
 use Rattle.views.proofs.Views.{passes, fails}
 
 -- a test of one view, and of two, asked of equal ones
@@ -30,14 +30,14 @@ asked p b r e f g h = sym (ap₂ p g h) ∙ sym e ∙ f
 -- ---- two lists
 
 module _ (f g : ℕ → View) where
-  pub sames-short : (m n : ℕ) → (m ≡ n → ⊥) → false ≡ sameViews (table m f) (table n g)
-  sames-short m n d = sym (fails (says-sames (table m f) (table n g)) (λ q. d (sym (table-length m f) ∙ ap length q ∙ table-length n g)))
+  pub sames-short : (m n : ℕ) → (m ≡ n → ⊥) → false ≡ sameViews (listOf m f) (listOf n g)
+  sames-short m n d = sym (fails (says-sames (listOf m f) (listOf n g)) (λ q. d (sym (listOf-length m f) ∙ ap length q ∙ listOf-length n g)))
 
-  pub sames-differ : (n p : ℕ) → p < n → (f p ≡ g p → ⊥) → false ≡ sameViews (table n f) (table n g)
-  sames-differ n p l d = sym (fails (says-sames (table n f) (table n g)) (λ q. d (tables-at n f g p l q)))
+  pub sames-differ : (n p : ℕ) → p < n → (f p ≡ g p → ⊥) → false ≡ sameViews (listOf n f) (listOf n g)
+  sames-differ n p l d = sym (fails (says-sames (listOf n f) (listOf n g)) (λ q. d (listOf-same-at n f g p l q)))
 
-  pub sames-all : (n : ℕ) → table n f ≡ table n g → true ≡ sameViews (table n f) (table n g)
-  sames-all n q = sym (passes (says-sames (table n f) (table n g)) q)
+  pub sames-all : (n : ℕ) → listOf n f ≡ listOf n g → true ≡ sameViews (listOf n f) (listOf n g)
+  sames-all n q = sym (passes (says-sames (listOf n f) (listOf n g)) q)
 
 -- ---- one view more
 
@@ -81,27 +81,27 @@ module _ (R : Ring) where
   one-empty v e = ap (λ b. (sameView v init && rising width v [] && leb (length (v ∷ [])) 16) && (b && true)) e ∙ and-false (sameView v init && rising width v [] && leb (length (v ∷ [])) 16)
 
 module _ (f : ℕ → View) where
-  table-last : (n : ℕ) (u : View) → 0 < n → last u (table n f) ≡ f (n - 1)
-  unfolding table
-  table-last zero u l = absurd (omega arith)
-  table-last (suc n) u l = last-snoc u (table n f) (f n) ∙ (let e : n ≡ suc n - 1 = omega arith in ap f e)
+  listOf-last : (n : ℕ) (u : View) → 0 < n → last u (listOf n f) ≡ f (n - 1)
+  unfolding listOf
+  listOf-last zero u l = absurd (omega arith)
+  listOf-last (suc n) u l = last-snoc u (listOf n f) (f n) ∙ (let e : n ≡ suc n - 1 = omega arith in ap f e)
 
-  pub last-none : (c : ℕ) (u : View) → c ≡ 0 → u ≡ last u (table c f)
-  unfolding last table
+  pub last-none : (c : ℕ) (u : View) → c ≡ 0 → u ≡ last u (listOf c f)
+  unfolding last listOf
   last-none c u z = rw z
 
-  pub last-some : (c : ℕ) (u : View) → (c ≡ 0 → ⊥) → f (c - 1) ≡ last u (table c f)
-  last-some c u z = sym (table-last c u (omega arith))
+  pub last-some : (c : ℕ) (u : View) → (c ≡ 0 → ⊥) → f (c - 1) ≡ last u (listOf c f)
+  last-some c u z = sym (listOf-last c u (omega arith))
 
   -- ---- rising
 
   module _ (w : ℕ) where
-    pub rising-none : (c : ℕ) → c ≡ 0 → false ≡ isRising w (table c f)
-    unfolding table
+    pub rising-none : (c : ℕ) → c ≡ 0 → false ≡ isRising w (listOf c f)
+    unfolding listOf
     rising-none c z = rw z
 
-    pub rising-one : isRising w (table 1 f) ≡ true
-    unfolding table rising
+    pub rising-one : isRising w (listOf 1 f) ≡ true
+    unfolding listOf rising
     rising-one = refl
 
     rising-join : (H : List View) (v : View) → 0 < length H → isRising w (H ++ (v ∷ [])) ≡ (isRising w H && below w (last v H) v)
@@ -109,21 +109,21 @@ module _ (f : ℕ → View) where
     rising-join [] v l = absurd (omega arith)
     rising-join (x ∷ H) v l = rising-snoc w x H v
 
-    rising-suc : (p : ℕ) → 0 < p → isRising w (table (suc p) f) ≡ (isRising w (table p f) && below w (f (p - 1)) (f p))
-    unfolding table
-    rising-suc p l = rising-join (table p f) (f p) (rw (table-length p f) l) ∙ ap (λ u. isRising w (table p f) && below w u (f p)) (table-last p (f p) l)
+    rising-suc : (p : ℕ) → 0 < p → isRising w (listOf (suc p) f) ≡ (isRising w (listOf p f) && below w (f (p - 1)) (f p))
+    unfolding listOf
+    rising-suc p l = rising-join (listOf p f) (f p) (rw (listOf-length p f) l) ∙ ap (λ u. isRising w (listOf p f) && below w u (f p)) (listOf-last p (f p) l)
 
-    rising-stop : (c p : ℕ) → 0 < p → p ≤ c → isRising w (table p f) ≡ false → isRising w (table c f) ≡ false
+    rising-stop : (c p : ℕ) → 0 < p → p ≤ c → isRising w (listOf p f) ≡ false → isRising w (listOf c f) ≡ false
     rising-stop zero p l h e = absurd (omega arith)
     rising-stop (suc c) p l h e = elim (decLt c p) [
       | yes m ↦ (let q : p ≡ suc c = omega arith in rw q at e)
       | no m ↦ rising-suc c (omega arith) ∙ ap (λ b. b && below w (f (c - 1)) (f c)) (rising-stop c p l (omega arith) e)
     ]
 
-    pub rising-breaks : (c p : ℕ) → 0 < p → p < c → below w (f (p - 1)) (f p) ≡ false → isRising w (table c f) ≡ false
-    rising-breaks c p l h e = rising-stop c (suc p) (omega arith) (omega arith) (rising-suc p l ∙ ap (λ b. isRising w (table p f) && b) e ∙ and-false (isRising w (table p f)))
+    pub rising-breaks : (c p : ℕ) → 0 < p → p < c → below w (f (p - 1)) (f p) ≡ false → isRising w (listOf c f) ≡ false
+    rising-breaks c p l h e = rising-stop c (suc p) (omega arith) (omega arith) (rising-suc p l ∙ ap (λ b. isRising w (listOf p f) && b) e ∙ and-false (isRising w (listOf p f)))
 
-    pub rising-more : (p : ℕ) → 0 < p → isRising w (table p f) ≡ true → below w (f (p - 1)) (f p) ≡ true → isRising w (table (p + 1) f) ≡ true
+    pub rising-more : (p : ℕ) → 0 < p → isRising w (listOf p f) ≡ true → below w (f (p - 1)) (f p) ≡ true → isRising w (listOf (p + 1) f) ≡ true
     rising-more p l t b = rw add-one (rising-suc p l ∙ ap₂ _&&_ t b)
 
   -- ---- a history
@@ -131,26 +131,26 @@ module _ (f : ℕ → View) where
   module _ (R : Ring) where
     open Ring R using (width, init)
 
-    pub top-none : (c : ℕ) → c ≡ 0 → init ≡ top R (table c f)
+    pub top-none : (c : ℕ) → c ≡ 0 → init ≡ top R (listOf c f)
     unfolding top
     top-none c z = last-none c init z
 
-    pub top-some : (c : ℕ) → (c ≡ 0 → ⊥) → f (c - 1) ≡ top R (table c f)
+    pub top-some : (c : ℕ) → (c ≡ 0 → ⊥) → f (c - 1) ≡ top R (listOf c f)
     unfolding top
     top-some c z = last-some c init z
 
     -- the first p views are a history
     abbrev pub historyTo : ℕ → Bool
-    historyTo p = isHistory R (table p f)
+    historyTo p = isHistory R (listOf p f)
 
     pub history-none : (c : ℕ) → c ≡ 0 → false ≡ historyTo c
-    unfolding isHistory table
+    unfolding isHistory listOf
     history-none c z = rw z
 
     history-suc : (p : ℕ) → 0 < p → p < 16 → historyTo (suc p) ≡ (historyTo p && (below width (f (p - 1)) (f p) && hasMembers width (f p)))
-    unfolding table top
-    history-suc p l h = history-snoc R (table p f) (f p) (rw (table-length p f) l) (rw (table-length p f) h)
-        ∙ ap (λ u. historyTo p && (below width u (f p) && hasMembers width (f p))) (table-last p init l)
+    unfolding listOf top
+    history-suc p l h = history-snoc R (listOf p f) (f p) (rw (listOf-length p f) l) (rw (listOf-length p f) h)
+        ∙ ap (λ u. historyTo p && (below width u (f p) && hasMembers width (f p))) (listOf-last p init l)
 
     history-stop : (c p : ℕ) → 0 < p → p ≤ c → c ≤ 16 → historyTo p ≡ false → historyTo c ≡ false
     history-stop zero p l h s e = absurd (omega arith)
@@ -162,15 +162,15 @@ module _ (f : ℕ → View) where
     -- the first view is not the initial one, or has no members
 
     pub history-first : (c : ℕ) → (c ≡ 0 → ⊥) → c ≤ 16 → sameView (f 0) init ≡ false → false ≡ historyTo c
-    unfolding isHistory table
+    unfolding isHistory listOf
     history-first c z s e = sym (history-stop c 1 (omega arith) (omega arith) s (rw e))
 
     pub history-empty : (c : ℕ) → (c ≡ 0 → ⊥) → c ≤ 16 → hasMembers width (f 0) ≡ false → false ≡ historyTo c
-    unfolding table
+    unfolding listOf
     history-empty c z s e = sym (history-stop c 1 (omega arith) (omega arith) s (one-empty R (f 0) e))
 
     pub history-one : sameView (f 0) init ≡ true → hasMembers width (f 0) ≡ true → historyTo 1 ≡ true
-    unfolding isHistory table rising all
+    unfolding isHistory listOf rising all
     history-one e m = rw (e, m)
 
     -- a view that does not follow, or has no members

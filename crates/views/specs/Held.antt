@@ -3,10 +3,10 @@
 use mathlib.Core.List.{List}
 use Prim.Native.Nat.{ℕ, _%_, min}
 use lib.ListN.{getD}
+use Rattle.protocol.specs.Lists.{listOf}
 use Rattle.protocol.specs.View.{View}
 use Rattle.views.specs.declared.View as held
 use Rattle.views.specs.declared.History.{History}
-use Rattle.views.specs.Table.{table}
 
 abbrev pub viewIs : held.View → View
 viewIs v = record { joined = v .joined % 65536; left = v .left % 65536 }
@@ -17,4 +17,4 @@ heldAt l p = viewIs (getD l p (record { joined = 0; left = 0 }))
 
 -- The first len views. A len above 16 counts as 16.
 unfoldable pub viewsIs : History → List View
-viewsIs h = table (min (h .len) 16) (heldAt (h .views))
+viewsIs h = listOf (min (h .len) 16) (heldAt (h .views))

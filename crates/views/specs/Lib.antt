@@ -2,7 +2,6 @@
 
 -- ---- what is promised
 pub mod Held
-pub mod Table
 pub mod View
 pub mod Sets
 -- ---- inside: what functions tell each other, and what loops keep

@@ -4,9 +4,9 @@ use mathlib.Core.Bool.{Bool}
 use mathlib.Core.List.{List}
 use Prim.Native.Nat.{ℕ, _+_, _*_, _/_, _%_}
 use lib.ListN.{getD}
+use Rattle.protocol.specs.Lists.{listOf}
 use Rattle.protocol.specs.View.{View, Ring}
 use Rattle.protocol.specs.Evidence.{hasQuorum}
-use Rattle.views.specs.Table.{table}
 
 -- The view of a word: 32 bits of who joined, and above them 32 of who left.
 unfoldable pub viewOf : ℕ → View
@@ -23,10 +23,10 @@ wordOf v = v .joined + v .left * 4294967296
 -- The views of the first n words, as they stand, and of the sixteen controllers alone.
 
 unfoldable pub viewsOf : List ℕ → ℕ → List View
-viewsOf a n = table n (λ i. viewOf (getD a i 0))
+viewsOf a n = listOf n (λ i. viewOf (getD a i 0))
 
 unfoldable pub viewsIn : List ℕ → ℕ → List View
-viewsIn a n = table n (λ i. viewIn (getD a i 0))
+viewsIn a n = listOf n (λ i. viewIn (getD a i 0))
 
 -- A quorum of t has q.
 unfoldable pub quorumHas : View → (ℕ → Bool) → Bool

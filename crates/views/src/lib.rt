@@ -3,11 +3,10 @@ ghost use mathlib.Core.Path.{_≡_};
 ghost use mathlib.Core.List.{[], _∷_, _++_};
 ghost use Prim.Native.Nat.{_+_, _<_, _≤_, min};
 ghost use Rattle.protocol.specs.Sets.{bit, setOf};
-ghost use Rattle.protocol.specs.Lists.{any, all};
+ghost use Rattle.protocol.specs.Lists.{any, all, listOf};
 ghost use Rattle.protocol.specs.View.{sameView, member, quorum, isView, memberCount, hasMembers, below};
 ghost use Rattle.protocol.specs.Statement.{isRising};
 ghost use Rattle.protocol.specs.Turn.{enteredAfter};
-ghost use Rattle.views.specs.Table.{table};
 ghost use Rattle.views.specs.View.{viewOf, viewIn};
 ghost use Rattle.views.specs.Held.{viewIs, heldAt, viewsIs};
 
@@ -175,7 +174,7 @@ impl History {
     // The first `at` views, and v after them.
     fn cut(self, at: usize, v: View) -> History
         requires { ⌜ at < 16 ⌝ }
-        ensures { λ r. ⌜ (viewsIs r ≡ table at (heldAt (self .views)) ++ (viewIs v ∷ [])) × (r .len ≡ at + 1) ⌝ }
+        ensures { λ r. ⌜ (viewsIs r ≡ listOf at (heldAt (self .views)) ++ (viewIs v ∷ [])) × (r .len ≡ at + 1) ⌝ }
     {
         let mut views = self.views;
         views[at] = v;

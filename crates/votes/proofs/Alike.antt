@@ -5,25 +5,26 @@ use mathlib.Core.Logic.{_⊎_, inl, inr}
 use mathlib.Core.Bool.{Bool, true, false}
 use mathlib.Core.List.{List, [], _∷_, _++_}
 use Prim.Native.Nat.{ℕ, suc, _+_, _*_, _/_, _%_, _≤_, _<_}
+use native.Mathlib.Decide.{decLt}
 use native.Mathlib.Nat.{mul-le-mul-right}
 use native.Mathlib.Omega.{arith}
 use native.Mathlib.Numerals.{add-one}
 use lib.Dec.{T, eqb}
 use lib.ListN.{length}
-use borrow.Author.Tests.{eq-eqb, ne-eqb}
+use borrow.Author.Tests.{eq-eqb, ne-eqb, le-leb, lt-leb}
 use Rattle.protocol.specs.View.{View}
 use Rattle.protocol.specs.History.{sameViews}
-use Rattle.protocol.specs.Statement.{Stmt, isKind, agreesView, agreesHistory, acks, stores}
-use Rattle.protocol.proofs.Says.{Says, says-map, says-and, says-or, says-imp, says-eqb}
+use Rattle.protocol.specs.Lists.{if_then_else_, listOf}
+use Rattle.protocol.specs.Statement.{Stmt, payloadOf, isKind, agreesView, agreesHistory, acks, stores}
+use Rattle.protocol.proofs.Says.{Says, from-true, says-map, says-and, says-or, says-imp, says-eqb}
 use Rattle.protocol.proofs.Bits.{Fits}
 use Rattle.protocol.proofs.Decided.{says-same, says-sames, says-kind}
-use Rattle.views.specs.Table.{table}
+use Rattle.protocol.proofs.Numbered.{listOf-length}
 use Rattle.views.specs.View.{viewOf}
-use Rattle.views.proofs.Tables.{table-length}
 use Rattle.views.proofs.Views.{passes, fails}
 use Rattle.pool.specs.Pool.{stmtAt}
-use Rattle.pool.proofs.Laws.{at-fits, view-fits}
-use Rattle.votes.specs.Votes.{isVote, alike}
+use Rattle.pool.proofs.Laws.{kind-small, at-fits, view-fits}
+use Rattle.votes.specs.Votes.{isVote, alike, noticeOf, tagBy}
 use Rattle.votes.specs.Tables.{IsWord}
 use Rattle.votes.specs.Keys.{keyOf, folded, weightOf, mixFrom, whatOf, sameNames, slotBy}
 
@@ -45,6 +46,16 @@ pub vote-last : (s : Stmt) (k : ℕ) → k ≡ s .kind → (k ≡ 3 → ⊥) →
 unfolding isVote isKind
 vote-last s k e a b c = rw (sym e, ne-eqb k 3 a, ne-eqb k 4 b, ne-eqb k 7 c)
 
+-- it is no report
+pub vote-plain : (s : Stmt) → isVote s ≡ true → eqb (s .kind) 5 ≡ false
+vote-plain s e = ne-eqb (s .kind) 5 (go (says-vote s .sound (from-true e)))
+  where
+    go : Vote s → s .kind ≡ 5 → ⊥
+    go (inl (inl (inl k))) q = omega arith
+    go (inl (inl (inr k))) q = omega arith
+    go (inl (inr k)) q = omega arith
+    go (inr k) q = omega arith
+
 -- ---- s says the same as the vote a
 
 pub record Alike (a s : Stmt) : Type 0 where
@@ -53,15 +64,20 @@ pub record Alike (a s : Stmt) : Type 0 where
   pub at : s .at ≡ a .at
   pub view : a .kind ≡ 3 → s .view ≡ a .view
   pub views : a .kind ≡ 4 → s .views ≡ a .views
-  pub acked : a .kind ≡ 7 → s .payload ≡ a .payload
-  pub stored : a .kind ≡ 8 → s .payload ≡ a .payload
+  pub notice : 7 ≤ a .kind → s .notice ≡ a .notice
+  pub acked : a .kind ≡ 7 → payloadOf s ≡ payloadOf a
+  pub stored : a .kind ≡ 8 → payloadOf s ≡ payloadOf a
 
 -- the same, kind by kind
+
 abbrev Case : Stmt → Stmt → ℕ → Type 0 → Type 0
 Case a s k P = (a .kind ≡ k) × (((s .kind ≡ k) × (s .at ≡ a .at)) × P)
 
+abbrev NoticeCase : Stmt → Stmt → ℕ → Type 0
+NoticeCase a s k = (a .kind ≡ k) × ((((s .kind ≡ k) × (s .at ≡ a .at)) × (s .notice ≡ a .notice)) × (payloadOf s ≡ payloadOf a))
+
 abbrev Cases : Stmt → Stmt → Type 0
-Cases a s = ((Case a s 3 (s .view ≡ a .view) ⊎ Case a s 4 (s .views ≡ a .views)) ⊎ Case a s 7 (s .payload ≡ a .payload)) ⊎ Case a s 8 (s .payload ≡ a .payload)
+Cases a s = ((Case a s 3 (s .view ≡ a .view) ⊎ Case a s 4 (s .views ≡ a .views)) ⊎ NoticeCase a s 7) ⊎ NoticeCase a s 8
 
 pub says-alike : (a s : Stmt) → Says (alike a s) (Alike a s)
 unfolding alike agreesView agreesHistory acks stores
@@ -70,20 +86,56 @@ says-alike a s =
     (says-or (says-or (says-or
     (says-and (says-kind 3 a) (says-and (says-and says-eqb says-same) says-same))
     (says-and (says-kind 4 a) (says-and (says-and says-eqb says-same) (says-sames (s .views) (a .views)))))
-    (says-and (says-kind 7 a) (says-and (says-and says-eqb says-same) says-eqb)))
-    (says-and (says-kind 8 a) (says-and (says-and says-eqb says-same) says-eqb)))
+    (says-and (says-kind 7 a) (says-and (says-and (says-and says-eqb says-same) says-eqb) says-eqb)))
+    (says-and (says-kind 8 a) (says-and (says-and (says-and says-eqb says-same) says-eqb) says-eqb)))
   where
     to : Cases a s → Alike a s
-    to (inl (inl (inl (k, ((l, e), p))))) = record { vote = inl (inl (inl k)); kind = l ∙ sym k; at = e; view = λ q. p; views = λ q. absurd (omega arith); acked = λ q. absurd (omega arith); stored = λ q. absurd (omega arith) }
-    to (inl (inl (inr (k, ((l, e), p))))) = record { vote = inl (inl (inr k)); kind = l ∙ sym k; at = e; view = λ q. absurd (omega arith); views = λ q. p; acked = λ q. absurd (omega arith); stored = λ q. absurd (omega arith) }
-    to (inl (inr (k, ((l, e), p)))) = record { vote = inl (inr k); kind = l ∙ sym k; at = e; view = λ q. absurd (omega arith); views = λ q. absurd (omega arith); acked = λ q. p; stored = λ q. absurd (omega arith) }
-    to (inr (k, ((l, e), p))) = record { vote = inr k; kind = l ∙ sym k; at = e; view = λ q. absurd (omega arith); views = λ q. absurd (omega arith); acked = λ q. absurd (omega arith); stored = λ q. p }
+    to (inl (inl (inl (k, ((l, e), p))))) = record {
+      vote = inl (inl (inl k));
+      kind = l ∙ sym k;
+      at = e;
+      view = λ q. p;
+      views = λ q. absurd (omega arith);
+      notice = λ q. absurd (omega arith);
+      acked = λ q. absurd (omega arith);
+      stored = λ q. absurd (omega arith);
+    }
+    to (inl (inl (inr (k, ((l, e), p))))) = record {
+      vote = inl (inl (inr k));
+      kind = l ∙ sym k;
+      at = e;
+      view = λ q. absurd (omega arith);
+      views = λ q. p;
+      notice = λ q. absurd (omega arith);
+      acked = λ q. absurd (omega arith);
+      stored = λ q. absurd (omega arith);
+    }
+    to (inl (inr (k, (((l, e), n), p)))) = record {
+      vote = inl (inr k);
+      kind = l ∙ sym k;
+      at = e;
+      view = λ q. absurd (omega arith);
+      views = λ q. absurd (omega arith);
+      notice = λ q. n;
+      acked = λ q. p;
+      stored = λ q. absurd (omega arith);
+    }
+    to (inr (k, (((l, e), n), p))) = record {
+      vote = inr k;
+      kind = l ∙ sym k;
+      at = e;
+      view = λ q. absurd (omega arith);
+      views = λ q. absurd (omega arith);
+      notice = λ q. n;
+      acked = λ q. absurd (omega arith);
+      stored = λ q. p;
+    }
 
     from : Alike a s → Vote a → Cases a s
     from al (inl (inl (inl k))) = inl (inl (inl (k, ((al .kind ∙ k, al .at), al .view k))))
     from al (inl (inl (inr k))) = inl (inl (inr (k, ((al .kind ∙ k, al .at), al .views k))))
-    from al (inl (inr k)) = inl (inr (k, ((al .kind ∙ k, al .at), al .acked k)))
-    from al (inr k) = inr (k, ((al .kind ∙ k, al .at), al .stored k))
+    from al (inl (inr k)) = inl (inr (k, (((al .kind ∙ k, al .at), al .notice (omega arith)), al .acked k)))
+    from al (inr k) = inr (k, (((al .kind ∙ k, al .at), al .notice (omega arith)), al .stored k))
 
 voted : (a s : Stmt) → s .kind ≡ a .kind → Vote a → Vote s
 voted a s e (inl (inl (inl k))) = inl (inl (inl (e ∙ k)))
@@ -95,7 +147,7 @@ pub alike-vote : {a s : Stmt} → Alike a s → Vote s
 alike-vote {a} {s} al = voted a s (al .kind) (al .vote)
 
 pub alike-self : (a : Stmt) → Vote a → Alike a a
-alike-self a v = record { vote = v; kind = refl; at = refl; view = λ k. refl; views = λ k. refl; acked = λ k. refl; stored = λ k. refl }
+alike-self a v = record { vote = v; kind = refl; at = refl; view = λ k. refl; views = λ k. refl; notice = λ k. refl; acked = λ k. refl; stored = λ k. refl }
 
 -- two statements that are like a third are alike
 pub alike-both : {a s x : Stmt} → Alike a s → Alike a x → Alike s x
@@ -105,6 +157,7 @@ alike-both p q = record {
   at = q .at ∙ sym (p .at);
   view = λ k. q .view (sym (p .kind) ∙ k) ∙ sym (p .view (sym (p .kind) ∙ k));
   views = λ k. q .views (sym (p .kind) ∙ k) ∙ sym (p .views (sym (p .kind) ∙ k));
+  notice = λ l. q .notice (omega (arith, p .kind)) ∙ sym (p .notice (omega (arith, p .kind)));
   acked = λ k. q .acked (sym (p .kind) ∙ k) ∙ sym (p .acked (sym (p .kind) ∙ k));
   stored = λ k. q .stored (sym (p .kind) ∙ k) ∙ sym (p .stored (sym (p .kind) ∙ k));
 }
@@ -134,7 +187,7 @@ pub what-history : (s : Stmt) → s .kind ≡ 4 → whatOf s ≡ mixFrom 0 0 (s 
 unfolding whatOf
 what-history s e = rw (ne-eqb (s .kind) 3 (λ q. omega arith), eq-eqb (s .kind) 4 e)
 
-pub what-payload : (s : Stmt) → (s .kind ≡ 3 → ⊥) → (s .kind ≡ 4 → ⊥) → whatOf s ≡ s .payload
+pub what-payload : (s : Stmt) → (s .kind ≡ 3 → ⊥) → (s .kind ≡ 4 → ⊥) → whatOf s ≡ payloadOf s
 unfolding whatOf
 what-payload s d e = rw (ne-eqb (s .kind) 3 d, ne-eqb (s .kind) 4 e)
 
@@ -144,26 +197,78 @@ what-same a s al (inl (inl (inr k))) = what-history a k ∙ ap (mixFrom 0 0) (sy
 what-same a s al (inl (inr k)) = what-payload a (λ q. omega arith) (λ q. omega arith) ∙ sym (al .acked k) ∙ sym (what-payload s (λ q. omega (arith, al .kind)) (λ q. omega (arith, al .kind)))
 what-same a s al (inr k) = what-payload a (λ q. omega arith) (λ q. omega arith) ∙ sym (al .stored k) ∙ sym (what-payload s (λ q. omega (arith, al .kind)) (λ q. omega (arith, al .kind)))
 
--- its views are those of words
+-- ---- the tag of a vote
+
+module _ (s : Stmt) where
+  notice-some : 7 ≤ s .kind → noticeOf s ≡ s .notice
+  unfolding noticeOf
+  notice-some l = ap (λ b. if b then s .notice else 0) (le-leb 7 (s .kind) l)
+
+  notice-none : s .kind < 7 → noticeOf s ≡ 0
+  unfolding noticeOf
+  notice-none l = ap (λ b. if b then s .notice else 0) (lt-leb 7 (s .kind) l)
+
+  -- one for a view or a history has its kind alone as its tag
+
+  pub tag-plain : s .kind < 7 → s .kind ≡ tagBy s
+  unfolding tagBy
+  tag-plain l = omega (arith, notice-none l)
+
+  pub tag-noticed : 7 ≤ s .kind → s .kind + s .notice * 256 ≡ tagBy s
+  unfolding tagBy
+  tag-noticed l = omega (arith, notice-some l)
+
+  -- the kind and the notice come back
+
+  pub tag-kind : s .kind < 256 → tagBy s % 256 ≡ s .kind
+  unfolding tagBy
+  tag-kind l = omega arith
+
+  pub tag-notice : s .kind < 256 → 7 ≤ s .kind → tagBy s / 256 ≡ s .notice
+  unfolding tagBy
+  tag-notice l h = omega (arith, notice-some h)
+
+  -- a tag below 7 is a kind
+  pub tag-low : (k n : ℕ) → n < 7 → k ≡ tagBy s → (s .kind ≡ n → k ≡ n) × (k ≡ n → s .kind ≡ n)
+  unfolding tagBy
+  tag-low k n l e = (λ q. e ∙ sym (tag-plain (omega arith)) ∙ q, λ q. go (decLt (s .kind) 7) q)
+    where
+      go : Dec (s .kind < 7) → k ≡ n → s .kind ≡ n
+      go (yes m) q = omega (arith, notice-none m)
+      go (no m) q = absurd (omega arith)
+
+-- votes that are alike have one tag
+tag-same : (a s : Stmt) → Alike a s → tagBy a ≡ tagBy s
+tag-same a s al = elim (decLt (a .kind) 7) [
+  | yes l ↦ sym (tag-plain a l) ∙ sym (al .kind) ∙ tag-plain s (omega (arith, al .kind))
+  | no l ↦ sym (tag-noticed a (omega arith)) ∙ ap₂ (λ k i. k + i * 256) (sym (al .kind)) (sym (al .notice (omega arith))) ∙ tag-noticed s (omega (arith, al .kind))
+]
+
+-- its views are those of words, and its kind is a byte
 pub record Narrow (s : Stmt) : Type 0 where
+  pub kind : s .kind < 256
   pub at : Fits 16 (s .at)
   pub view : Fits 16 (s .view)
 
 pub narrow : (W : List ℕ) (n : ℕ) → Narrow (stmtAt W n)
-narrow W n = record { at = at-fits W n; view = view-fits W n }
+narrow W n = record { kind = kind-small W n; at = at-fits W n; view = view-fits W n }
 
-words-alike : (a s : Stmt) → Narrow a → Narrow s → Vote a → a .kind ≡ s .kind → keyOf (a .at) ≡ keyOf (s .at) → whatOf a ≡ whatOf s → (s .kind ≡ 4 → a .views ≡ s .views) → Alike a s
-words-alike a s p q v k e f h = record {
+words-alike : (a s : Stmt) → Narrow a → Narrow s → Vote a → tagBy a ≡ tagBy s → keyOf (a .at) ≡ keyOf (s .at) → whatOf a ≡ whatOf s → (s .kind ≡ 4 → a .views ≡ s .views) → Alike a s
+words-alike a s p q v t e f h = record {
   vote = v;
   kind = sym k;
   at = word-inj (q .at) (p .at) (sym e);
   view = λ z. word-inj (q .view) (p .view) (sym (what-view s (sym k ∙ z)) ∙ sym f ∙ what-view a z);
   views = λ z. sym (h (sym k ∙ z));
+  notice = λ l. sym (tag-notice s (q .kind) (omega (arith, k))) ∙ ap (λ x. x / 256) (sym t) ∙ tag-notice a (p .kind) l;
   acked = λ z. same (λ y. omega arith) (λ y. omega arith);
   stored = λ z. same (λ y. omega arith) (λ y. omega arith);
 }
   where
-    same : (a .kind ≡ 3 → ⊥) → (a .kind ≡ 4 → ⊥) → s .payload ≡ a .payload
+    k : a .kind ≡ s .kind
+    k = sym (tag-kind a (p .kind)) ∙ ap (λ x. x % 256) t ∙ tag-kind s (q .kind)
+
+    same : (a .kind ≡ 3 → ⊥) → (a .kind ≡ 4 → ⊥) → payloadOf s ≡ payloadOf a
     same d c = sym (what-payload s (λ z. d (k ∙ z)) (λ z. c (k ∙ z))) ∙ sym f ∙ what-payload a d c
 
 says-names : (a s : Stmt) → Says (sameNames a s) (s .kind ≡ 4 → a .views ≡ s .views)
@@ -185,8 +290,8 @@ other-what a s x y e f d = fails (says-alike a s) (λ al. d (e ∙ what-same a s
 pub other-at : (a s : Stmt) (x y : ℕ) → x ≡ keyOf (a .at) → y ≡ keyOf (s .at) → (x ≡ y → ⊥) → alike a s ≡ false
 other-at a s x y e f d = fails (says-alike a s) (λ al. d (e ∙ ap keyOf (sym (al .at)) ∙ sym f))
 
-pub other-tag : (a s : Stmt) (x y : ℕ) → x ≡ a .kind → y ≡ s .kind → (x ≡ y → ⊥) → alike a s ≡ false
-other-tag a s x y e f d = fails (says-alike a s) (λ al. d (e ∙ sym (al .kind) ∙ sym f))
+pub other-tag : (a s : Stmt) (x y : ℕ) → x ≡ tagBy a → y ≡ tagBy s → (x ≡ y → ⊥) → alike a s ≡ false
+other-tag a s x y e f d = fails (says-alike a s) (λ al. d (e ∙ tag-same a s al ∙ sym f))
 
 pub other-names : (a s : Stmt) (b : Bool) → b ≡ sameNames a s → b ≡ false → alike a s ≡ false
 other-names a s b e f = fails (says-alike a s) (λ al. no-T (sym e ∙ f) (says-names a s .complete (λ k. sym (al .views (sym (al .kind) ∙ k)))))
@@ -197,11 +302,11 @@ pub record Words (a s : Stmt) (x y x′ y′ x″ y″ : ℕ) : Type 0 where
   pub at-other : y ≡ keyOf (s .at)
   pub what : x′ ≡ whatOf a
   pub what-other : y′ ≡ whatOf s
-  pub tag : x″ ≡ a .kind
-  pub tag-other : y″ ≡ s .kind
+  pub tag : x″ ≡ tagBy a
+  pub tag-other : y″ ≡ tagBy s
 
 pub other-slot : (a s : Stmt) {x y x′ y′ x″ y″ : ℕ} → Words a s x y x′ y′ x″ y″ → (slotBy x x′ x″ ≡ slotBy y y′ y″ → ⊥) → alike a s ≡ false
-other-slot a s w d = fails (says-alike a s) (λ al. d (slots (w .at ∙ ap keyOf (sym (al .at)) ∙ sym (w .at-other)) (w .what ∙ what-same a s al (al .vote) ∙ sym (w .what-other)) (w .tag ∙ sym (al .kind) ∙ sym (w .tag-other))))
+other-slot a s w d = fails (says-alike a s) (λ al. d (slots (w .at ∙ ap keyOf (sym (al .at)) ∙ sym (w .at-other)) (w .what ∙ what-same a s al (al .vote) ∙ sym (w .what-other)) (w .tag ∙ tag-same a s al ∙ sym (w .tag-other))))
   where
     slots : {x y x′ y′ x″ y″ : ℕ} → x ≡ y → x′ ≡ y′ → x″ ≡ y″ → slotBy x x′ x″ ≡ slotBy y y′ y″
     slots p q r = cc
@@ -212,8 +317,8 @@ same-words a s b p q v w e f g h t =
 
 -- ---- the loop of the mix
 
-pub mix-zero : (f : ℕ → View) (h : ℕ) → h ≡ 0 → h ≡ mixFrom 0 0 (table 0 f)
-unfolding mixFrom table
+pub mix-zero : (f : ℕ → View) (h : ℕ) → h ≡ 0 → h ≡ mixFrom 0 0 (listOf 0 f)
+unfolding mixFrom listOf
 mix-zero f h e = e
 
 mix-snoc : (p h : ℕ) (l : List View) (v : View) → mixFrom p h (l ++ (v ∷ [])) ≡ mixFrom p h l + keyOf v * weightOf (p + length l)
@@ -223,12 +328,12 @@ mix-snoc p h (u ∷ l) v =
     let e : (p + 1) + length l ≡ p + suc (length l) = omega arith in
     mix-snoc (p + 1) (h + keyOf u * weightOf p) l v ∙ ap (λ q. mixFrom (p + 1) (h + keyOf u * weightOf p) l + keyOf v * weightOf q) e
 
-place-of : (f : ℕ → View) (p : ℕ) → p ≡ 0 + length (table p f)
-place-of f p = omega (arith, table-length p f)
+place-of : (f : ℕ → View) (p : ℕ) → p ≡ 0 + length (listOf p f)
+place-of f p = omega (arith, listOf-length p f)
 
-pub mix-more : (f : ℕ → View) (p h w m : ℕ) → h ≡ mixFrom 0 0 (table p f) → IsWord w → viewOf w ≡ f p → m ≡ weightOf p → h + w * m ≡ mixFrom 0 0 (table (p + 1) f)
-unfolding table
-mix-more f p h w m e l g q = rw add-one (ap₂ _+_ e (ap₂ _*_ (word-of w (f p) l g) (q ∙ ap weightOf (place-of f p))) ∙ sym (mix-snoc 0 0 (table p f) (f p)))
+pub mix-more : (f : ℕ → View) (p h w m : ℕ) → h ≡ mixFrom 0 0 (listOf p f) → IsWord w → viewOf w ≡ f p → m ≡ weightOf p → h + w * m ≡ mixFrom 0 0 (listOf (p + 1) f)
+unfolding listOf
+mix-more f p h w m e l g q = rw add-one (ap₂ _+_ e (ap₂ _*_ (word-of w (f p) l g) (q ∙ ap weightOf (place-of f p))) ∙ sym (mix-snoc 0 0 (listOf p f) (f p)))
 
 -- what one view adds: sixteen times as much fits in a word
 pub mix-part : (w : ℕ) {v : View} (m : ℕ) → IsWord w → viewOf w ≡ v → Fits 16 v → m < 4096 → w * m < 1152921504606846976

@@ -22,7 +22,7 @@ use Rattle.tables.specs.Index.{keyAt, Empty, RowLinked, RowKeyed}
 use Rattle.tables.proofs.Chains.{chained-first, chained-same, chained-new, empty-kept}
 use Rattle.protocol.proofs.Says.{from-true}
 use Rattle.votes.specs.declared.keys.Vote.{Vote}
-use Rattle.votes.specs.Votes.{isVote, alike, entry, placeOf, tagOf, signersOf, voteAt, Groups}
+use Rattle.votes.specs.Votes.{isVote, alike, entry, placeOf, tagBy, tagOf, signersOf, voteAt, Groups}
 use Rattle.votes.specs.Keys.{keyOf, whatOf, slotBy, groupSlot, Key, Place, Sofar}
 use Rattle.votes.proofs.Alike.{Alike, says-vote, says-alike, alike-vote, alike-self, alike-both, alike-turned, no-T}
 
@@ -223,8 +223,8 @@ module _ (W ids : List ℕ) where
           voted h m (yes u) = rw (u, newG, y .place) vote
           voted h m (no u) = rw (oldG h u) (so .worded .vote h (omega arith))
 
-          tagged : (h : ℕ) → h < n + 1 → Dec (h ≡ n) → tagOf (getD (set G n x) h 0) ≡ group (set G n x) h .kind
-          tagged h m (yes u) = rw (u, newG, y .place) (y .tag ∙ key .tag ∙ ap (λ s. stmtAt W s .kind) is)
+          tagged : (h : ℕ) → h < n + 1 → Dec (h ≡ n) → tagOf (getD (set G n x) h 0) ≡ tagBy (group (set G n x) h)
+          tagged h m (yes u) = rw (u, newG, y .place) (y .tag ∙ key .tag ∙ ap (λ s. tagBy (stmtAt W s)) is)
           tagged h m (no u) = rw (oldG h u) (so .worded .tag h (omega arith))
 
           signed-at : (h : ℕ) → h < n + 1 → Dec (h ≡ n) → keyAt K″ 0 h ≡ keyOf (group (set G n x) h .at)

@@ -22,10 +22,10 @@ use Rattle.pool.specs.Pool.{recordIn}
 use Rattle.tables.specs.Index.{keyAt, numberAt, SameRows, SameKeys, Empty, RowAdded}
 use Rattle.tables.proofs.Chains.{indexed-first, indexed-kept}
 use Rattle.protocol.proofs.Says.{from-true}
-use Rattle.votes.specs.Votes.{alike, entry, placeOf, tagOf, signersOf, voteAt, GroupsIn}
+use Rattle.votes.specs.Votes.{alike, entry, placeOf, tagBy, tagOf, signersOf, voteAt, GroupsIn}
 use Rattle.votes.specs.Tables.{IsWord}
 use Rattle.votes.specs.Chosen.{choiceBy, agreementBy, isChoice, isAgreement, Picked, GroupRow, GroupRows}
-use Rattle.votes.proofs.Alike.{no-T}
+use Rattle.votes.proofs.Alike.{no-T, tag-low}
 
 -- ---- five tests in a row
 
@@ -45,13 +45,19 @@ module _ (a b c d e : Bool) where
   pub pass4 : (x : Bool) → a ≡ true → b ≡ true → c ≡ true → d ≡ true → x ≡ e → x ≡ ((((a && b) && c) && d) && e)
   pass4 x p q r s t = rw (p, q, r, s) t
 
-pub kind-is : (s : Stmt) (k n : ℕ) → k ≡ s .kind → k ≡ n → isKind n s ≡ true
-unfolding isKind
-kind-is s k n e f = eq-eqb (s .kind) n (sym e ∙ f)
+-- the kind of a vote for a view or a history, by its tag
 
-pub kind-not : (s : Stmt) (k n : ℕ) → k ≡ s .kind → (k ≡ n → ⊥) → isKind n s ≡ false
+pub kind-is : (s : Stmt) (k n : ℕ) → n < 7 → k ≡ tagBy s → k ≡ n → isKind n s ≡ true
 unfolding isKind
-kind-not s k n e d = ne-eqb (s .kind) n (λ q. d (e ∙ q))
+kind-is s k n l e f = eq-eqb (s .kind) n (tag-low s k n l e .1 f)
+
+pub kind-not : (s : Stmt) (k n : ℕ) → n < 7 → k ≡ tagBy s → (k ≡ n → ⊥) → isKind n s ≡ false
+unfolding isKind
+kind-not s k n l e d = ne-eqb (s .kind) n (λ q. d (tag-low s k n l e .0 q))
+
+other-kind : (s : Stmt) (n : ℕ) → (s .kind ≡ n → ⊥) → isKind n s ≡ false
+unfolding isKind
+other-kind s n d = ne-eqb (s .kind) n d
 
 -- a test of views in words
 
@@ -91,7 +97,7 @@ module _ (init : ℕ) (X : List Stmt) (s : Stmt) (seen : ℕ) (by : IsSet seen (
       go : Dec (s .kind ≡ 3) → choiceBy (viewOf wish) seen s ≡ isChoice (ringOfWord init) X s
       go (yes k) = ap₂ (λ w b. isKind 3 s && below 16 (s .at) (s .view) && hasMembers 16 (s .view) && within 16 (s .view) w && b) e
           (signed-as X s (s .at) seen (agreesView (s .at) (s .view)) by (λ x. alike-view s x k))
-      go (no k) = rw (kind-not s (s .kind) 3 refl k)
+      go (no k) = rw (other-kind s 3 k)
 
   pub agreement-is : (r : Bool) → r ≡ agreementBy (ringOfWord init) seen s → r ≡ isAgreement (ringOfWord init) X s
   unfolding agreementBy isAgreement
@@ -100,13 +106,13 @@ module _ (init : ℕ) (X : List Stmt) (s : Stmt) (seen : ℕ) (by : IsSet seen (
       go : Dec (s .kind ≡ 4) → agreementBy (ringOfWord init) seen s ≡ isAgreement (ringOfWord init) X s
       go (yes k) = ap (λ b. isKind 4 s && b && any (sameView (s .at)) (s .views) && not (sameView (s .at) (top (ringOfWord init) (s .views))) && isHistory (ringOfWord init) (s .views))
           (signed-as X s (s .at) seen (agreesHistory (s .at) (s .views)) by (λ x. alike-history s x k))
-      go (no k) = rw (kind-not s (s .kind) 4 refl k)
+      go (no k) = rw (other-kind s 4 k)
 
 -- ---- the group g of a record, whose first vote stands at place f
 
 module _ (W ids : List ℕ) (init : ℕ) (G : List ℕ) {n : ℕ} (groups : GroupsIn W ids G n) {g f : ℕ} (l : g < n) (at : f ≡ placeOf (getD G g 0)) where
-  pub tag-is : tagOf (getD G g 0) ≡ entry W ids f .kind
-  tag-is = groups .tag g l ∙ ap (λ z. entry W ids z .kind) (sym at)
+  pub tag-is : tagOf (getD G g 0) ≡ tagBy (entry W ids f)
+  tag-is = groups .tag g l ∙ ap (λ z. tagBy (entry W ids z)) (sym at)
 
   pub choice-of : (wish : ℕ) (r : Bool) → viewOf wish ≡ wished (ringOfWord init) (recordIn W ids) → r ≡ choiceBy (viewOf wish) (signersOf (getD G g 0)) (entry W ids f)
       → r ≡ isChoice (ringOfWord init) (recordIn W ids) (voteAt W ids G g)

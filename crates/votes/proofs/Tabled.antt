@@ -9,7 +9,7 @@ use native.Mathlib.Decide.{decLt}
 use native.Mathlib.Omega.{arith}
 use lib.Dec.{T, eqb}
 use lib.ListN.{getD}
-use Rattle.protocol.specs.Lists.{_∈_, any, all}
+use Rattle.protocol.specs.Lists.{_∈_, any, all, listOf}
 use Rattle.protocol.specs.View.{View, Ring, sameView, hasMembers, within, below, size, Below}
 use Rattle.protocol.specs.History.{last, top, isHistory, History}
 use Rattle.protocol.specs.Statement.{Stmt, isKind, agreesView, agreesHistory}
@@ -19,7 +19,6 @@ use Rattle.protocol.proofs.Says.{Says, says-map, says-unique, says-self, says-a
 use Rattle.protocol.proofs.Histories.{rises}
 use Rattle.protocol.proofs.Decided.{says-same, says-sames, says-in, says-below, says-history, says-kind, says-shown}
 use Rattle.protocol.proofs.Grounds.{Top, says-top, candidate-by, sealed-by}
-use Rattle.views.specs.Table.{table}
 use Rattle.views.specs.View.{viewOf, viewIn, ringOfWord}
 use Rattle.views.proofs.Tables.{any-suc}
 use Rattle.views.proofs.Views.{view-inj, view-whole}
@@ -34,10 +33,10 @@ use Rattle.votes.proofs.Alike.{Alike, says-vote, says-alike}
 -- ---- tests of lists by index
 
 module _ {A : Type 0} {p : A → Bool} {P : A → Type 0} (says : (a : A) → Says (p a) (P a)) (f : ℕ → A) where
-  pub says-table : (n : ℕ) → Says (any p (table n f)) ((i : ℕ) × (i < n) × P (f i))
-  unfolding table any
-  says-table zero = record { sound = λ t. absurd t; complete = λ (i, l, h). absurd (omega arith) }
-  says-table (suc n) = rw (any-suc p f n) (says-map join split (says-or (says-table n) (says (f n))))
+  pub says-listOf : (n : ℕ) → Says (any p (listOf n f)) ((i : ℕ) × (i < n) × P (f i))
+  unfolding listOf any
+  says-listOf zero = record { sound = λ t. absurd t; complete = λ (i, l, h). absurd (omega arith) }
+  says-listOf (suc n) = rw (any-suc p f n) (says-map join split (says-or (says-listOf n) (says (f n))))
     where
       join : ((i : ℕ) × (i < n) × P (f i)) ⊎ P (f n) → (i : ℕ) × (i < suc n) × P (f i)
       join (inl (i, l, h)) = (i, omega arith, h)
@@ -48,7 +47,7 @@ module _ {A : Type 0} {p : A → Bool} {P : A → Type 0} (says : (a : A) → Sa
 
 pub says-record : {p : Stmt → Bool} {P : Stmt → Type 0} → ((s : Stmt) → Says (p s) (P s)) → (W ids : List ℕ) (len : ℕ) → Says (any p (recordUpTo W ids len)) ((i : ℕ) × (i < min len 512) × P (entry W ids i))
 unfolding recordUpTo
-says-record says W ids len = says-table says (λ i. stmtAt W (getD ids i 0)) (min len 512)
+says-record says W ids len = says-listOf says (λ i. stmtAt W (getD ids i 0)) (min len 512)
 
 -- ---- the parts of a choice and of an agreement
 
@@ -131,7 +130,7 @@ module _ (W ids : List ℕ) (init : ℕ) (G : List ℕ) (n : ℕ) (groups : Grou
 
     says-given : (v : ℕ) → Says (any (gives W X init K R v) (upTo choiceCount)) (Given v)
     unfolding gives
-    says-given v = says-table (λ c. says-and says-eqb (says-self (isTop (ringOfWord init) X (choiceAt W R c .at)))) (λ i. i) choiceCount
+    says-given v = says-listOf (λ c. says-and says-eqb (says-self (isTop (ringOfWord init) X (choiceAt W R c .at)))) (λ i. i) choiceCount
 
     says-candidate : (v : View) → Says (isCandidate (ringOfWord init) X v) ((v ≡ viewOf init) ⊎ Shows v)
     unfolding candidateBy chooses
@@ -203,14 +202,14 @@ module _ (W ids : List ℕ) (init : ℕ) (G : List ℕ) (n : ℕ) (groups : Grou
 
     says-sealing : (H : List View) → Says (any (sealsAs W X init K R H) (upTo agreementCount)) (Sealing H)
     unfolding sealsAs
-    says-sealing H = says-table (λ a. says-and (says-sames (agreementAt W R a .views) H) (says-seals a)) (λ i. i) agreementCount
+    says-sealing H = says-listOf (λ a. says-and (says-sames (agreementAt W R a .views) H) (says-seals a)) (λ i. i) agreementCount
 
     abbrev Ending : ℕ → Type 0
     Ending t = (a : ℕ) × (a < agreementCount) × ((keyAt K 1 a ≡ t) × SealedAt a)
 
     says-ending : (t : ℕ) → Says (any (ends W X init K R t) (upTo agreementCount)) (Ending t)
     unfolding ends
-    says-ending t = says-table (λ a. says-and says-eqb (says-seals a)) (λ i. i) agreementCount
+    says-ending t = says-listOf (λ a. says-and says-eqb (says-seals a)) (λ i. i) agreementCount
 
     abbrev Seals : List View → Type 0
     Seals H = (T (isHistory (ringOfWord init) H) × T (all (isCandidate (ringOfWord init) X) H))

@@ -9,12 +9,12 @@ use lib.ListN.{length, getD}
 use Rattle.protocol.specs.Lists.{if_then_else_}
 use Rattle.protocol.specs.View.{View}
 use Rattle.protocol.specs.History.{sameViews}
-use Rattle.protocol.specs.Statement.{Stmt}
+use Rattle.protocol.specs.Statement.{Stmt, payloadOf}
 use Rattle.views.specs.View.{wordOf}
 use Rattle.pool.specs.Pool.{stmtAt}
 use Rattle.tables.specs.Index.{keyAt, Chained, Empty}
 use Rattle.votes.specs.declared.keys.Vote.{Vote}
-use Rattle.votes.specs.Votes.{isVote, alike, tagOf, placeOf, voteAt, Groups}
+use Rattle.votes.specs.Votes.{isVote, alike, tagBy, tagOf, placeOf, voteAt, Groups}
 
 -- The word of a view.
 unfoldable pub keyOf : View → ℕ
@@ -35,23 +35,23 @@ mixFrom p h (v ∷ l) = mixFrom (p + 1) (h + keyOf v * weightOf p) l
 
 -- What a vote is for: its view, its history or its payload.
 unfoldable pub whatOf : Stmt → ℕ
-whatOf s = if eqb (s .kind) 3 then keyOf (s .view) else if eqb (s .kind) 4 then mixFrom 0 0 (s .views) else s .payload
+whatOf s = if eqb (s .kind) 3 then keyOf (s .view) else if eqb (s .kind) 4 then mixFrom 0 0 (s .views) else payloadOf s
 
 -- Of votes with the same words, those for histories are compared.
 unfoldable pub sameNames : Stmt → Stmt → Bool
 sameNames a s = not (eqb (s .kind) 4) || sameViews (a .views) (s .views)
 
--- The words of the vote v: where it was signed, what it is for, and its kind.
+-- The words of the vote v: where it was signed, what it is for, and its tag.
 pub record Key (W : List ℕ) (v : Vote) : Type 0 where
   pub at : v .at ≡ keyOf (stmtAt W (v .number) .at)
   pub what : v .what ≡ whatOf (stmtAt W (v .number))
-  pub tag : v .tag ≡ stmtAt W (v .number) .kind
+  pub tag : v .tag ≡ tagBy (stmtAt W (v .number))
 
 -- The groups G have the words of their first votes in K, but for the tag, which is in G.
 pub record Worded (W ids K G : List ℕ) (n : ℕ) : Type 0 where
   pub place : (g : ℕ) → g < n → placeOf (getD G g 0) < 512
   pub vote : (g : ℕ) → g < n → T (isVote (voteAt W ids G g))
-  pub tag : (g : ℕ) → g < n → tagOf (getD G g 0) ≡ voteAt W ids G g .kind
+  pub tag : (g : ℕ) → g < n → tagOf (getD G g 0) ≡ tagBy (voteAt W ids G g)
   pub at : (g : ℕ) → g < n → keyAt K 0 g ≡ keyOf (voteAt W ids G g .at)
   pub what : (g : ℕ) → g < n → keyAt K 1 g ≡ whatOf (voteAt W ids G g)
 

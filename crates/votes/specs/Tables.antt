@@ -7,20 +7,19 @@ use mathlib.Core.List.{List, [], _∷_}
 use Prim.Native.Nat.{ℕ, _+_, _≤_, _<_}
 use lib.Dec.{eqb}
 use lib.ListN.{getD}
-use Rattle.protocol.specs.Lists.{_∈_, any, all}
+use Rattle.protocol.specs.Lists.{_∈_, any, all, listOf}
 use Rattle.protocol.specs.View.{View, size}
 use Rattle.protocol.specs.History.{sameViews}
 use Rattle.protocol.specs.Statement.{Stmt}
 use Rattle.protocol.specs.Evidence.{isCandidate, isSealed}
 use Rattle.protocol.specs.Grounds.{isTop}
-use Rattle.views.specs.Table.{table}
 use Rattle.views.specs.View.{viewOf, viewIn, ringOfWord}
 use Rattle.pool.specs.Pool.{stmtAt}
 use Rattle.tables.specs.Index.{keyAt, numberAt, Indexed}
 
 -- The numbers below n.
 abbrev pub upTo : ℕ → List ℕ
-upTo n = table n (λ i. i)
+upTo n = listOf n (λ i. i)
 
 -- The word of a view is less than this.
 abbrev pub IsWord : ℕ → Type 0

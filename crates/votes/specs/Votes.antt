@@ -3,10 +3,11 @@
 use mathlib.Core.Path.{_≡_}
 use mathlib.Core.Bool.{Bool, _&&_, _||_}
 use mathlib.Core.List.{List}
-use Prim.Native.Nat.{ℕ, _/_, _%_, _≤_, _<_, min}
-use lib.Dec.{T}
+use Prim.Native.Nat.{ℕ, _+_, _*_, _/_, _%_, _≤_, _<_, min}
+use lib.Dec.{T, leb}
 use lib.ListN.{getD}
-use Rattle.protocol.specs.Statement.{Stmt, isKind, agreesView, agreesHistory, acks, stores}
+use Rattle.protocol.specs.Lists.{if_then_else_}
+use Rattle.protocol.specs.Statement.{Stmt, payloadOf, isKind, agreesView, agreesHistory, acks, stores}
 use Rattle.protocol.specs.Evidence.{signs, wished}
 use Rattle.views.specs.Sets.{IsSet}
 use Rattle.views.specs.View.{viewOf, ringOfWord}
@@ -18,17 +19,25 @@ use Rattle.votes.specs.declared.Gathered.{Gathered}
 unfoldable pub isVote : Stmt → Bool
 isVote s = isKind 3 s || isKind 4 s || isKind 7 s || isKind 8 s
 
--- s says the same as the vote a: at the same view, for the same view, history or payload.
+-- s says the same as the vote a: at the same view, for the same view, history, or payload of the same notice.
 unfoldable pub alike : Stmt → Stmt → Bool
 alike a s =
     isKind 3 a && agreesView (a .at) (a .view) s || isKind 4 a && agreesHistory (a .at) (a .views) s
-    || isKind 7 a && acks (a .at) (a .payload) s || isKind 8 a && stores (a .at) (a .payload) s
+    || isKind 7 a && acks (a .at) (a .notice) (payloadOf a) s || isKind 8 a && stores (a .at) (a .notice) (payloadOf a) s
+
+-- The notice that a vote is about: that of an ack or a store. Those for views and histories are about none, whatever stands in the field.
+unfoldable pub noticeOf : Stmt → ℕ
+noticeOf s = if leb 7 (s .kind) then s .notice else 0
+
+-- The tag of a vote: its kind, and above it the notice that it is about.
+unfoldable pub tagBy : Stmt → ℕ
+tagBy s = s .kind + noticeOf s * 256
 
 -- Entry i of a record.
 abbrev pub entry : List ℕ → List ℕ → ℕ → Stmt
 entry W ids i = stmtAt W (getD ids i 0)
 
--- A group is a word: 16 bits are the place of its first vote in the record, the next 16 the tag, which is the kind of its votes, and the high 32 the set of those who signed it.
+-- A group is a word: 16 bits are the place of its first vote in the record, the next 16 the tag of its votes, and the high 32 the set of those who signed it.
 
 unfoldable pub placeOf : ℕ → ℕ
 placeOf x = x % 65536
@@ -48,7 +57,7 @@ pub record Groups (W ids : List ℕ) (len : ℕ) (G : List ℕ) (n : ℕ) : Type
   pub most : n ≤ 512
   pub place : (g : ℕ) → g < n → placeOf (getD G g 0) < min len 512
   pub vote : (g : ℕ) → g < n → T (isVote (voteAt W ids G g))
-  pub tag : (g : ℕ) → g < n → tagOf (getD G g 0) ≡ voteAt W ids G g .kind
+  pub tag : (g : ℕ) → g < n → tagOf (getD G g 0) ≡ tagBy (voteAt W ids G g)
   pub signers : (g : ℕ) → g < n → IsSet (signersOf (getD G g 0)) (signs (alike (voteAt W ids G g)) (recordUpTo W ids len))
   pub covers : (i : ℕ) → i < min len 512 → T (isVote (entry W ids i)) → (g : ℕ) × (g < n) × T (alike (voteAt W ids G g) (entry W ids i))
 

@@ -3,7 +3,7 @@ ghost use mathlib.Core.Path.{_≡_};
 ghost use Rattle.views.specs.View.{viewOf, ringOfWord};
 ghost use Rattle.pool.specs.Pool.{stmtAt, recordIn};
 ghost use Rattle.tables.specs.Index.{SameRows, SameKeys};
-ghost use Rattle.votes.specs.Votes.{tagOf, signersOf, GatheredOf};
+ghost use Rattle.votes.specs.Votes.{tagBy, tagOf, signersOf, GatheredOf};
 ghost use Rattle.votes.specs.Tables.{Tables};
 ghost use Rattle.votes.specs.Chosen.{choiceBy, agreementBy, Choices, Agreements};
 use crate::AGREEMENTS;
@@ -19,7 +19,7 @@ use tables::ROWS;
 
 // Whether the group x, whose first vote is statement s, is a choice within the wished view.
 fn is_choice(words: &[u64; POOL_WORDS], s: u16, x: u64, wish: u64) -> bool
-    requires { ⌜ tagOf x ≡ stmtAt (now words) s .kind ⌝ }
+    requires { ⌜ tagOf x ≡ tagBy (stmtAt (now words) s) ⌝ }
     ensures { λ r. ⌜ r ≡ choiceBy (viewOf wish) (signersOf x) (stmtAt (now (words .entry)) s) ⌝ }
 {
     if group::tag_of(x) != 3 {
@@ -41,7 +41,7 @@ fn is_choice(words: &[u64; POOL_WORDS], s: u16, x: u64, wish: u64) -> bool
 
 // Whether the group x, whose first vote is statement s, is an agreement.
 fn is_agreement(words: &[u64; POOL_WORDS], s: u16, x: u64, init: u64) -> bool
-    requires { ⌜ tagOf x ≡ stmtAt (now words) s .kind ⌝ }
+    requires { ⌜ tagOf x ≡ tagBy (stmtAt (now words) s) ⌝ }
     ensures { λ r. ⌜ r ≡ agreementBy (ringOfWord init) (signersOf x) (stmtAt (now (words .entry)) s) ⌝ }
 {
     if group::tag_of(x) != 4 {

@@ -1,8 +1,9 @@
 // The three words of a vote.
 ghost use mathlib.Core.Path.{_≡_};
+ghost use mathlib.Core.Bool.{true};
 ghost use Prim.Native.Nat.{_<_};
 ghost use Rattle.pool.specs.Pool.{stmtAt};
-ghost use Rattle.votes.specs.Votes.{isVote};
+ghost use Rattle.votes.specs.Votes.{isVote, tagBy};
 ghost use Rattle.votes.specs.Keys.{folded, weightOf, mixFrom, whatOf, sameNames, Key, slotBy};
 use crate::group;
 use pool::POOL_WORDS;
@@ -22,7 +23,12 @@ const FIRST_WEIGHT: u64 = 2053;
 
 const NEXT_WEIGHT: u64 = 128;
 
-// A vote by its pool number, with the word of the view at which it was signed, what it is for, and its kind.
+// The least kind of a vote that is about a notice, and where the notice stands in a tag: above the kind.
+const ACK: u64 = 7;
+
+const NOTICE: u64 = 256;
+
+// A vote by its pool number, with the word of the view at which it was signed, what it is for, and its tag.
 pub struct Vote {
     pub number: u16,
     pub at: u64,
@@ -78,6 +84,7 @@ fn mixed(words: &[u64; POOL_WORDS], n: u16) -> u64
 
 // What the vote n is for.
 fn what_of(words: &[u64; POOL_WORDS], n: u16) -> u64
+    requires { ⌜ isVote (stmtAt (now words) n) ≡ true ⌝ }
     ensures { λ r. ⌜ r ≡ whatOf (stmtAt (now (words .entry)) n) ⌝ }
 {
     let k = pool::kind(words, n);
@@ -90,15 +97,27 @@ fn what_of(words: &[u64; POOL_WORDS], n: u16) -> u64
     pool::payload(words, n)
 }
 
+// The tag of the vote n.
+fn tag_of(words: &[u64; POOL_WORDS], n: u16) -> u64
+    ensures { λ r. ⌜ (r ≡ tagBy (stmtAt (now (words .entry)) n)) × (r < 65536) ⌝ }
+{
+    let k = pool::kind(words, n);
+    if k < ACK {
+        return k;
+    }
+    k + pool::notice(words, n) * NOTICE
+}
+
 // The vote n.
 pub fn vote_of(words: &[u64; POOL_WORDS], n: u16) -> Vote
-    ensures { λ r. ⌜ (r .number ≡ n) × Key (now (words .entry)) r × (r .tag < 256) ⌝ }
+    requires { ⌜ isVote (stmtAt (now words) n) ≡ true ⌝ }
+    ensures { λ r. ⌜ (r .number ≡ n) × Key (now (words .entry)) r × (r .tag < 65536) ⌝ }
 {
     Vote {
         number: n,
         at: pool::at(words, n),
         what: what_of(words, n),
-        tag: pool::kind(words, n),
+        tag: tag_of(words, n),
     }
 }
 

@@ -3,29 +3,32 @@
 use std::hint::black_box;
 
 use compare::evidence::{lend, Lent};
-use compare::records::{breadth, depth, mixed, pool_of, Case};
+use compare::records::{breadth, depth, mixed, pool_of, prepares, reports, votes, Case};
 use pekdrav::EvidenceWords;
 use reference::Evidence;
 
 use crate::measure::{self, head, measure, row};
 
-/// Records of the first `count` statements of honest runs that fill the pool.
-fn honest(count: usize) -> Vec<Case> {
-    let pools = (0..8).filter_map(|seed| pool_of(&generate::schedule("ring-512", seed, 0)?));
+/// Records of the first `count` statements of honest runs, of a style that fills the pool.
+fn honest(style: &str, count: usize) -> Vec<Case> {
+    let pools = (0..8).filter_map(|seed| pool_of(&generate::schedule(style, seed, 0)?));
     pools.map(|case| case.first(count)).filter(|case| case.statements.len() == count).collect()
 }
 
-fn mine(cases: &[(Case, Lent)]) {
+/// The memory that is lent is kept from record to record.
+fn mine() -> impl FnMut(&[(Case, Lent)]) {
     let mut out = EvidenceWords::default();
-    for (_, lent) in cases {
-        black_box(&lent.record).evidence_into(&lent.pool, lent.ring, &mut out);
-        black_box(&out);
+    move |cases| {
+        for (_, lent) in cases {
+            black_box(&lent.record).evidence_into(&lent.pool, &lent.ring, &mut out);
+            black_box(&out);
+        }
     }
 }
 
 fn theirs(cases: &[(Case, Lent)]) {
     for (case, _) in cases {
-        black_box(Evidence::of(case.initial, case.sender, black_box(&case.statements)));
+        black_box(Evidence::of(case.initial, &case.senders, black_box(&case.statements)));
     }
 }
 
@@ -36,31 +39,45 @@ fn lent(cases: Vec<Case>) -> Vec<(Case, Lent)> {
 fn compared(name: &str, cases: Vec<Case>) {
     let lent = lent(cases);
     if !lent.is_empty() {
-        row(name, &measure(&lent, 1, mine, theirs));
+        row(name, &measure(&lent, 1, mine(), theirs));
+    }
+}
+
+/// The records of a kind.
+fn cases(kind: &str, count: usize) -> Vec<Case> {
+    match kind {
+        "honest" => honest("ring-512", count),
+        "breadth" => vec![breadth(count)],
+        "depth" => vec![depth(count)],
+        "mixed" => vec![mixed(count)],
+        "64 notices, honest" => honest("notices-64", count),
+        "64 notices, reports" => vec![reports(count)],
+        "64 notices, prepares" => vec![prepares(count, true)],
+        "64 notices, prepares of one" => vec![prepares(count, false)],
+        _ => vec![votes(count)],
     }
 }
 
 /// Does the work of one side on a record, as `honest, 64`.
 pub fn repeat(record: &str, side: &str, rounds: usize) {
-    let (kind, count) = record.split_once(", ").unwrap_or((record, "0"));
+    let (kind, count) = record.rsplit_once(", ").unwrap_or((record, "0"));
     let count = count.parse().unwrap_or(0);
-    let cases = match kind {
-        "honest" => honest(count),
-        "breadth" => vec![breadth(count)],
-        "depth" => vec![depth(count)],
-        _ => vec![mixed(count)],
-    };
+    let cases = cases(kind, count);
     // One record, so that a round is a record.
     let lent = lent(cases.into_iter().take(1).collect());
-    measure::repeat(rounds, side, &lent, mine, theirs);
+    measure::repeat(rounds, side, &lent, mine(), theirs);
 }
 
 pub fn print() {
     head("All that a record shows", "record");
     for count in [64, 256, 512] {
-        compared(&format!("honest, {count} statements"), honest(count));
-        compared(&format!("breadth, {count}"), vec![breadth(count)]);
-        compared(&format!("depth, {count}"), vec![depth(count)]);
-        compared(&format!("mixed, {count}"), vec![mixed(count)]);
+        compared(&format!("honest, {count} statements"), cases("honest", count));
+        for kind in ["breadth", "depth", "mixed"] {
+            compared(&format!("{kind}, {count}"), cases(kind, count));
+        }
+    }
+    for kind in ["honest", "votes", "reports", "prepares", "prepares of one"] {
+        let name = format!("64 notices, {kind}");
+        compared(&format!("{name}, 512"), cases(&name, 512));
     }
 }

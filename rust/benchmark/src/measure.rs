@@ -49,9 +49,14 @@ pub fn measure_in<T>(rounds: usize, all: &[T], share: usize, mut mine: impl FnMu
 }
 
 /// Does the work of one side on all pieces again and again, for a tool that counts its instructions.
-pub fn repeat<T>(rounds: usize, side: &str, all: &[T], mine: fn(&[T]), theirs: fn(&[T])) {
-    let work = if side == "mine" { mine } else { theirs };
-    (0..rounds).for_each(|_| work(all));
+pub fn repeat<T>(rounds: usize, side: &str, all: &[T], mut mine: impl FnMut(&[T]), mut theirs: impl FnMut(&[T])) {
+    for _ in 0..rounds {
+        if side == "mine" {
+            mine(all);
+        } else {
+            theirs(all);
+        }
+    }
 }
 
 pub fn head(work: &str, piece: &str) {

@@ -18,9 +18,9 @@ fn statements() -> Vec<Statement> {
     let body = |rng: &mut Rng| {
         let (at, payload) = (at(rng.below(8)), rng.draw());
         if rng.chance(50) {
-            Body::Ack { at, payload }
+            Body::Ack { at, notice: 0, payload }
         } else {
-            Body::Store { at, payload }
+            Body::Store { at, notice: 0, payload }
         }
     };
     (0..STATEMENTS).map(|_| Statement::new(rng.below(16) as u8, body(&mut rng))).collect()
@@ -29,7 +29,7 @@ fn statements() -> Vec<Statement> {
 fn pool(statements: &[Statement]) -> Pool {
     let mut pool = Pool::new();
     for (place, statement) in (0..).zip(statements) {
-        assert_eq!(pool.append(&statement.write()), Ok(place), "a statement is in the pool twice");
+        assert_eq!(pool.append(&statement.write(), 1), Ok(place), "a statement is in the pool twice");
     }
     pool
 }

@@ -2,7 +2,7 @@
 
 use std::hint::black_box;
 
-use compare::records::{breadth, depth, mixed, Case};
+use compare::records::{breadth, depth, mixed, prepares, votes, Case};
 use pekdrav::schedule::{rows_into, ROWS_MAX};
 use reference::bench::SCHEDULE_LIMIT;
 
@@ -36,7 +36,7 @@ fn compared(name: &str, schedules: &[Vec<u8>]) {
 
 /// A setup, and then one line as often as there is room for it.
 fn repeated(line: &[u8]) -> Vec<u8> {
-    let setup = b"setup,0001,0,0000\n";
+    let setup = b"setup,0001,1,0,0000\n";
     let room = (SCHEDULE_LIMIT - setup.len()) / line.len();
     [&setup[..], &line.repeat(room)].concat()
 }
@@ -47,9 +47,10 @@ fn longest(style: &str) -> Vec<u8> {
     made.max_by_key(|schedule| lines(schedule)).unwrap_or_default()
 }
 
-/// The statements of a record as lies, and then turns over all of them.
+/// The statements of a record as lies, as many as there is room for, and then turns over all of them.
 fn lied(case: &Case) -> Vec<u8> {
-    let mut schedule = b"setup,0001,0,ffff\n".to_vec();
+    let senders: String = case.senders.iter().map(|sender| format!("{sender},")).collect();
+    let mut schedule = format!("setup,{:04x},{},{senders}ffff\n", case.initial.joined(), case.senders.len()).into_bytes();
     for statement in &case.statements {
         let mut line = b"lie,".to_vec();
         statement.write_into(&mut line);
@@ -70,10 +71,16 @@ pub fn print() {
     compared("`turn,0`", &[repeated(b"turn,0\n")]);
     compared("`join,0`, refused", &[repeated(b"join,0\n")]);
     compared("`all,0`", &[repeated(b"all,0\n")]);
-    compared("honest, the longest", &[longest("honest")]);
+    compared("honest, the longest", &[longest("honest-1")]);
     compared("honest until the pool is full", &[longest("ring-512")]);
-    compared("liars, the longest", &[longest("liars")]);
+    compared("liars, the longest", &[longest("liars-1")]);
     for (name, case) in [("breadth", breadth(512)), ("depth", depth(512)), ("mixed", mixed(512))] {
         compared(&format!("{name}, as lies and then turns"), &[lied(&case)]);
+    }
+    compared("64 notices, honest, the longest", &[longest("honest-64")]);
+    compared("64 notices, honest until the pool is full", &[longest("notices-64")]);
+    compared("64 notices, liars, the longest", &[longest("liars-64")]);
+    for (name, case) in [("votes", votes(512)), ("prepares", prepares(512, true))] {
+        compared(&format!("64 notices, {name}, as lies and then turns"), &[lied(&case)]);
     }
 }

@@ -1,16 +1,21 @@
-//! Turns of honest runs in rings of several sizes, while the records grow to 512 statements.
+//! Turns of honest runs in rings of several sizes, while the records grow to 512 statements, and turns over the worst records.
 
+use std::hint::black_box;
 use std::time::Instant;
 
+use compare::records::{prepares, reports, votes, Case, WAITING};
 use pekdrav::{Controller, Pool};
 use reference::{Answer, Body, Record, Statement};
 
-use crate::measure::{head, median, row, Times};
+use crate::measure::{head, measure_in, median, row, Times};
 
 const RUNS: usize = 15;
 
 /// Who is in no ring here: its prepares decide nothing, and fill the records of small rings.
 const OUTSIDER: u8 = 15;
+
+/// Rounds of turns over a worst record, each of which takes a good part of a millisecond.
+const ROUNDS: usize = 200;
 
 /// The same controller twice, and how many of the signed statements it was given.
 struct Seat {
@@ -36,16 +41,23 @@ fn timed<T>(work: impl FnOnce() -> T) -> (T, f64) {
     (done, from.elapsed().as_nanos() as f64)
 }
 
+impl Seat {
+    /// A controller in a ring of that many notices of sender 0. The memory of the pool is kept from run to run.
+    fn new(number: u8, members: u16, notices: usize, mut pool: Pool) -> Seat {
+        pool.clear();
+        let mut seat = Seat { mine: Controller::new(), pool, theirs: reference::Controller::new(number), heard: 0 };
+        let senders = vec![0; notices];
+        seat.mine.setup(number, members, &senders);
+        seat.theirs.setup(members, &senders);
+        seat
+    }
+}
+
 impl Ring {
-    fn new(size: u8) -> Ring {
-        let members = (1u16 << (size / 2)) - 1;
-        let seat = |number| {
-            let mut seat = Seat { mine: Controller::new(), pool: Pool::new(), theirs: reference::Controller::new(number), heard: 0 };
-            seat.mine.setup(number, members, 0);
-            seat.theirs.setup(members, 0);
-            seat
-        };
-        Ring { seats: (0..size).map(seat).collect(), sent: Vec::new(), mine: 0.0, theirs: 0.0, turns: 0 }
+    fn new(notices: usize, pools: Vec<Pool>) -> Ring {
+        let members = (1u16 << (pools.len() / 2)) - 1;
+        let seat = |(number, pool)| Seat::new(number, members, notices, pool);
+        Ring { seats: (0..).zip(pools).map(seat).collect(), sent: Vec::new(), mine: 0.0, theirs: 0.0, turns: 0 }
     }
 
     fn sign(&mut self, statement: Statement) {
@@ -87,7 +99,7 @@ impl Ring {
                     self.sign(statement);
                     signed = true;
                 }
-                Answer::Entered(_) | Answer::Delivered(_) => {}
+                Answer::Entered(_) | Answer::Delivered { .. } => {}
                 _ => return signed,
             }
         }
@@ -97,11 +109,14 @@ impl Ring {
         while (0..self.seats.len()).fold(false, |any, k| self.advance(k) | any) {}
     }
 
-    /// A notice is sent, the second half joins one by one, all but the first leave one by one.
+    /// The notices are sent, the second half joins one by one, all but the first leave one by one.
     fn live(&mut self, noise: u64) {
         let size = self.seats.len();
-        self.seats[0].mine.send(7);
-        self.seats[0].theirs.send(7);
+        let sender = &mut self.seats[0];
+        for notice in 0..sender.theirs.groups() as u8 {
+            sender.mine.send(notice, 7);
+            sender.theirs.send(notice, 7);
+        }
         self.settle();
         for event in 0..size / 2 + size - 1 {
             let (k, joins) = if event < size / 2 { (size / 2 + event, true) } else { (event - size / 2 + 1, false) };
@@ -113,36 +128,79 @@ impl Ring {
             };
             self.settle();
             for place in 0..noise {
-                self.sign(Statement::new(OUTSIDER, Body::Prepare { payload: noise * event as u64 + place }));
+                self.sign(Statement::new(OUTSIDER, Body::Prepare { notice: 0, payload: noise * event as u64 + place }));
                 self.settle();
             }
         }
     }
 }
 
-/// The medians over several runs; they are alike, so that only the noise differs.
-fn compared(size: u8, noise: u64) -> (Times, Ring) {
-    let runs: Vec<Ring> = (0..RUNS)
+/// What a run came to.
+struct Lived {
+    mine: f64,
+    theirs: f64,
+    turns: usize,
+    longest: usize,
+}
+
+/// One run, and the pools for the next.
+fn lived(notices: usize, noise: u64, pools: Vec<Pool>) -> (Lived, Vec<Pool>) {
+    let mut ring = Ring::new(notices, pools);
+    ring.live(noise);
+    let longest = ring.seats.iter().map(|seat| seat.mine.record().len()).max().unwrap_or(0);
+    let lived = Lived { mine: ring.mine, theirs: ring.theirs, turns: ring.turns, longest };
+    (lived, ring.seats.into_iter().map(|seat| seat.pool).collect())
+}
+
+/// Prints the medians over several runs; they are alike, so that only the noise differs.
+fn compared(size: u8, notices: usize, noise: u64) {
+    let mut pools: Vec<Pool> = (0..size).map(|_| Pool::new()).collect();
+    let runs: Vec<Lived> = (0..RUNS)
         .map(|_| {
-            let mut ring = Ring::new(size);
-            ring.live(noise);
-            ring
+            let (run, kept) = lived(notices, noise, std::mem::take(&mut pools));
+            pools = kept;
+            run
         })
         .collect();
-    let each = |part: fn(&Ring) -> f64| median(runs.iter().map(part).collect());
+    let each = |part: fn(&Lived) -> f64| median(runs.iter().map(part).collect());
     let times = Times {
         mine: each(|run| run.mine / run.turns as f64),
         theirs: each(|run| run.theirs / run.turns as f64),
         ratio: each(|run| run.mine / run.theirs),
     };
-    (times, runs.into_iter().next().unwrap_or_else(|| Ring::new(size)))
+    let Lived { turns, longest, .. } = runs[0];
+    let prefix = if notices == 1 { String::new() } else { format!("{notices} notices, ") };
+    row(&format!("{prefix}{size} controllers, records to {longest}, {turns} turns"), &times);
+}
+
+/// Turns of a controller that waits, over a record of the worst that liars can write, once there is nothing to do any more.
+fn waited(name: &str, case: &Case) {
+    let mut seat = Seat::new(WAITING, case.initial.joined(), case.senders.len(), Pool::new());
+    for statement in &case.statements {
+        seat.mine.add(&mut seat.pool, &statement.write());
+        seat.theirs.add(statement);
+    }
+    let Seat { mut mine, mut pool, mut theirs, .. } = seat;
+    while !matches!((mine.turn(&mut pool), theirs.turn()), (pekdrav::Answer::Quiet, Answer::Quiet)) {}
+    let mine = |_: &[()]| {
+        black_box(mine.turn(&mut pool));
+    };
+    let theirs = |_: &[()]| {
+        black_box(theirs.turn());
+    };
+    let times = measure_in(ROUNDS, &[()], 1, mine, theirs);
+    row(&format!("64 notices, {name}, {} statements", case.statements.len()), &times);
 }
 
 pub fn print() {
     head("Turns of honest runs", "turn");
-    for (size, noise) in [(4, 100), (8, 30), (16, 0)] {
-        let (times, run) = compared(size, noise);
-        let longest = run.seats.iter().map(|seat| seat.mine.record().len()).max().unwrap_or(0);
-        row(&format!("{size} controllers, records to {longest}, {} turns", run.turns), &times);
+    for (size, notices, noise) in [(4, 1, 100), (8, 1, 30), (16, 1, 0), (4, 64, 20)] {
+        compared(size, notices, noise);
     }
+    println!();
+    head("Turns over the worst records", "turn");
+    waited("reports that are bound and keep all", &reports(512));
+    waited("prepares and reports bound to them", &prepares(512, true));
+    waited("prepares of one notice and reports bound to them", &prepares(512, false));
+    waited("votes", &votes(512));
 }

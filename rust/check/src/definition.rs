@@ -5,11 +5,12 @@
 use std::cell::{OnceCell, RefCell};
 use std::collections::HashMap;
 
-use reference::{Binding, Body, History, Report, Set, Statement, View};
+use reference::{Binding, Body, History, Report, Set, Statement, Told, View};
 
 pub struct Definition<'a> {
     initial: View,
-    sender: u8,
+    /// By the number of the notice.
+    senders: &'a [u8],
     statements: &'a [Statement],
     candidates: RefCell<HashMap<View, bool>>,
     sealed: RefCell<HashMap<History, bool>>,
@@ -19,10 +20,10 @@ pub struct Definition<'a> {
 }
 
 impl<'a> Definition<'a> {
-    pub fn new(initial: View, sender: u8, statements: &'a [Statement]) -> Definition<'a> {
+    pub fn new(initial: View, senders: &'a [u8], statements: &'a [Statement]) -> Definition<'a> {
         Definition {
             initial,
-            sender,
+            senders,
             statements,
             candidates: RefCell::default(),
             sealed: RefCell::default(),
@@ -119,51 +120,73 @@ impl<'a> Definition<'a> {
         distinct(std::iter::once(self.initial).chain(chosen))
     }
 
-    fn prepared(&self, payload: u64) -> bool {
-        self.statements.contains(&Statement::new(self.sender, Body::Prepare { payload }))
+    /// The payloads that the notice's sender prepared, each once.
+    fn prepares(&self, notice: u8) -> Vec<u64> {
+        let Some(&sender) = self.senders.get(usize::from(notice)) else {
+            return Vec::new();
+        };
+        distinct(self.statements.iter().filter_map(|statement| match statement.body {
+            Body::Prepare { notice: mine, payload } if mine == notice && statement.origin == sender => Some(payload),
+            _ => None,
+        }))
     }
 
-    pub fn has_certificate(&self, payload: u64) -> bool {
-        let acked = |top: &View| self.quorum_signed(*top, |body| *body == Body::Ack { at: *top, payload });
-        self.prepared(payload) && self.tops().iter().any(acked)
+    fn prepared(&self, notice: u8, payload: u64) -> bool {
+        let prepare = |&sender: &u8| self.statements.contains(&Statement::new(sender, Body::Prepare { notice, payload }));
+        self.senders.get(usize::from(notice)).is_some_and(prepare)
     }
 
-    /// All payloads that have a certificate.
-    pub fn certificates(&self) -> Vec<u64> {
+    pub fn has_certificate(&self, notice: u8, payload: u64) -> bool {
+        let acked = |top: &View| self.quorum_signed(*top, |body| *body == Body::Ack { at: *top, notice, payload });
+        self.prepared(notice, payload) && self.tops().iter().any(acked)
+    }
+
+    /// All payloads of the notice that have a certificate.
+    pub fn certificates(&self, notice: u8) -> Vec<u64> {
         let acked = self.statements.iter().filter_map(|statement| match statement.body {
-            Body::Ack { payload, .. } => Some(payload),
+            Body::Ack { notice: mine, payload, .. } if mine == notice => Some(payload),
             _ => None,
         });
-        distinct(acked).into_iter().filter(|&payload| self.has_certificate(payload)).collect()
+        distinct(acked).into_iter().filter(|&payload| self.has_certificate(notice, payload)).collect()
     }
 
-    /// The sealed tops with the payloads that a quorum of each stored at it.
-    pub fn stores(&self) -> Vec<(View, u64)> {
+    /// The sealed tops with the notices and payloads that a quorum of each stored at it.
+    pub fn stores(&self) -> Vec<Store> {
         let tops = self.tops();
         let stores = self.statements.iter().filter_map(|statement| match statement.body {
-            Body::Store { at, payload } if tops.contains(&at) => Some((at, payload)),
+            Body::Store { at, notice, payload } if tops.contains(&at) => Some(Store { top: at, notice, payload }),
             _ => None,
         });
-        let by_quorum = |&(at, payload): &(View, u64)| self.quorum_signed(at, |body| *body == Body::Store { at, payload });
+        let by_quorum =
+            |&Store { top, notice, payload }: &Store| self.quorum_signed(top, |body| *body == Body::Store { at: top, notice, payload });
         distinct(stores).into_iter().filter(by_quorum).collect()
     }
 
-    pub fn counts(&self, origin: u8, report: &Report) -> bool {
-        let prepares = distinct(self.statements.iter().filter_map(|statement| match statement.body {
-            Body::Prepare { payload } if statement.origin == self.sender => Some(payload),
-            _ => None,
-        }));
-        let grounded = match report.binding {
+    /// Whether what a report tells of the notice has its grounds.
+    fn counts_for(&self, notice: u8, told: &Told) -> bool {
+        let bound = match told.binding {
             Binding::Unbound => true,
-            Binding::Bound(payload) => prepares.contains(&payload),
-            Binding::Barred => prepares.len() >= 2,
+            Binding::Bound(payload) => self.prepared(notice, payload),
+            Binding::Barred => self.prepares(notice).len() >= 2,
         };
-        grounded
-            && report.at.has_member(origin)
+        bound && told.kept.is_none_or(|payload| self.has_certificate(notice, payload))
+    }
+
+    pub fn counts(&self, origin: u8, report: &Report) -> bool {
+        report.at.has_member(origin)
             && report.view.within(self.wished())
             && report.history.views().iter().all(|&view| self.is_candidate(view))
-            && report.kept.is_none_or(|payload| self.has_certificate(payload))
+            && report.told.len() == self.senders.len()
+            && (0..).zip(&*report.told).all(|(notice, told)| self.counts_for(notice, told))
     }
+}
+
+/// What a quorum of a sealed top stored at it.
+#[derive(Clone, Copy, PartialEq, Eq, PartialOrd, Ord, Debug)]
+pub struct Store {
+    pub top: View,
+    pub notice: u8,
+    pub payload: u64,
 }
 
 fn distinct<T: PartialEq>(items: impl IntoIterator<Item = T>) -> Vec<T> {

@@ -3,32 +3,35 @@
 use reference::controller::Ring;
 use reference::{History, View};
 
-use crate::definition::Definition;
+use crate::definition::{Definition, Store};
 use crate::run::{Deed, Event, Run};
 
 /// A way in which a run fails demand 3.
 #[derive(Clone, Copy, PartialEq, Eq, Debug)]
 pub enum Breach {
-    /// Two deliveries differ.
-    TwoPayloads(u64, u64),
-    /// The controller delivered more than once.
-    DeliveredTwice(u8),
-    /// A delivery that the rule-following sender had not prepared.
-    NotPrepared(u8, u64),
+    /// Two deliveries of one notice differ.
+    TwoPayloads { notice: u8, payloads: (u64, u64) },
+    /// The controller delivered the notice more than once.
+    DeliveredTwice { controller: u8, notice: u8 },
+    /// A delivery that the notice's rule-following sender had not prepared.
+    NotPrepared { controller: u8, notice: u8, payload: u64 },
+    /// A delivery of a notice that the setup lacks.
+    NoSuchNotice { controller: u8, notice: u8 },
     /// Two entered views that are not comparable.
     Incomparable(View, View),
     /// The controller entered the view without a certificate for what a quorum of a smaller top stored.
-    NotKept(u8, View, u64),
+    NotKept { controller: u8, view: View, store: Store },
 }
 
 impl Breach {
     pub fn kind(&self) -> &'static str {
         match self {
-            Breach::TwoPayloads(..) => "two payloads",
-            Breach::DeliveredTwice(_) => "delivered twice",
-            Breach::NotPrepared(..) => "not prepared",
+            Breach::TwoPayloads { .. } => "two payloads",
+            Breach::DeliveredTwice { .. } => "delivered twice",
+            Breach::NotPrepared { .. } => "not prepared",
+            Breach::NoSuchNotice { .. } => "no such notice",
             Breach::Incomparable(..) => "incomparable",
-            Breach::NotKept(..) => "not kept",
+            Breach::NotKept { .. } => "not kept",
         }
     }
 }
@@ -43,6 +46,8 @@ pub struct Depth {
     pub deliveries: usize,
     /// Deliveries by a rule-follower that had entered a later view than the initial one.
     pub late_deliveries: usize,
+    /// The notices that somebody delivered.
+    pub notices: usize,
 }
 
 #[derive(Clone, Debug)]
@@ -51,7 +56,7 @@ pub struct Verdict {
     pub within_premises: bool,
     pub breaches: Vec<Breach>,
     /// Whether the run's statements have two incomparable candidates, two sealed histories neither of which holds
-    /// the other, or two certificates. Demand 3 does not speak of this, but the argument for it rules it out.
+    /// the other, or two certificates of one notice. Demand 3 does not speak of this, but the argument for it rules it out.
     pub contradiction: bool,
     pub depth: Depth,
 }
@@ -65,39 +70,58 @@ impl Verdict {
 
 /// Judges a run; one without setup has nothing in it and keeps every promise.
 pub fn judge(run: &Run) -> Verdict {
-    let Some(ring) = run.ring else {
+    let Some(ring) = &run.ring else {
         return Verdict { within_premises: true, breaches: Vec::new(), contradiction: false, depth: Depth::default() };
     };
-    let shown = Definition::new(ring.initial, ring.sender, &run.statements);
+    let shown = Definition::new(ring.initial, &ring.senders, &run.statements);
     let tops = shown.tops();
     let bears = |top: &View| (top.members() & run.faulty).count_ones() <= (top.members().count_ones() - 1) / 3;
     let mut breaches = Vec::new();
-    breaches.extend(two_payloads(run));
-    breaches.extend(delivered_twice(run));
-    breaches.extend(not_prepared(run, ring));
+    for notice in delivered_notices(run) {
+        breaches.extend(of_notice(run, ring, notice));
+    }
     breaches.extend(incomparable(run, ring));
     breaches.extend(not_kept(run, ring, &shown));
-    Verdict { within_premises: tops.iter().all(bears), breaches, contradiction: contradiction(&shown), depth: depth(run, ring, tops.len()) }
+    let contradiction = contradiction(&shown, ring.senders.len());
+    Verdict { within_premises: tops.iter().all(bears), breaches, contradiction, depth: depth(run, ring, tops.len()) }
 }
 
-fn contradiction(shown: &Definition) -> bool {
+fn contradiction(shown: &Definition, notices: usize) -> bool {
     let candidates = shown.all_candidates();
     let sealed = shown.sealed_histories();
     let apart = |one: &View| candidates.iter().any(|other| !one.comparable(*other));
     let forked = |one: &History| sealed.iter().any(|other| !one.holds(other) && !other.holds(one));
-    candidates.iter().any(apart) || sealed.iter().any(forked) || shown.certificates().len() > 1
+    let torn = |notice: usize| shown.certificates(notice as u8).len() > 1;
+    candidates.iter().any(apart) || sealed.iter().any(forked) || (0..notices).any(torn)
 }
 
-fn deliveries(run: &Run) -> impl Iterator<Item = (usize, u8, u64)> + '_ {
+/// A delivery by a rule-follower, and its place in the list of events.
+#[derive(Clone, Copy)]
+struct Delivery {
+    place: usize,
+    controller: u8,
+    notice: u8,
+    payload: u64,
+}
+
+fn deliveries(run: &Run) -> impl Iterator<Item = Delivery> + '_ {
     let followed = run.events.iter().enumerate().filter(|(_, event)| run.is_follower(event.controller));
     followed.filter_map(|(place, event)| match event.deed {
-        Deed::Delivered(payload) => Some((place, event.controller, payload)),
+        Deed::Delivered { notice, payload } => Some(Delivery { place, controller: event.controller, notice, payload }),
         _ => None,
     })
 }
 
+/// The notices that were delivered, each once.
+fn delivered_notices(run: &Run) -> Vec<u8> {
+    let mut notices: Vec<u8> = deliveries(run).map(|delivery| delivery.notice).collect();
+    notices.sort_unstable();
+    notices.dedup();
+    notices
+}
+
 /// The views that rule-followers entered, with who did and the event; initial members entered by setup.
-fn entered(run: &Run, ring: Ring) -> Vec<(u8, View, Option<&Event>)> {
+fn entered<'a>(run: &'a Run, ring: &'a Ring) -> Vec<(u8, View, Option<&'a Event>)> {
     let initial = (0..16).filter(|&k| ring.initial.has_member(k)).map(|k| (k, ring.initial, None));
     let later = run.events.iter().filter_map(|event| match event.deed {
         Deed::Entered(view) => Some((event.controller, view, Some(event))),
@@ -106,52 +130,66 @@ fn entered(run: &Run, ring: Ring) -> Vec<(u8, View, Option<&Event>)> {
     initial.chain(later).filter(|(k, _, _)| run.is_follower(*k)).collect()
 }
 
-fn two_payloads(run: &Run) -> Option<Breach> {
-    let (_, _, first) = deliveries(run).next()?;
-    let (_, _, other) = deliveries(run).find(|(_, _, payload)| *payload != first)?;
-    Some(Breach::TwoPayloads(first, other))
-}
-
-fn delivered_twice(run: &Run) -> impl Iterator<Item = Breach> + '_ {
-    let count = |k: u8| deliveries(run).filter(|(_, who, _)| *who == k).count();
-    (0..16).filter(move |&k| count(k) > 1).map(Breach::DeliveredTwice)
-}
-
-fn not_prepared(run: &Run, ring: Ring) -> impl Iterator<Item = Breach> + '_ {
-    let prepared = move |before: usize, payload: u64| {
-        let earlier = &run.events[..before];
-        earlier.iter().any(|event| event.controller == ring.sender && event.deed == Deed::Prepared(payload))
+/// What is wrong with the deliveries of a notice.
+fn of_notice(run: &Run, ring: &Ring, notice: u8) -> Vec<Breach> {
+    let Some(&sender) = ring.senders.get(usize::from(notice)) else {
+        let lost = deliveries(run).filter(|delivery| delivery.notice == notice);
+        return lost.map(|delivery| Breach::NoSuchNotice { controller: delivery.controller, notice }).collect();
     };
-    deliveries(run)
-        .filter(move |_| run.is_follower(ring.sender))
-        .filter(move |&(place, _, payload)| !prepared(place, payload))
-        .map(|(_, k, payload)| Breach::NotPrepared(k, payload))
+    let all: Vec<Delivery> = deliveries(run).filter(|delivery| delivery.notice == notice).collect();
+    let mut breaches: Vec<Breach> = delivered_twice(&all).collect();
+    breaches.extend(two_payloads(&all));
+    if run.is_follower(sender) {
+        breaches.extend(not_prepared(run, sender, &all));
+    }
+    breaches
 }
 
-fn incomparable(run: &Run, ring: Ring) -> Option<Breach> {
+/// The first two deliveries of one notice that differ.
+fn two_payloads(all: &[Delivery]) -> Option<Breach> {
+    let first = all.first()?;
+    let other = all.iter().find(|delivery| delivery.payload != first.payload)?;
+    Some(Breach::TwoPayloads { notice: first.notice, payloads: (first.payload, other.payload) })
+}
+
+fn delivered_twice(all: &[Delivery]) -> impl Iterator<Item = Breach> + '_ {
+    let again = |place: &usize| all[..*place].iter().any(|earlier| earlier.controller == all[*place].controller);
+    (0..all.len()).filter(again).map(|place| Breach::DeliveredTwice { controller: all[place].controller, notice: all[place].notice })
+}
+
+fn not_prepared<'a>(run: &'a Run, sender: u8, all: &'a [Delivery]) -> impl Iterator<Item = Breach> + 'a {
+    let prepared = move |&Delivery { place, notice, payload, .. }: &Delivery| {
+        let prepare = Deed::Prepared { notice, payload };
+        run.events[..place].iter().any(|event| event.controller == sender && event.deed == prepare)
+    };
+    let lost = all.iter().filter(move |delivery| !prepared(delivery));
+    lost.map(|&Delivery { controller, notice, payload, .. }| Breach::NotPrepared { controller, notice, payload })
+}
+
+fn incomparable(run: &Run, ring: &Ring) -> Option<Breach> {
     let views: Vec<View> = entered(run, ring).into_iter().map(|(_, view, _)| view).collect();
     let beside = |mine: &View| views.iter().find(|other| !mine.comparable(**other)).copied();
     views.iter().find_map(|mine| beside(mine).map(|other| Breach::Incomparable(*mine, other)))
 }
 
-fn not_kept(run: &Run, ring: Ring, shown: &Definition) -> Vec<Breach> {
+fn not_kept(run: &Run, ring: &Ring, shown: &Definition) -> Vec<Breach> {
     let stores = shown.stores();
     let mut breaches = Vec::new();
-    for (k, view, event) in entered(run, ring) {
-        let record = &run.records[usize::from(k)];
-        let first = event.map_or(0, |event| event.length);
-        for &(_, payload) in stores.iter().filter(|(top, _)| top.strictly_within(view)) {
-            // A longer list shows every certificate that its prefix shows, so both ends stand for all later calls.
-            let held = |length| Definition::new(ring.initial, ring.sender, &record[..length]).has_certificate(payload);
-            if !held(first) || !held(record.len()) {
-                breaches.push(Breach::NotKept(k, view, payload));
+    for (controller, view, event) in entered(run, ring) {
+        let record = &run.records[usize::from(controller)];
+        // A longer list shows every certificate that its prefix shows, so both ends stand for all later calls.
+        let lengths = [event.map_or(0, |event| event.length), record.len()];
+        let held = lengths.map(|length| Definition::new(ring.initial, &ring.senders, &record[..length]));
+        for &store in stores.iter().filter(|store| store.top.strictly_within(view)) {
+            if !held.iter().all(|held| held.has_certificate(store.notice, store.payload)) {
+                breaches.push(Breach::NotKept { controller, view, store });
             }
         }
     }
     breaches
 }
 
-fn depth(run: &Run, ring: Ring, tops: usize) -> Depth {
+fn depth(run: &Run, ring: &Ring, tops: usize) -> Depth {
     let views = entered(run, ring);
     let count = |k: u8| views.iter().filter(|(who, _, _)| *who == k).count();
     let changed = |before: usize, k: u8| {
@@ -163,6 +201,7 @@ fn depth(run: &Run, ring: Ring, tops: usize) -> Depth {
         tops,
         entered: (0..16).map(count).max().unwrap_or(0),
         deliveries: deliveries(run).count(),
-        late_deliveries: deliveries(run).filter(|&(place, k, _)| changed(place, k)).count(),
+        late_deliveries: deliveries(run).filter(|delivery| changed(delivery.place, delivery.controller)).count(),
+        notices: delivered_notices(run).len(),
     }
 }

@@ -5,7 +5,7 @@ pub mod judge;
 pub mod run;
 pub mod soak;
 
-pub use definition::Definition;
+pub use definition::{Definition, Store};
 pub use judge::{judge, Breach, Depth, Verdict};
 pub use run::{Deed, Event, Run};
 pub use soak::{soak, soak_with, Totals};

@@ -8,8 +8,8 @@ use reference::{Bench, Body, Outcome, Row, Rules, Set, Statement, View};
 #[derive(Clone, Copy, PartialEq, Eq, Debug)]
 pub enum Deed {
     Entered(View),
-    Delivered(u64),
-    Prepared(u64),
+    Delivered { notice: u8, payload: u64 },
+    Prepared { notice: u8, payload: u64 },
 }
 
 #[derive(Clone, Copy, PartialEq, Eq, Debug)]
@@ -19,6 +19,9 @@ pub struct Event {
     /// The length of the controller's record after the turn.
     pub length: usize,
 }
+
+/// One more than the greatest number of a refusal.
+pub const REFUSALS: usize = 10;
 
 /// A run after its whole list of events.
 #[derive(Clone, Debug)]
@@ -32,7 +35,8 @@ pub struct Run {
     pub statements: Vec<Statement>,
     /// The records by controller; a record only grows, so a prefix is what it was earlier.
     pub records: Vec<Vec<Statement>>,
-    pub refused: [usize; 9],
+    /// By the number of the refusal.
+    pub refused: [usize; REFUSALS],
     pub lines: usize,
 }
 
@@ -41,7 +45,7 @@ impl Run {
     pub fn of<R: Rules>(schedule: &[u8]) -> Run {
         let mut bench = Bench::<R>::new();
         let mut events = Vec::new();
-        let mut refused = [0; 9];
+        let mut refused = [0; REFUSALS];
         let mut lines = 0;
         run_watched(&mut bench, schedule, |bench, line, row| {
             events.extend(event(bench, line, row));
@@ -50,7 +54,7 @@ impl Run {
                 refused[refusal as usize] += 1;
             }
         });
-        let ring = bench.controllers().find_map(|controller| controller.ring());
+        let ring = bench.controllers().find_map(|controller| controller.ring()).cloned();
         Run {
             ring,
             faulty: bench.faulty(),
@@ -68,14 +72,14 @@ impl Run {
 }
 
 fn event<R: Rules>(bench: &Bench<R>, line: &[u8], row: &Row) -> Option<Event> {
-    let Some(Line::Turn(controller)) = Line::read(line) else {
+    let Some(Line::Turn(controller)) = Line::read(line, bench.groups()) else {
         return None;
     };
     let deed = match row.outcome {
         Outcome::Entered(view) => Deed::Entered(view),
-        Outcome::Delivered(payload) => Deed::Delivered(payload),
+        Outcome::Delivered { notice, payload } => Deed::Delivered { notice, payload },
         Outcome::Signed(number) => match bench.pool().statements().get(number as usize)?.body {
-            Body::Prepare { payload } => Deed::Prepared(payload),
+            Body::Prepare { notice, payload } => Deed::Prepared { notice, payload },
             _ => return None,
         },
         _ => return None,

@@ -3,7 +3,7 @@
 use reference::{Document, Rules};
 
 use crate::judge::{judge, Breach, Depth, Verdict};
-use crate::run::Run;
+use crate::run::{Run, REFUSALS};
 
 /// What a number of runs of one style came to.
 #[derive(Clone, Debug, Default)]
@@ -24,10 +24,12 @@ pub struct Totals {
     pub delivering: usize,
     /// Runs within the premises with a delivery after a change of view.
     pub late: usize,
+    /// Runs within the premises in which two notices were delivered.
+    pub two_notices: usize,
     /// The greatest of each number over the runs within the premises.
     pub most: Depth,
     /// The runs that met each refusal, by its number.
-    pub refused: [usize; 9],
+    pub refused: [usize; REFUSALS],
 }
 
 impl Totals {
@@ -46,12 +48,14 @@ impl Totals {
         self.four_entered += usize::from(depth.entered >= 4);
         self.delivering += usize::from(depth.deliveries > 0);
         self.late += usize::from(depth.late_deliveries > 0);
+        self.two_notices += usize::from(depth.notices > 1);
         self.most = Depth {
             statements: self.most.statements.max(depth.statements),
             tops: self.most.tops.max(depth.tops),
             entered: self.most.entered.max(depth.entered),
             deliveries: self.most.deliveries.max(depth.deliveries),
             late_deliveries: self.most.late_deliveries.max(depth.late_deliveries),
+            notices: self.most.notices.max(depth.notices),
         };
         if !verdict.holds() {
             self.failed.push(seed);
@@ -65,13 +69,14 @@ impl Totals {
 
 impl std::fmt::Display for Totals {
     fn fmt(&self, f: &mut std::fmt::Formatter<'_>) -> std::fmt::Result {
-        let Depth { statements, tops, entered, late_deliveries, .. } = self.most;
+        let Depth { statements, tops, entered, late_deliveries, notices, .. } = self.most;
         write!(f, "{} runs, {} within the premises, {} failed {:?}; ", self.runs, self.within_premises, self.failed.len(), self.kinds)?;
         write!(f, "{} broken outside; ", self.broken_outside)?;
         write!(f, "4 tops or more {}, 4 entered or more {}, ", self.four_tops, self.four_entered)?;
-        write!(f, "delivering {}, after a change {}; ", self.delivering, self.late)?;
-        write!(f, "most: statements {statements}, tops {tops}, entered {entered}, late deliveries {late_deliveries}; ")?;
-        write!(f, "runs with refusals 1 to 8: {:?}", &self.refused[1..])
+        write!(f, "delivering {}, after a change {}, two notices {}; ", self.delivering, self.late, self.two_notices)?;
+        write!(f, "most: statements {statements}, tops {tops}, entered {entered}, late deliveries {late_deliveries}, ")?;
+        write!(f, "notices delivered {notices}; ")?;
+        write!(f, "runs with refusals 1 to 9: {:?}", &self.refused[1..])
     }
 }
 

@@ -21,6 +21,7 @@ broken!(BindingLost drops BINDING_CARRIED);
 broken!(AcksAnything drops BINDING_KEPT);
 broken!(CertificateLost drops CERTIFICATE_REPORTED);
 broken!(DeliversAgain drops DELIVERED_ONCE);
+broken!(NoticesMixed drops NOTICES_APART);
 
 /// Whether a run of the style within the premises fails in the given way.
 fn fails<R: Rules>(kind: &str, lines: usize) -> bool {
@@ -70,6 +71,11 @@ fn a_binding_that_is_not_carried_over_gives_two_certificates() {
 #[test]
 fn a_binding_that_is_not_kept_gives_two_certificates() {
     assert!(fails::<AcksAnything>("contradiction", 1_200));
+}
+
+#[test]
+fn prepares_of_another_notice_break_integrity() {
+    assert!(fails::<NoticesMixed>("not prepared", 800));
 }
 
 #[test]

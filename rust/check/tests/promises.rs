@@ -13,6 +13,7 @@ fn honest_runs_keep_the_promises_and_go_deep() {
     assert_eq!(totals.within_premises, totals.runs);
     assert!(totals.four_entered * 2 > totals.runs && totals.late * 4 > totals.runs);
     assert!(totals.most.tops >= 8 && totals.most.entered >= 8);
+    assert!(totals.two_notices > 30 && totals.refused[9] > 30);
 }
 
 #[test]
@@ -22,6 +23,7 @@ fn runs_with_liars_keep_the_promises_and_go_deep() {
     assert!(totals.failed.is_empty(), "{:?}", totals.failed);
     assert_eq!(totals.within_premises, totals.runs);
     assert!(totals.four_entered * 4 > totals.runs && totals.late * 4 > totals.runs);
+    assert!(totals.two_notices > 30 && totals.refused[2] > 20 && totals.refused[9] > 60);
 }
 
 #[test]
@@ -30,7 +32,19 @@ fn attacks_within_the_premises_fail() {
     println!("attack: {totals}");
     assert!(totals.failed.is_empty(), "{:?}", totals.failed);
     assert_eq!(totals.within_premises, totals.runs);
-    assert!(totals.four_tops > 20 && totals.late > 50);
+    assert!(totals.four_tops > 20 && totals.late > 50 && totals.two_notices > 30);
+}
+
+#[test]
+fn rings_of_each_number_of_notices_keep_the_promises() {
+    for notices in [1, 2, 5, 64] {
+        for style in ["honest", "liars", "attack"] {
+            let totals = soak(&format!("{style}-{notices}"), 1, 40, 800).unwrap();
+            println!("{style}-{notices}: {totals}");
+            assert!(totals.failed.is_empty(), "{style}-{notices}: {:?}", totals.failed);
+            assert!(totals.delivering > 10 && totals.most.notices >= notices.min(3));
+        }
+    }
 }
 
 #[test]
@@ -51,19 +65,22 @@ fn damaged_schedules_keep_the_promises() {
 
 /// What the engine's tables show is what the definitions say.
 fn agrees(run: &Run, statements: &[Statement]) {
-    let ring = run.ring.unwrap();
-    let fast = Evidence::of(ring.initial, ring.sender, statements);
-    let slow = Definition::new(ring.initial, ring.sender, statements);
+    let ring = run.ring.as_ref().unwrap();
+    let fast = Evidence::of(ring.initial, &ring.senders, statements);
+    let slow = Definition::new(ring.initial, &ring.senders, statements);
     assert_eq!(fast.wished, slow.wished());
     same(&fast.candidates, &slow.all_candidates());
     same(&fast.tops, slow.tops());
-    same(&fast.certificates, &slow.certificates());
     assert_eq!(fast.sealed.len(), slow.sealed_histories().len());
     assert!(fast.sealed.iter().all(|history| slow.is_sealed(history)));
-    let mut stored: Vec<u64> = slow.stores().into_iter().map(|(_, payload)| payload).collect();
-    stored.sort_unstable();
-    stored.dedup();
-    same(&fast.stored, &stored);
+    let stores = slow.stores();
+    for (notice, known) in (0..).zip(&fast.notices) {
+        same(&known.certificates, &slow.certificates(notice));
+        let mut stored: Vec<u64> = stores.iter().filter(|store| store.notice == notice).map(|store| store.payload).collect();
+        stored.sort_unstable();
+        stored.dedup();
+        same(&known.stored, &stored);
+    }
     for Statement { origin, body } in statements {
         if let Body::Report(report) = body {
             assert_eq!(fast.counts(*origin, report), slow.counts(*origin, report));
@@ -98,13 +115,15 @@ fn a_longer_list_shows_all_that_its_prefix_shows() {
         for seed in 0..15 {
             let run = Run::of::<Document>(&schedule(style, seed, 300).unwrap());
             let ring = run.ring.unwrap();
-            let mut last = Evidence::of(ring.initial, ring.sender, &[]);
+            let mut last = Evidence::of(ring.initial, &ring.senders, &[]);
             for length in 1..=run.statements.len() {
-                let next = Evidence::of(ring.initial, ring.sender, &run.statements[..length]);
+                let next = Evidence::of(ring.initial, &ring.senders, &run.statements[..length]);
                 assert!(last.wished.within(next.wished));
                 assert!(last.candidates.iter().all(|view| next.candidates.contains(view)));
                 assert!(last.sealed.iter().all(|history| next.sealed.contains(history)));
-                assert!(last.certificates.iter().all(|payload| next.certificates.contains(payload)));
+                for (earlier, later) in last.notices.iter().zip(&next.notices) {
+                    assert!(earlier.certificates.iter().all(|payload| later.certificates.contains(payload)));
+                }
                 last = next;
             }
         }
@@ -137,11 +156,26 @@ fn each_limit_is_met() {
             ("bytes-65536", "delivered,9", true),
             ("no-newline", ",16,refused,8", true),
             ("everyone-leaves", "entered,000f000f", false),
+            ("count-0", "1,16,refused,1", true),
+            ("count-64", ",delivered,163", true),
+            ("count-65", ",refused,1", true),
+            ("count-255", ",refused,1", true),
+            ("unknown-notice", ",refused,9", true),
+            ("groups", ",16,refused,2", true),
+            ("one-sender", ",delivered,20", true),
+            ("one-sender", ",delivered,21", true),
+            ("mixed-notices", ",delivered,7", true),
+            ("mixed-notices", ",refused", false),
+            ("certificates-apart", ",delivered,4", true),
+            ("certificates-apart", ",refused,7", true),
+            ("leave-waits", ",delivered,30", true),
+            ("leave-waits", ",delivered,31", true),
+            ("notices-64", ",signed,511", true),
         ] {
             assert_eq!(rows(style, seed).contains(needle), expected, "{style} {seed} {needle}");
         }
         assert_eq!(rows("bytes-65537", seed), "line,who,answer,value\n0,16,refused,8\n");
-        assert_eq!(rows("empty-lines", seed).lines().count(), 65_520 + (seed as usize % 2));
+        assert_eq!(rows("empty-lines", seed).lines().count(), 65_518 + (seed as usize % 2));
         assert_eq!(schedule("bytes-65536", seed, 0).unwrap().len(), 65_536);
         assert_eq!(schedule("bytes-65537", seed, 0).unwrap().len(), 65_537);
     }

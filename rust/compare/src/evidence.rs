@@ -1,6 +1,7 @@
 //! What a record shows, compared.
 
 use pekdrav::{Certificate, Evidence, EvidenceWords, Pool, Record, Ring, Shown, View, STATEMENTS, VIEWS};
+use reference::Known;
 
 use crate::records::Case;
 
@@ -21,34 +22,20 @@ pub fn lend(case: &Case) -> Result<Lent, String> {
     let mut pool = Pool::new();
     let mut numbers = Vec::new();
     for (place, statement) in (0..).zip(&case.statements) {
-        let number = pool.append(&statement.write());
+        let number = pool.append(&statement.write(), case.senders.len());
         if number != Ok(place) {
             return Err(format!("{statement:?} at {place} went to {number:?}"));
         }
         numbers.push(place);
     }
     let record = Record::of(&numbers).ok_or("a record has at most 512 statements")?;
-    Ok(Lent { pool, record, ring: Ring { initial: as_mine(case.initial), sender: case.sender } })
+    Ok(Lent { pool, record, ring: Ring::new(as_mine(case.initial), &case.senders) })
 }
-
-/// What memory holds before it is told.
-const OTHER: EvidenceWords = EvidenceWords {
-    conflict: u64::MAX,
-    many: u64::MAX,
-    wished: u64::MAX,
-    candidate_count: u64::MAX,
-    greatest_count: u64::MAX,
-    certified: u64::MAX,
-    payload: u64::MAX,
-    stored: u64::MAX,
-    candidates: [u64::MAX; VIEWS],
-    greatest: [u64::MAX; VIEWS],
-};
 
 /// The words that the proved code tells, over memory that held other words.
 pub fn mine(lent: &Lent) -> EvidenceWords {
-    let mut out = OTHER;
-    lent.record.evidence_into(&lent.pool, lent.ring, &mut out);
+    let mut out = EvidenceWords::filled(u64::MAX);
+    lent.record.evidence_into(&lent.pool, &lent.ring, &mut out);
     out
 }
 
@@ -66,51 +53,60 @@ pub fn words(evidence: &Evidence) -> EvidenceWords {
     list(&mut out.candidate_count, &mut out.candidates, shown.candidates.as_deref().unwrap_or(&[]));
     list(&mut out.greatest_count, &mut out.greatest, &shown.greatest);
     out.many = shown.candidates.is_none().into();
-    if let Some(Certificate { payload, stored }) = shown.certificate {
-        (out.certified, out.payload, out.stored) = (1, payload, stored.into());
+    for &Certificate { notice, payload, stored } in &shown.certificates {
+        out.certified |= 1 << notice;
+        out.stored |= u64::from(stored) << notice;
+        out.payloads[usize::from(notice)] = payload;
     }
     out
 }
 
 /// The reference's evidence.
 pub fn theirs(case: &Case) -> Evidence {
-    let evidence = reference::Evidence::of(case.initial, case.sender, &case.statements);
+    let evidence = reference::Evidence::of(case.initial, &case.senders, &case.statements);
     let listed = |views: &[reference::View]| views.iter().map(|&view| as_mine(view)).collect::<Vec<View>>();
-    let certificate = |payload| Certificate { payload, stored: evidence.stored.contains(&payload) };
+    let certificate = |(notice, known): (u8, &Known)| {
+        let payload = known.certificate()?;
+        Some(Certificate { notice, payload, stored: known.stored.contains(&payload) })
+    };
     let shown = || Shown {
         candidates: (evidence.candidates.len() <= VIEWS).then(|| listed(&evidence.candidates)),
         greatest: evidence.greatest().map_or(Vec::new(), |history| listed(history.views())),
-        certificate: evidence.certificate().map(certificate),
+        certificates: (0..).zip(&evidence.notices).filter_map(certificate).collect(),
     };
     Evidence { wished: as_mine(evidence.wished), shown: (!evidence.conflict()).then(shown) }
 }
 
-/// The text of a service screen, from the evidence.
-fn text(evidence: &Evidence) -> String {
+/// The text of a service screen, from the evidence; with one notice its number is not told.
+fn text(evidence: &Evidence, notices: usize) -> String {
     let view = |view: View| format!("{:04x}{:04x}", view.joined(), view.left());
     let list =
         |views: &[View]| std::iter::once(views.len().to_string()).chain(views.iter().map(|&one| view(one))).collect::<Vec<_>>().join(",");
     let wished = format!("wished,{}\n", view(evidence.wished));
     let Some(shown) = &evidence.shown else { return wished + "conflict\n" };
     let candidates = shown.candidates.as_ref().map_or("many".to_string(), |views| list(views));
-    let certificate = match shown.certificate {
-        None => "none".to_string(),
-        Some(Certificate { payload, stored: true }) => format!("{payload},stored"),
-        Some(Certificate { payload, stored: false }) => format!("{payload},kept"),
+    let certificate = |&Certificate { notice, payload, stored }: &Certificate| {
+        let word = if stored { "stored" } else { "kept" };
+        let number = if notices == 1 { String::new() } else { format!("{notice},") };
+        format!("certificate,{number}{payload},{word}\n")
     };
-    format!("{wished}candidates,{candidates}\ngreatest,{}\ncertificate,{certificate}\n", list(&shown.greatest))
+    let certificates: String = match shown.certificates.as_slice() {
+        [] => "certificate,none\n".to_string(),
+        some => some.iter().map(certificate).collect(),
+    };
+    format!("{wished}candidates,{candidates}\ngreatest,{}\n{certificates}", list(&shown.greatest))
 }
 
 /// Compares the text of a service screen with one made from the reference's evidence.
 fn compare_text(case: &Case, lent: &Lent, theirs: &Evidence) -> Result<(), String> {
-    let (mine, theirs) = (lent.record.screen(&lent.pool, lent.ring), text(theirs));
+    let (mine, theirs) = (lent.record.screen(&lent.pool, &lent.ring), text(theirs, case.senders.len()));
     if mine == theirs {
         return Ok(());
     }
     Err(format!(
-        "initial {} sender {}, a record of {}\nproved:\n{mine}reference:\n{theirs}",
+        "initial {} senders {:?}, a record of {}\nproved:\n{mine}reference:\n{theirs}",
         case.initial,
-        case.sender,
+        case.senders,
         case.statements.len()
     ))
 }
@@ -128,6 +124,8 @@ pub struct Tally {
     pub sealed: u64,
     pub certified: u64,
     pub stored: u64,
+    /// Certificates of more than one notice.
+    pub several: u64,
 }
 
 impl Tally {
@@ -141,8 +139,9 @@ impl Tally {
         };
         self.many += u64::from(shown.candidates.is_none());
         self.sealed += u64::from(shown.greatest.len() > 1);
-        self.certified += u64::from(shown.certificate.is_some());
-        self.stored += u64::from(shown.certificate.is_some_and(|certificate| certificate.stored));
+        self.certified += u64::from(!shown.certificates.is_empty());
+        self.stored += u64::from(shown.certificates.iter().any(|certificate| certificate.stored));
+        self.several += u64::from(shown.certificates.len() > 1);
     }
 }
 
@@ -150,8 +149,8 @@ impl std::fmt::Display for Tally {
     fn fmt(&self, f: &mut std::fmt::Formatter<'_>) -> std::fmt::Result {
         write!(
             f,
-            "{} records of {} statements, the longest of {}: {} conflicts, {} with more than 16 candidates, {} sealed, {} certified, {} stored",
-            self.records, self.statements, self.longest, self.conflicts, self.many, self.sealed, self.certified, self.stored
+            "{} records of {} statements, the longest of {}: {} conflicts, {} with more than 16 candidates, {} sealed, {} certified, {} stored, {} of several notices",
+            self.records, self.statements, self.longest, self.conflicts, self.many, self.sealed, self.certified, self.stored, self.several
         )
     }
 }
@@ -182,9 +181,9 @@ pub fn compare(case: &Case, tally: &mut Tally) -> Result<(), String> {
         let lines: Vec<String> = least.statements.iter().map(|s| String::from_utf8_lossy(&s.write()).into_owned()).collect();
         let (one, other) = (mine(&lend(&least)?), words(&theirs(&least)));
         return Err(format!(
-            "initial {} sender {}\n{}\nproved: {one:x?}\nreference: {other:x?}",
+            "initial {} senders {:?}\n{}\nproved: {one:x?}\nreference: {other:x?}",
             least.initial,
-            least.sender,
+            least.senders,
             lines.join("\n")
         ));
     }

@@ -1,7 +1,7 @@
 //! Statement lines to compare on: proper ones, and ones with a named damage.
 
 use generate::Rng;
-use reference::{Fields, View};
+use reference::{Fields, Group, View};
 
 /// What is done to a line. `Proper` leaves it alone.
 #[derive(Clone, Copy, PartialEq, Eq, Debug)]
@@ -15,6 +15,10 @@ pub enum Damage {
     Count,
     /// 17 or more views.
     Seventeen,
+    /// A group too few or too many.
+    Groups,
+    /// A notice where none is used, or one above 255.
+    Notice,
     LeadingZero,
     UpperCase,
     Space,
@@ -33,12 +37,14 @@ pub enum Damage {
     Noise,
 }
 
-pub const DAMAGES: [Damage; 17] = [
+pub const DAMAGES: [Damage; 19] = [
     Damage::Proper,
     Damage::Field,
     Damage::Views,
     Damage::Count,
     Damage::Seventeen,
+    Damage::Groups,
+    Damage::Notice,
     Damage::LeadingZero,
     Damage::UpperCase,
     Damage::Space,
@@ -94,8 +100,20 @@ fn chain(rng: &mut Rng, count: usize) -> Vec<View> {
     views
 }
 
-/// Fields that keep the field rules.
-fn fields(rng: &mut Rng) -> Fields {
+/// What a report tells of a notice; most tell nothing of most of many.
+fn group(rng: &mut Rng, notices: usize) -> Group {
+    if notices > 1 && rng.chance(50) {
+        return Group::default();
+    }
+    let binding = rng.below(3) as u8;
+    let payload = if binding == 1 { number(rng) } else { 0 };
+    let stored = rng.below(2) as u8;
+    let kept = if stored == 1 { number(rng) } else { 0 };
+    Group { binding, payload, stored, kept }
+}
+
+/// Fields that keep the field rules in a ring of that many notices; the notice may be any.
+fn fields(rng: &mut Rng, notices: usize) -> Fields {
     let kind = rng.between(1, 8) as u8;
     let mut fields = Fields { kind, origin: rng.below(16) as u8, ..Fields::default() };
     if !matches!(kind, 1 | 2 | 6) {
@@ -105,7 +123,8 @@ fn fields(rng: &mut Rng) -> Fields {
         fields.view = view(rng);
     }
     if matches!(kind, 6..=8) {
-        fields.payload = number(rng);
+        fields.first.payload = number(rng);
+        fields.notice = if rng.chance(20) { rng.draw() as u8 } else { rng.below(notices) as u8 };
     }
     if matches!(kind, 4 | 5) {
         let count = if rng.chance(20) { 16 } else { rng.between(1, 16) };
@@ -114,25 +133,37 @@ fn fields(rng: &mut Rng) -> Fields {
     }
     if kind == 5 {
         fields.view = if rng.chance(20) { View::new(rng.draw() as u16, 0) } else { view(rng) };
-        fields.binding = rng.below(3) as u8;
-        fields.payload = if fields.binding == 1 { number(rng) } else { 0 };
-        fields.stored = rng.below(2) as u8;
-        fields.kept = if fields.stored == 1 { number(rng) } else { 0 };
+        fields.first = group(rng, notices);
+        fields.others = (1..notices).map(|_| group(rng, notices)).collect();
     }
     fields
 }
 
 fn spoil_field(rng: &mut Rng, fields: &mut Fields) {
+    let place = rng.below(fields.others.len() + 1);
+    let group = match place {
+        0 => &mut fields.first,
+        _ => &mut fields.others[place - 1],
+    };
     match rng.below(8) {
         0 => fields.kind = [0, 9, 255][rng.below(3)],
         1 => fields.origin = rng.between(16, 255) as u8,
         2 => fields.at = View::from_bits(rng.draw() as u32),
         3 => fields.view = View::from_bits(rng.draw() as u32),
-        4 => fields.binding = rng.below(4) as u8,
-        5 => fields.payload = number(rng),
-        6 => fields.stored = rng.below(3) as u8,
-        _ => fields.kept = number(rng),
+        4 => group.binding = rng.below(4) as u8,
+        5 => group.payload = number(rng),
+        6 => group.stored = rng.below(3) as u8,
+        _ => group.kept = number(rng),
     }
+}
+
+/// A group too few or too many, of zeros or not; a kind other than a report has one too many then.
+fn spoil_groups(rng: &mut Rng, fields: &mut Fields) {
+    if rng.chance(50) && fields.others.pop().is_some() {
+        return;
+    }
+    let more = if rng.chance(50) { Group::default() } else { group(rng, 1) };
+    fields.others.push(more);
 }
 
 fn spoil_views(rng: &mut Rng, fields: &mut Fields) {
@@ -150,7 +181,7 @@ fn spoil_views(rng: &mut Rng, fields: &mut Fields) {
 
 /// Views that rise, but more than 16 of them, told as they are or as 16.
 fn seventeen(rng: &mut Rng, fields: &mut Fields) {
-    fields.kind = 4 + rng.below(2) as u8;
+    fields.kind = if fields.others.is_empty() { 4 + rng.below(2) as u8 } else { 5 };
     fields.at = view(rng);
     let more = rng.between(17, 24);
     fields.views = chain(rng, more);
@@ -216,13 +247,22 @@ fn lengthen(rng: &mut Rng, line: &mut Vec<u8>) {
     }
 }
 
+/// Makes the letters of a field large, if any field has letters.
+fn upper_case(rng: &mut Rng, line: &mut [u8]) {
+    let fields = starts(line).into_iter().map(|start| field_at(line, start));
+    let lettered: Vec<_> = fields.filter(|field| line[field.clone()].iter().any(u8::is_ascii_lowercase)).collect();
+    if let Some(field) = lettered.get(rng.below(lettered.len())) {
+        line[field.clone()].make_ascii_uppercase();
+    }
+}
+
 fn spoil_text(rng: &mut Rng, damage: Damage, line: &mut Vec<u8>) {
     let place = rng.below(line.len());
     let all = starts(line);
     let field = field_at(line, all[rng.below(all.len())]);
     match damage {
         Damage::LeadingZero => drop(line.splice(field.start..field.start, b"0".iter().copied())),
-        Damage::UpperCase => line[field].make_ascii_uppercase(),
+        Damage::UpperCase => upper_case(rng, line),
         Damage::Space => line.insert(if rng.chance(50) { field.start } else { field.end }, b' '),
         Damage::Huge => drop(line.splice(field, HUGE[rng.below(HUGE.len())].bytes())),
         Damage::Byte => line[place] = any_byte(rng),
@@ -239,22 +279,34 @@ fn spoil_text(rng: &mut Rng, damage: Damage, line: &mut Vec<u8>) {
     }
 }
 
-/// A line with the damage; it may happen to be the text of a statement all the same.
-pub fn line(rng: &mut Rng, damage: Damage) -> Vec<u8> {
+/// Another notice, in the fifth field: any where none is used, else one above 255.
+fn spoil_notice(rng: &mut Rng, fields: &Fields, line: &mut Vec<u8>) {
+    let field = field_at(line, starts(line)[4]);
+    let about = matches!(fields.kind, 6..=8);
+    let notice = if about { rng.between(256, 70_000) } else { rng.between(1, 255) };
+    line.splice(field, notice.to_string().into_bytes());
+}
+
+/// A line with the damage, made for a ring of that many notices; it may happen to be the text of a statement all the same.
+pub fn line(rng: &mut Rng, damage: Damage, notices: usize) -> Vec<u8> {
     if damage == Damage::Noise {
         let length = rng.below(64);
         return (0..length).map(|_| any_byte(rng)).collect();
     }
-    let mut fields = fields(rng);
+    let mut fields = fields(rng, notices);
     match damage {
         Damage::Field => spoil_field(rng, &mut fields),
         Damage::Views => spoil_views(rng, &mut fields),
         Damage::Count => fields.count = fields.count.wrapping_add([1, 2, 255, 16][rng.below(4)]),
         Damage::Seventeen => seventeen(rng, &mut fields),
+        Damage::Groups => spoil_groups(rng, &mut fields),
         _ => {}
     }
     let mut line = Vec::new();
     fields.write_into(&mut line);
+    if damage == Damage::Notice {
+        spoil_notice(rng, &fields, &mut line);
+    }
     spoil_text(rng, damage, &mut line);
     line
 }

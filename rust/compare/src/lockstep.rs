@@ -5,9 +5,10 @@ use std::collections::BTreeMap;
 
 use pekdrav::{Controller, Pool};
 use reference::bench::Line;
-use reference::{Answer, Refusal, Statement};
+use reference::Answer;
 
 use crate::evidence::as_mine;
+use crate::records::Case;
 
 /// What the compared calls answered; a refusal with its number.
 pub type Tally = BTreeMap<String, u64>;
@@ -29,10 +30,10 @@ pub struct Ring {
 /// A call on a controller.
 #[derive(Clone, Copy, Debug)]
 enum Call<'a> {
-    Setup { number: u8, members: u16, sender: u8 },
+    Setup { number: u8, members: u16, senders: &'a [u8] },
     Join,
     Leave,
-    Send(u64),
+    Send { notice: u8, payload: u64 },
     Add(&'a [u8]),
     Turn,
 }
@@ -40,10 +41,10 @@ enum Call<'a> {
 impl Seat {
     fn mine(&mut self, call: Call) -> pekdrav::Answer {
         match call {
-            Call::Setup { number, members, sender } => self.mine.setup(number, members, sender),
+            Call::Setup { number, members, senders } => self.mine.setup(number, members, senders),
             Call::Join => self.mine.join(),
             Call::Leave => self.mine.leave(),
-            Call::Send(payload) => self.mine.send(payload),
+            Call::Send { notice, payload } => self.mine.send(notice, payload),
             Call::Add(line) => self.mine.add(&mut self.pool, line),
             Call::Turn => self.mine.turn(&mut self.pool),
         }
@@ -51,28 +52,24 @@ impl Seat {
 
     fn theirs(&mut self, call: Call) -> Answer {
         match call {
-            Call::Setup { members, sender, .. } => self.theirs.setup(members, sender),
+            Call::Setup { members, senders, .. } => self.theirs.setup(members, senders),
             Call::Join => self.theirs.join(),
             Call::Leave => self.theirs.leave(),
-            Call::Send(payload) => self.theirs.send(payload),
+            Call::Send { notice, payload } => self.theirs.send(notice, payload),
             Call::Turn => self.theirs.turn(),
-            Call::Add(line) => match Statement::read(line) {
-                Some(statement) => self.theirs.add(&statement),
-                None if self.theirs.ring().is_none() => Answer::Refused(Refusal::Unreadable),
-                None => Answer::Refused(Refusal::Statement),
-            },
+            Call::Add(line) => self.theirs.add_text(line),
         }
     }
 
     /// What the two answers, the same call's, differ in.
-    fn differs(&self, mine: pekdrav::Answer, theirs: Answer) -> Option<String> {
+    fn differs(&self, mine: pekdrav::Answer, theirs: &Answer) -> Option<String> {
         use pekdrav::Answer as Mine;
         let same = match (mine, theirs) {
             (Mine::Taken, Answer::Taken) | (Mine::Left, Answer::Left) | (Mine::Quiet, Answer::Quiet) => true,
             (Mine::Signed(number), Answer::Signed(statement)) => self.pool.text(number) == Some(statement.write()),
-            (Mine::Entered(mine), Answer::Entered(theirs)) => mine == as_mine(theirs),
-            (Mine::Delivered(mine), Answer::Delivered(theirs)) => mine == theirs,
-            (Mine::Refused(mine), Answer::Refused(theirs)) => mine.number() == theirs as u8,
+            (Mine::Entered(mine), Answer::Entered(theirs)) => mine == as_mine(*theirs),
+            (Mine::Delivered { notice, payload }, theirs) => *theirs == Answer::Delivered { notice, payload },
+            (Mine::Refused(mine), Answer::Refused(theirs)) => mine.number() == *theirs as u8,
             _ => false,
         };
         (!same).then(|| format!("proved: {mine:?}, reference: {theirs:?}"))
@@ -82,22 +79,16 @@ impl Seat {
     fn is_same(&self) -> bool {
         let Seat { mine, theirs, .. } = self;
         let entered: Vec<_> = theirs.entered().iter().map(|&view| as_mine(view)).collect();
-        let binding = match theirs.binding() {
-            reference::Binding::Unbound => pekdrav::Binding::Unbound,
-            reference::Binding::Bound(payload) => pekdrav::Binding::Bound(payload),
-            reference::Binding::Barred => pekdrav::Binding::Barred,
-        };
         let requests = theirs.requests();
-        let set_up = |ring: reference::controller::Ring| {
-            mine.number() == theirs.number() && mine.initial() == as_mine(ring.initial) && mine.sender() == ring.sender
+        let set_up = |ring: &reference::controller::Ring| {
+            let senders = mine.notices().map(|notice| notice.sender);
+            mine.number() == theirs.number() && mine.initial() == as_mine(ring.initial) && senders.eq(ring.senders.iter().copied())
         };
         mine.is_set_up() == theirs.ring().is_some()
             && theirs.ring().is_none_or(set_up)
             && mine.entered() == entered
-            && mine.binding() == binding
-            && mine.delivered() == theirs.delivered()
+            && mine.notices().map(held).eq(theirs.notices().iter().copied())
             && (mine.join_requested(), mine.leave_requested()) == (requests.join, requests.leave)
-            && mine.send_requested() == requests.send
             && mine.record().len() == theirs.record().len()
     }
 
@@ -107,6 +98,16 @@ impl Seat {
         let mut both = numbers.zip(self.theirs.record().statements());
         both.all(|(&number, statement)| self.pool.text(number) == Some(statement.write()))
     }
+}
+
+/// What the proved controller has of a notice, as the reference has it.
+fn held(notice: pekdrav::Notice) -> reference::Notice {
+    let binding = match notice.binding {
+        pekdrav::Binding::Unbound => reference::Binding::Unbound,
+        pekdrav::Binding::Bound(payload) => reference::Binding::Bound(payload),
+        pekdrav::Binding::Barred => reference::Binding::Barred,
+    };
+    reference::Notice { binding, delivered: notice.delivered, send: notice.send_requested }
 }
 
 impl Default for Ring {
@@ -121,12 +122,22 @@ impl Ring {
         Ring::default()
     }
 
+    /// All controllers before their setup again; the memory of the pools is kept.
+    fn restart(&mut self) {
+        for (number, seat) in (0..).zip(&mut self.seats) {
+            seat.mine = Controller::new();
+            seat.pool.clear();
+            seat.theirs = reference::Controller::new(number);
+        }
+        self.sent.clear();
+    }
+
     /// Makes one call on both.
     fn call(&mut self, k: u8, call: Call) -> Result<Answer, String> {
         let seat = &mut self.seats[usize::from(k)];
         let before = seat.mine.clone();
         let (mine, theirs) = (seat.mine(call), seat.theirs(call));
-        if let Some(difference) = seat.differs(mine, theirs) {
+        if let Some(difference) = seat.differs(mine, &theirs) {
             return Err(format!("controller {k}, {call:?}: {difference}"));
         }
         if !seat.is_same() {
@@ -135,7 +146,7 @@ impl Ring {
         let word = match mine {
             pekdrav::Answer::Refused(refusal) if seat.mine == before => format!("refused {}", refusal.number()),
             pekdrav::Answer::Refused(_) => return Err(format!("controller {k}, {call:?}: a refusal changed the controller")),
-            answer => format!("{answer:?}").split('(').next().unwrap_or_default().to_lowercase(),
+            answer => format!("{answer:?}").split(['(', ' ']).next().unwrap_or_default().to_lowercase(),
         };
         *self.tally.entry(word).or_default() += 1;
         Ok(theirs)
@@ -149,13 +160,13 @@ impl Ring {
 
     /// Runs a line of a schedule; one that does not read is added as if it were a statement.
     fn line(&mut self, place: usize, line: &[u8]) -> Result<(), String> {
-        match Line::read(line) {
-            Some(Line::Setup { members, sender, .. }) => {
-                (0..16).try_for_each(|number| self.call(number, Call::Setup { number, members, sender }).map(drop))
+        match Line::read(line, self.seats[0].theirs.groups()) {
+            Some(Line::Setup { members, senders, .. }) => {
+                (0..16).try_for_each(|number| self.call(number, Call::Setup { number, members, senders: &senders }).map(drop))
             }
             Some(Line::Join(k)) => self.call(k, Call::Join).map(drop),
             Some(Line::Leave(k)) => self.call(k, Call::Leave).map(drop),
-            Some(Line::Send(k, payload)) => self.call(k, Call::Send(payload)).map(drop),
+            Some(Line::Send { k, notice, payload }) => self.call(k, Call::Send { notice, payload }).map(drop),
             Some(Line::Give(k, number)) => match self.sent.get(number as usize).cloned() {
                 Some(text) => self.call(k, Call::Add(&text)).map(drop),
                 None => Ok(()),
@@ -179,8 +190,20 @@ impl Ring {
         }
     }
 
-    /// Runs a schedule, and compares the records at its end.
+    /// Gives a controller the statements of a record and takes one turn of it.
+    pub fn turn_on(&mut self, k: u8, case: &Case) -> Result<(), String> {
+        self.restart();
+        let senders = &case.senders;
+        self.call(k, Call::Setup { number: k, members: case.initial.joined(), senders })?;
+        for statement in &case.statements {
+            self.call(k, Call::Add(&statement.write()))?;
+        }
+        self.call(k, Call::Turn).map(drop)
+    }
+
+    /// Runs a schedule from the start, and compares the records at its end.
     pub fn run(&mut self, schedule: &[u8]) -> Result<(), String> {
+        self.restart();
         for (place, line) in schedule.split(|&byte| byte == b'\n').enumerate() {
             self.line(place, line).map_err(|difference| format!("line {}: {difference}", place + 1))?;
         }
@@ -191,13 +214,11 @@ impl Ring {
     }
 }
 
-/// Runs many schedules, each in a new ring.
+/// Runs many schedules, one after the other.
 pub fn compare_all(schedules: impl Iterator<Item = Vec<u8>>) -> Result<Tally, String> {
-    let mut tally = Tally::new();
+    let mut ring = Ring::new();
     for schedule in schedules {
-        let mut ring = Ring::new();
         ring.run(&schedule).map_err(|difference| format!("{difference}\n{}", String::from_utf8_lossy(&schedule)))?;
-        ring.tally.into_iter().for_each(|(answer, count)| *tally.entry(answer).or_default() += count);
     }
-    Ok(tally)
+    Ok(ring.tally)
 }

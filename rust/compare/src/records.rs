@@ -2,20 +2,22 @@
 
 use generate::Rng;
 use reference::bench::run_watched;
-use reference::{Bench, Body, Document, History, Record, Set, Statement, View};
+use reference::{Bench, Binding, Body, Document, History, Record, Report, Set, Statement, Told, View, NOTICES};
 
 /// A list of different statements, and the ring in which it is looked at.
 #[derive(Clone, Debug)]
 pub struct Case {
     pub initial: View,
-    pub sender: u8,
+    /// By the number of the notice.
+    pub senders: Vec<u8>,
     pub statements: Vec<Statement>,
 }
 
 impl Case {
     /// The same with its first statements alone.
     pub fn first(&self, count: usize) -> Case {
-        Case { statements: self.statements.iter().take(count).copied().collect(), ..*self }
+        let statements = self.statements.iter().take(count).cloned().collect();
+        Case { initial: self.initial, senders: self.senders.clone(), statements }
     }
 }
 
@@ -24,7 +26,7 @@ pub fn pool_of(schedule: &[u8]) -> Option<Case> {
     let mut bench = Bench::<Document>::new();
     run_watched(&mut bench, schedule, |_, _, _| {});
     let ring = bench.controller(0)?.ring()?;
-    Some(Case { initial: ring.initial, sender: ring.sender, statements: bench.pool().statements().to_vec() })
+    Some(Case { initial: ring.initial, senders: ring.senders.clone(), statements: bench.pool().statements().to_vec() })
 }
 
 fn put(statements: &mut Vec<Statement>, statement: Statement) {
@@ -33,9 +35,17 @@ fn put(statements: &mut Vec<Statement>, statement: Statement) {
     }
 }
 
-/// A statement by somebody else: a double signature, or one of somebody who is no member.
-fn resigned(rng: &mut Rng, statement: Statement) -> Statement {
-    Statement { origin: rng.below(16) as u8, ..statement }
+/// A statement by somebody else, or about another notice: a double signature, or one of somebody who is no member.
+fn resigned(rng: &mut Rng, notices: usize, statement: &Statement) -> Statement {
+    let origin = if rng.chance(80) { rng.below(16) as u8 } else { statement.origin };
+    let mut body = statement.body.clone();
+    match &mut body {
+        Body::Prepare { notice, .. } | Body::Ack { notice, .. } | Body::Store { notice, .. } if rng.chance(50) => {
+            *notice = rng.below(notices) as u8;
+        }
+        _ => {}
+    }
+    Statement { origin, body }
 }
 
 /// Another order, some statements missing, some signed by others, sometimes another initial view or sender.
@@ -52,13 +62,17 @@ pub fn changed(rng: &mut Rng, case: &Case) -> Case {
     }
     let more = if rng.chance(50) { rng.below(40) } else { 0 };
     for _ in 0..more.min(40 * statements.len()) {
-        let copied = statements[rng.below(statements.len())];
-        let copy = resigned(rng, copied);
+        let copied = rng.below(statements.len());
+        let copy = resigned(rng, case.senders.len(), &statements[copied]);
         put(&mut statements, copy);
     }
     let initial = if rng.chance(5) { View::new(rng.draw() as Set | 1, 0) } else { case.initial };
-    let sender = if rng.chance(10) { rng.below(16) as u8 } else { case.sender };
-    Case { initial, sender, statements }
+    let mut senders = case.senders.clone();
+    if rng.chance(10) {
+        let notice = rng.below(senders.len());
+        senders[notice] = rng.below(16) as u8;
+    }
+    Case { initial, senders, statements }
 }
 
 /// The view in which the first `count` controllers have joined.
@@ -90,7 +104,7 @@ pub fn breadth(count: usize) -> Case {
             liar(&mut statements, Body::AgreeHistory { at, history });
         }
     }
-    Case { initial: at, sender: 0, statements }
+    Case { initial: at, senders: vec![0], statements }
 }
 
 /// Each view of the chain is chosen at the one before by a quorum of it, and agreed to with all below.
@@ -112,7 +126,7 @@ pub fn quorums() -> Case {
     let chain: Vec<View> = (1..=16).map(rising).collect();
     let mut statements = wishes();
     climb(&chain, &mut statements);
-    Case { initial: chain[0], sender: 0, statements }
+    Case { initial: chain[0], senders: vec![0], statements }
 }
 
 /// A chain in which each view is larger by one than the one before: 1 joins, 1 leaves, 2 joins, and so on. A history has at most 16 views, so each
@@ -135,7 +149,7 @@ pub fn deepest() -> Case {
         }
     }
     statements.reverse();
-    Case { initial: chain[0], sender: 0, statements }
+    Case { initial: chain[0], senders: vec![0], statements }
 }
 
 /// A history of some views of the chain, the first and the one at `least` among them, that goes on after `least`.
@@ -161,7 +175,7 @@ pub fn depth(count: usize) -> Case {
         }
     }
     statements.truncate(count);
-    Case { initial: chain[0], sender: 0, statements }
+    Case { initial: chain[0], senders: vec![0], statements }
 }
 
 /// Half the statements of the one and half of the other.
@@ -170,8 +184,90 @@ pub fn mixed(count: usize) -> Case {
     let mut statements = Vec::new();
     for statement in deep.statements.iter().zip(&wide.statements).flat_map(|(one, other)| [one, other]) {
         if statements.len() < count {
-            put(&mut statements, *statement);
+            put(&mut statements, statement.clone());
         }
     }
-    Case { initial: wide.initial, sender: 0, statements }
+    Case { initial: wide.initial, senders: vec![0], statements }
+}
+
+/// Controller 0 alone, with 1, and with 1 and 2, each view sealed at the one before; 2 has entered nothing. Nobody reports at the second view, so that
+/// a turn of 2 looks at every report at the first one and has nothing to do in the end, again and again.
+fn waiting() -> (Vec<View>, Vec<Statement>) {
+    let chain: Vec<View> = (1..=3).map(rising).collect();
+    let mut statements: Vec<Statement> = (1..3).map(|origin| Statement::new(origin, Body::Join)).collect();
+    climb(&chain, &mut statements);
+    (chain, statements)
+}
+
+/// Who waits in the records of `reports` and `prepares`.
+pub const WAITING: u8 = 2;
+
+/// Reports at the first view until there are `count` statements, `tell` having what report `place` tells of a notice.
+fn report(chain: &[View], statements: &mut Vec<Statement>, count: usize, tell: impl Fn(usize, usize) -> Told) {
+    let views = [vec![chain[0]], chain[..2].to_vec(), chain.to_vec()];
+    // Nine reports in a row differ in their views, and the next nine in what they tell.
+    for place in 0..Record::LIMIT {
+        if statements.len() >= count {
+            return;
+        }
+        let told = (0..NOTICES).map(|notice| tell(place, notice)).collect();
+        if let Some(history) = History::new(&views[place % 3]) {
+            liar(statements, Body::Report(Report { at: chain[0], view: chain[place / 3 % 3], told, history }));
+        }
+    }
+}
+
+/// 64 notices, each with a certificate, and for the rest reports that are bound to all of them and keep all but one; no two are alike.
+pub fn reports(count: usize) -> Case {
+    let (chain, mut statements) = waiting();
+    for notice in 0..NOTICES as u8 {
+        liar(&mut statements, Body::Prepare { notice, payload: u64::MAX - u64::from(notice) });
+        liar(&mut statements, Body::Ack { at: chain[0], notice, payload: u64::MAX - u64::from(notice) });
+    }
+    let tell = |place: usize, notice: usize| {
+        let payload = u64::MAX - notice as u64;
+        let binding = if notice == place / 9 / NOTICES { Binding::Unbound } else { Binding::Bound(payload) };
+        Told { binding, kept: (notice != place / 9 % NOTICES).then_some(payload) }
+    };
+    report(&chain, &mut statements, count, tell);
+    Case { initial: chain[0], senders: vec![0; NOTICES], statements }
+}
+
+/// 64 notices, half of the record prepares of them and the other half reports that are bound to one or another. With `spread` each notice has some
+/// of the prepares, without it the last notice has them all.
+pub fn prepares(count: usize, spread: bool) -> Case {
+    let (chain, mut statements) = waiting();
+    let (notices, each) = if spread { (NOTICES, count / 2 / NOTICES) } else { (1, count / 2) };
+    let payload = |notice: usize, place: usize| (notice * count + place) as u64;
+    for notice in NOTICES - notices..NOTICES {
+        for place in 0..each {
+            liar(&mut statements, Body::Prepare { notice: notice as u8, payload: payload(notice, place) });
+        }
+    }
+    let tell = |place: usize, notice: usize| match notice {
+        _ if notice < NOTICES - notices => Told::default(),
+        _ if spread && notice == place / 9 % NOTICES => Told::default(),
+        _ => Told { binding: Binding::Bound(payload(notice, (place + notice) % each.max(1))), kept: None },
+    };
+    report(&chain, &mut statements, count, tell);
+    Case { initial: chain[0], senders: vec![0; NOTICES], statements }
+}
+
+/// 64 notices, each acknowledged and stored by three of four members, as many as there is room for, and then the lies of a fourth.
+pub fn votes(count: usize) -> Case {
+    let at = rising(4);
+    let mut statements = Vec::new();
+    for notice in 0..NOTICES as u8 {
+        let payload = u64::from(notice) << 32;
+        put(&mut statements, Statement::new(notice % 3, Body::Prepare { notice, payload }));
+        for origin in 0..3 {
+            put(&mut statements, Statement::new(origin, Body::Ack { at, notice, payload }));
+            put(&mut statements, Statement::new(origin, Body::Store { at, notice, payload }));
+        }
+    }
+    for payload in 0..count as u64 {
+        put(&mut statements, Statement::new(3, Body::Ack { at, notice: (payload % NOTICES as u64) as u8, payload }));
+    }
+    statements.truncate(count);
+    Case { initial: at, senders: (0..NOTICES).map(|notice| notice as u8 % 3).collect(), statements }
 }

@@ -1,7 +1,7 @@
 //! What records show, by the proved code and by the reference.
 
 use compare::evidence::{compare, lend, mine, theirs, words, Tally};
-use compare::records::{breadth, changed, deepest, depth, mixed, pool_of, quorums, Case};
+use compare::records::{breadth, changed, deepest, depth, mixed, pool_of, prepares, quorums, reports, votes, Case};
 use compare::schedules;
 use generate::Rng;
 use pekdrav::{AppendError, Pool, POOL_WORDS};
@@ -20,6 +20,7 @@ fn records_of_runs() {
     let made = (0..120).flat_map(|seed| schedules::random(seed, 100 + 80 * (seed as usize % 8))).chain(schedules::limits(1));
     let tally = agree("records of runs", made.filter_map(|schedule| pool_of(&schedule)));
     assert!(tally.conflicts > 20 && tally.sealed > 100 && tally.certified > 100 && tally.stored > 50, "too few of a kind");
+    assert!(tally.several > 20, "too few with certificates of several notices");
     assert_eq!(tally.longest, 512);
 }
 
@@ -35,12 +36,14 @@ fn changed_records() {
 #[test]
 fn worst_records() {
     let sizes = [16, 17, 64, 256, 511, 512];
-    let made = sizes.into_iter().flat_map(|count| [breadth(count), depth(count), mixed(count)]).chain([quorums()]);
+    let many = |count| [reports(count), prepares(count, true), prepares(count, false), votes(count)];
+    let made = sizes.into_iter().flat_map(|count| [breadth(count), depth(count), mixed(count)]);
+    let made = made.chain([140, 256, 511, 512].into_iter().flat_map(many)).chain([quorums()]);
     let mut rng = Rng::new(19);
     let cases: Vec<Case> = made.collect();
     let shuffled: Vec<Case> = cases.iter().flat_map(|case| (0..8).map(|_| changed(&mut rng, case)).collect::<Vec<_>>()).collect();
     let tally = agree("worst records", cases.into_iter().chain(shuffled));
-    assert!(tally.conflicts > 50 && tally.sealed > 10, "too few of a kind");
+    assert!(tally.conflicts > 50 && tally.sealed > 10 && tally.several > 10, "too few of a kind");
     assert_eq!(tally.longest, 512);
 }
 
@@ -60,26 +63,56 @@ fn the_deepest_record_on_a_small_stack() {
 fn a_pool_takes_512_statements_and_no_line_that_is_none() {
     let mut pool = Pool::new();
     for number in 0..512u16 {
-        let line = format!("6,3,00000000,00000000,0,{number},0,0,0");
-        assert_eq!(pool.append(line.as_bytes()), Ok(number));
-        assert_eq!(pool.append(line.as_bytes()), Ok(number), "a number is reused");
+        let line = format!("6,3,00000000,00000000,0,0,{number},0,0,0");
+        assert_eq!(pool.append(line.as_bytes(), 1), Ok(number));
+        assert_eq!(pool.append(line.as_bytes(), 64), Ok(number), "a number is reused");
     }
     let full = pool.clone();
-    assert_eq!(pool.append(b"6,3,00000000,00000000,0,512,0,0,0"), Err(AppendError::Full));
-    assert_eq!(pool.append(b"6,16,00000000,00000000,0,512,0,0,0"), Err(AppendError::NoStatement));
-    assert_eq!(pool.append(b""), Err(AppendError::NoStatement));
-    assert_eq!(pool.append(b"6,3,00000000,00000000,0,0,0,0,0"), Ok(0));
+    assert_eq!(pool.append(b"6,3,00000000,00000000,0,0,512,0,0,0", 1), Err(AppendError::Full));
+    assert_eq!(pool.append(b"6,3,00000000,00000000,1,0,0,0,0,0", 1), Err(AppendError::Full), "another notice is another statement");
+    assert_eq!(pool.append(b"6,16,00000000,00000000,0,0,512,0,0,0", 1), Err(AppendError::NoStatement));
+    assert_eq!(pool.append(b"", 1), Err(AppendError::NoStatement));
+    assert_eq!(pool.append(b"6,3,00000000,00000000,0,0,0,0,0,0", 1), Ok(0));
     assert!(pool == full, "the pool is as it was");
 }
+
+/// Reports go in and come out with all their groups, whatever number of notices; a cleared pool has none.
+#[test]
+fn a_pool_keeps_every_group() {
+    let mut pool = Pool::new();
+    for notices in 1..=64usize {
+        let groups: String =
+            (0..notices).map(|j| format!("{},{},1,{},", 1 + j % 2, if j % 2 == 0 { 900 + j } else { 0 }, u64::MAX)).collect();
+        let line = format!("5,3,00010000,00030000,0,{groups}1,00010000").into_bytes();
+        assert_eq!(pool.append(&line, notices), Ok(notices as u16 - 1));
+        assert_eq!(pool.append(&line, notices), Ok(notices as u16 - 1), "a number is reused");
+        assert_eq!(pool.append(&line, notices % 64 + 1), Err(AppendError::NoStatement));
+        assert_eq!(pool.text(notices as u16 - 1), Some(line));
+    }
+    pool.clear();
+    assert_eq!(pool.text(0), None);
+}
+
+/// The columns of a pool, each with a word for each statement, and after them the views and the groups of each.
+const COLUMNS: usize = 7;
+const VIEWS_FROM: usize = COLUMNS * 512;
+const GROUPS_FROM: usize = VIEWS_FROM + 16 * 512;
 
 /// Only the words of a new statement and the number of statements are written, whatever the others hold.
 #[test]
 fn an_addition_writes_no_other_word() {
-    let mut words = Box::new([u64::MAX; POOL_WORDS]);
+    let mut words = vec![u64::MAX; POOL_WORDS];
     words[POOL_WORDS - 1] = 3;
-    let mut pool = Pool::from(words);
-    assert_eq!(pool.append(b"4,2,00070000,00000000,0,0,0,0,2,00070000,000f0000"), Ok(3));
-    let written: Vec<(usize, u64)> = pool.words().iter().copied().enumerate().filter(|&(_, word)| word != u64::MAX).collect();
-    let head: u64 = 4 | 2 << 8 | 2 << 24;
-    assert_eq!(written, [(3, head), (515, 7), (1027, 0), (1539, 0), (2051, 0), (2608, 7), (2609, 15), (10752, 4)]);
+    let mut pool = Pool::from(<Box<[u64; POOL_WORDS]>>::try_from(words.into_boxed_slice()).expect("as many words as a pool has"));
+    assert_eq!(pool.append(b"4,2,00070000,00000000,0,0,0,0,0,2,00070000,000f0000", 1), Ok(3));
+    assert_eq!(pool.append(b"5,2,00070000,00070000,0,1,7,0,0,0,0,1,8,1,00070000", 2), Ok(4));
+    let own = |place: usize| match place {
+        _ if place < VIEWS_FROM => [3, 4].contains(&(place % 512)),
+        _ if place < GROUPS_FROM => [3, 4].contains(&((place - VIEWS_FROM) / 16)),
+        _ => [3, 4].contains(&((place - GROUPS_FROM) / 128)),
+    };
+    let written = pool.words()[..POOL_WORDS - 1].iter().enumerate().filter(|&(_, &word)| word != u64::MAX);
+    let strays: Vec<usize> = written.map(|(place, _)| place).filter(|&place| !own(place)).collect();
+    assert_eq!(strays, []);
+    assert_eq!(pool.words()[POOL_WORDS - 1], 5);
 }

@@ -1,8 +1,9 @@
 //! The proved controller and the reference's in lock step.
 
-use compare::lockstep::{compare_all, Tally};
+use compare::lockstep::{compare_all, Ring, Tally};
+use compare::records::{prepares, reports, votes, WAITING};
 use compare::schedules;
-use pekdrav::{Answer, Certificate, Controller, Kind, Pool, Refusal, View};
+use pekdrav::{Answer, Binding, Certificate, Controller, Kind, Notice, Pool, Refusal, View};
 
 fn agree(name: &str, schedules: impl Iterator<Item = Vec<u8>>) -> Tally {
     let tally = compare_all(schedules).unwrap_or_else(|difference| panic!("{name}: they differ, {difference}"));
@@ -16,7 +17,7 @@ fn runs_of_all_styles() {
     for answer in ["taken", "signed", "entered", "delivered", "left", "quiet"] {
         assert!(tally.get(answer).is_some_and(|&count| count > 100), "too few: {answer}");
     }
-    for refusal in [1, 2, 3, 5, 7, 8] {
+    for refusal in [1, 2, 3, 5, 7, 8, 9] {
         assert!(tally.get(&format!("refused {refusal}")).is_some_and(|&count| count > 10), "too few: refused {refusal}");
     }
 }
@@ -24,7 +25,7 @@ fn runs_of_all_styles() {
 #[test]
 fn limits() {
     let tally = agree("lock step at the limits", schedules::limits(3));
-    for refusal in [4, 6, 7] {
+    for refusal in [4, 6, 7, 9] {
         assert!(tally.contains_key(&format!("refused {refusal}")), "none: refused {refusal}");
     }
 }
@@ -34,29 +35,53 @@ fn mutated_runs() {
     agree("lock step on mutated schedules", (0..300).map(|seed| schedules::mutated(seed, 60 + 30 * (seed as usize % 8))));
 }
 
+/// A turn over reports of 64 groups, bound, kept and barred.
+#[test]
+fn turns_over_the_worst_records() {
+    let mut ring = Ring::new();
+    for count in [140, 256, 511, 512] {
+        for case in [reports(count), prepares(count, true), prepares(count, false), votes(count)] {
+            ring.turn_on(WAITING, &case).unwrap_or_else(|difference| panic!("they differ, {difference}"));
+        }
+    }
+    println!("turns over the worst records: {:?}", ring.tally);
+}
+
 /// Every memory means a controller: a call on any answers, and a refusal leaves the pool as it was.
 #[test]
 fn one_of_everything() {
     let (mut controller, mut pool) = (Controller::new(), Pool::new());
     assert_eq!(controller.turn(&mut pool), Answer::Refused(Refusal::OutOfPlace));
-    assert_eq!(controller.add(&mut pool, b"1,0,00000000,00000000,0,0,0,0,0"), Answer::Refused(Refusal::OutOfPlace));
-    assert_eq!(controller.setup(16, 1, 0), Answer::Refused(Refusal::BadSetup));
-    assert_eq!(controller.setup(0, 1, 0), Answer::Taken);
-    assert_eq!(controller.add(&mut pool, b"1,0,00000000,00000000,0,0,0,0"), Answer::Refused(Refusal::BadStatement));
-    assert_eq!(controller.send(7), Answer::Taken);
+    assert_eq!(controller.add(&mut pool, b"1,0,00000000,00000000,0,0,0,0,0,0"), Answer::Refused(Refusal::OutOfPlace));
+    assert_eq!(controller.setup(16, 1, &[0]), Answer::Refused(Refusal::BadSetup));
+    assert_eq!(controller.setup(0, 1, &[]), Answer::Refused(Refusal::BadSetup));
+    for count in [65, 255, 256, 1_000] {
+        assert_eq!(controller.setup(0, 1, &vec![0; count]), Answer::Refused(Refusal::BadSetup));
+    }
+    assert_eq!(controller.setup(0, 1, &[1, 0]), Answer::Taken);
+    assert_eq!(controller.add(&mut pool, b"1,0,00000000,00000000,0,0,0,0,0"), Answer::Refused(Refusal::BadStatement));
+    assert_eq!(controller.add(&mut pool, b"6,1,00000000,00000000,2,0,7,0,0,0"), Answer::Refused(Refusal::UnknownNotice));
+    assert_eq!(controller.send(2, 7), Answer::Refused(Refusal::UnknownNotice));
+    assert_eq!(controller.send(0, 7), Answer::Refused(Refusal::BadRequest));
+    assert_eq!(controller.send(1, 7), Answer::Taken);
+    assert_eq!(controller.notice(1).and_then(|notice| notice.send_requested), Some(7));
     assert_eq!(controller.turn(&mut pool), Answer::Signed(0));
-    assert_eq!(pool.text(0), Some(b"6,0,00000000,00000000,0,7,0,0,0".to_vec()));
+    assert_eq!(pool.text(0), Some(b"6,0,00000000,00000000,1,0,7,0,0,0".to_vec()));
     assert_eq!(pool.text(1), None);
     assert_eq!(controller.turn(&mut pool), Answer::Signed(1));
     assert_eq!(controller.turn(&mut pool), Answer::Signed(2));
-    assert_eq!(controller.turn(&mut pool), Answer::Delivered(7));
+    assert_eq!(controller.turn(&mut pool), Answer::Delivered { notice: 1, payload: 7 });
     assert_eq!(controller.turn(&mut pool), Answer::Quiet);
     assert_eq!(controller.record().numbers(), [0, 1, 2]);
     let shown = controller.evidence(&pool).shown.expect("no conflict");
     assert_eq!(shown.greatest, [View::new(1, 0)]);
-    assert_eq!(shown.certificate, Some(Certificate { payload: 7, stored: true }));
+    assert_eq!(shown.certificates, [Certificate { notice: 1, payload: 7, stored: true }]);
     assert_eq!(controller.signers(&pool, Kind::Ack, View::new(1, 0)), 1);
     assert_eq!(controller.signers(&pool, Kind::Report, View::new(1, 0)), 0);
-    let screen = "wished,00010000\ncandidates,1,00010000\ngreatest,1,00010000\ncertificate,7,stored\n";
+    let screen = "wished,00010000\ncandidates,1,00010000\ngreatest,1,00010000\ncertificate,1,7,stored\n";
     assert_eq!(controller.screen(&pool), screen);
+    let notice = Notice { sender: 0, binding: Binding::Bound(7), delivered: true, send_requested: Some(7) };
+    assert_eq!(controller.notice(1), Some(notice));
+    assert_eq!(controller.notice(0), Some(Notice { sender: 1, binding: Binding::Unbound, delivered: false, send_requested: None }));
+    assert_eq!(controller.notice(2), None);
 }

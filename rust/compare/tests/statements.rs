@@ -10,6 +10,7 @@ fn reading_and_writing_agree() {
     assert!(tally.accepted() > 300_000 && tally.refused() > 300_000, "too few accepted or refused");
     assert!(tally.accepted[1..].iter().all(|&count| count > 10_000), "too few of a kind");
     assert!(tally.full > 5_000, "too few with 16 views");
+    assert!(tally.grouped > 10_000, "too few with more than one group");
     assert!(tally.cramped > 5_000, "too few without room");
     for (damage, &count) in DAMAGES.iter().zip(&tally.refused) {
         let least = match damage {

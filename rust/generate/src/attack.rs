@@ -1,19 +1,24 @@
-//! Liars and a network that work together: two groups of rule-followers are led towards two different payloads.
+//! Liars and a network that work together: two groups of rule-followers are led towards two different payloads of a notice.
 //!
 //! The liars sign along with every follower of either group, the joiners are mostly of the second group, and a
 //! follower hears of the other group's acks, stores and reports only late.
 
-use reference::{Binding, Body, Evidence, History, Outcome, Report, Rules, Set, Statement, View};
+use reference::{Binding, Body, Evidence, History, Notice, Outcome, Report, Rules, Set, Statement, Told, View};
 
 use crate::maker::Maker;
+use crate::rng::Rng;
 
 struct Attack<'a, R> {
     maker: &'a mut Maker<R>,
     members: Set,
     faulty: Set,
-    sender: u8,
+    /// By the number of the notice.
+    senders: Vec<u8>,
+    /// The notices below this are attacked, and the others are left alone.
+    attacked: usize,
     /// The followers that are led towards the first payload.
     first_group: Set,
+    /// Of notice 0; every second notice has them the other way round.
     payloads: [u64; 2],
     active: Set,
     leaving: Set,
@@ -22,25 +27,30 @@ struct Attack<'a, R> {
 }
 
 /// An attack within the premises: as many liars as the initial view bears, and more that never join.
-pub fn attack<R: Rules>(seed: u64, lines: usize) -> Vec<u8> {
-    let mut maker = Maker::<R>::new(seed, lines);
+pub fn attack<R: Rules>(mut maker: Maker<R>) -> Vec<u8> {
+    let notices = maker.notices();
     let rng = &mut maker.rng;
     let size = [4, 4, 4, 5, 7][rng.below(5)];
     let members = rng.subset(!0, size);
     let inside = rng.subset(members, (size - 1) / 3);
     let outsiders = rng.below(5);
     let faulty = inside | rng.subset(!members, outsiders);
-    let lying_sender = rng.chance(75);
-    let sender = rng.member(if lying_sender { inside } else { members & !inside }).unwrap_or(0);
+    let mut sender = || {
+        let lying = rng.chance(75);
+        rng.member(if lying { inside } else { members & !inside }).unwrap_or(0)
+    };
+    let senders: Vec<u8> = (0..notices).map(|_| sender()).collect();
+    let attacked = rng.between(1, notices.min(3));
     // With the liars inside, this many followers are just a quorum.
     let enough = size - 2 * ((size - 1) / 3);
     let led = if rng.chance(70) { enough } else { rng.between(1, size - 1) };
     let first_group = rng.subset(members & !faulty, led);
     let payload = rng.draw() >> rng.below(64);
     let leak = [0, 1, 3, 10][rng.below(4)];
-    maker.setup(members, sender, faulty);
+    maker.setup(members, &senders, faulty);
     let payloads = [payload, payload ^ 1];
-    let mut attack = Attack { maker: &mut maker, members, faulty, sender, first_group, payloads, active: members, leaving: 0, leak };
+    let (active, leaving) = (members, 0);
+    let mut attack = Attack { maker: &mut maker, members, faulty, senders, attacked, first_group, payloads, active, leaving, leak };
     attack.open();
     while !attack.maker.is_done() {
         attack.step();
@@ -50,12 +60,15 @@ pub fn attack<R: Rules>(seed: u64, lines: usize) -> Vec<u8> {
 
 impl<R: Rules> Attack<'_, R> {
     fn open(&mut self) {
-        if self.faulty >> self.sender & 1 == 1 {
-            for payload in self.payloads {
-                self.maker.lie(&Statement::new(self.sender, Body::Prepare { payload }));
+        for notice in 0..self.attacked as u8 {
+            let sender = self.senders[usize::from(notice)];
+            if self.faulty >> sender & 1 == 1 {
+                for payload in self.payloads {
+                    self.maker.lie(&Statement::new(sender, Body::Prepare { notice, payload }));
+                }
+            } else if self.maker.rng.chance(60) {
+                self.maker.send(sender, notice, self.payloads[0]);
             }
-        } else if self.maker.rng.chance(60) {
-            self.maker.send(self.sender, self.payloads[0]);
         }
     }
 
@@ -66,6 +79,7 @@ impl<R: Rules> Attack<'_, R> {
             0 => self.change(),
             1..=20 => self.echo(),
             21..=25 => self.report_falsely(),
+            26..=27 => self.mix(),
             _ => self.hear(),
         }
     }
@@ -76,9 +90,10 @@ impl<R: Rules> Attack<'_, R> {
         evidence.greatest().is_some_and(|greatest| greatest.top() == evidence.wished)
     }
 
-    /// The payload that the controller is led towards.
-    fn payload_of(&self, k: u8) -> u64 {
-        self.payloads[usize::from(self.first_group >> k & 1 == 0)]
+    /// The payload of the notice that the controller is led towards.
+    fn payload_of(&self, k: u8, notice: u8) -> u64 {
+        let second = self.first_group >> k & 1 == 0;
+        self.payloads[usize::from(second ^ (notice % 2 == 1))]
     }
 
     fn followers(&self) -> Set {
@@ -120,14 +135,34 @@ impl<R: Rules> Attack<'_, R> {
         let Some(first) = self.maker.rng.member(self.members & self.faulty) else { return };
         let pool = self.maker.bench.pool();
         let is_vote = |statement: &&Statement| matches!(statement.kind(), 3 | 4 | 7 | 8);
-        let is_new = |statement: &&Statement| !pool.holds(&Statement::new(first, statement.body));
+        let is_new = |statement: &&Statement| !pool.holds(&Statement::new(first, statement.body.clone()));
         let votes = pool.statements().iter().rev().take(80).filter(is_vote).filter(is_new);
-        let votes: Vec<Statement> = votes.copied().collect();
-        let Some(vote) = self.maker.rng.pick(&votes) else { return };
+        let votes: Vec<&Body> = votes.map(|statement| &statement.body).collect();
+        let Some(vote) = self.maker.rng.pick(&votes).cloned() else { return };
         for liar in (0..16).filter(|k| self.faulty >> k & 1 == 1) {
             if liar == first || self.maker.rng.chance(30) {
-                self.maker.lie(&Statement::new(liar, vote.body));
+                self.maker.lie(&Statement::new(liar, vote.clone()));
             }
+        }
+    }
+
+    /// The liars sign of one notice what was signed of another.
+    fn mix(&mut self) {
+        let notices = self.senders.len();
+        if notices == 1 {
+            return;
+        }
+        let Some(liar) = self.maker.rng.member(self.members & self.faulty) else { return };
+        let other = self.maker.rng.below(notices) as u8;
+        let votes = self.maker.bench.pool().statements().iter().rev().take(80).filter_map(|statement| match statement.body {
+            Body::Prepare { payload, .. } => Some(Body::Prepare { notice: other, payload }),
+            Body::Ack { at, payload, .. } => Some(Body::Ack { at, notice: other, payload }),
+            Body::Store { at, payload, .. } => Some(Body::Store { at, notice: other, payload }),
+            _ => None,
+        });
+        let votes: Vec<Body> = votes.collect();
+        if let Some(vote) = votes.get(self.maker.rng.below(votes.len())) {
+            self.maker.lie(&Statement::new(liar, vote.clone()));
         }
     }
 
@@ -138,20 +173,24 @@ impl<R: Rules> Attack<'_, R> {
         let rng = &mut self.maker.rng;
         let Some(at) = rng.pick(&evidence.candidates) else { return };
         let Some(&initial) = evidence.candidates.first() else { return };
-        let binding = match rng.below(10) {
+        let Some(history) = History::new(&[initial]) else { return };
+        let (attacked, payloads) = (self.attacked, self.payloads);
+        let binding = |rng: &mut Rng, notice: usize| match rng.below(10) {
+            _ if notice >= attacked => Binding::Unbound,
             0..=6 => Binding::Unbound,
-            7..=8 => Binding::Bound(self.payloads[1]),
+            7..=8 => Binding::Bound(payloads[1 - notice % 2]),
             _ => Binding::Barred,
         };
-        let Some(history) = History::new(&[initial]) else { return };
-        let report = Report { at, view: initial, binding, kept: None, history };
+        let told = (0..self.senders.len()).map(|notice| Told { binding: binding(rng, notice), kept: None }).collect();
+        let report = Report { at, view: initial, told, history };
         self.maker.lie(&Statement::new(liar, Body::Report(report)));
     }
 
     /// One follower hears what serves the attack, the most useful first, and takes turns.
     fn hear(&mut self) {
         // Once somebody delivered, the attack is about the second group.
-        let delivered = self.maker.bench.controllers().any(|controller| controller.delivered());
+        let delivers = |notice: &Notice| notice.delivered;
+        let delivered = self.maker.bench.controllers().any(|controller| controller.notices().iter().any(delivers));
         let group = if delivered && self.maker.rng.chance(60) { !self.first_group } else { !0 };
         let Some(k) = self.maker.rng.member(self.followers() & group) else { return };
         let missing = self.maker.missing(k, !0);
@@ -172,17 +211,16 @@ impl<R: Rules> Attack<'_, R> {
 
     /// How much it serves the attack that the follower hears the statement; 20 and more is heard soon.
     fn score(&mut self, k: u8, number: usize) -> usize {
-        let payload = self.payload_of(k);
-        let own = |other: u64| other == payload;
-        let statement = self.maker.bench.pool().statements()[number];
-        let worth = match statement.body {
+        let own = |notice: u8, other: u64| other == self.payload_of(k, notice);
+        let other_binding = |(notice, told): (u8, &Told)| matches!(told.binding, Binding::Bound(other) if !own(notice, other));
+        let worth = match &self.maker.bench.pool().statements()[number].body {
             Body::Join | Body::Leave => 20,
             Body::AgreeView { .. } | Body::AgreeHistory { .. } => 25,
-            Body::Report(Report { binding: Binding::Bound(other), .. }) if !own(other) => 9,
+            Body::Report(report) if (0..).zip(&*report.told).any(other_binding) => 9,
             Body::Report(_) => 25,
-            Body::Prepare { payload: other } if own(other) => 50,
+            Body::Prepare { notice, payload } if own(*notice, *payload) => 50,
             Body::Prepare { .. } => 8,
-            Body::Ack { payload: other, .. } | Body::Store { payload: other, .. } if own(other) => 25,
+            Body::Ack { notice, payload, .. } | Body::Store { notice, payload, .. } if own(*notice, *payload) => 25,
             Body::Ack { .. } | Body::Store { .. } => 0,
         };
         worth + self.maker.rng.below(14)

@@ -1,6 +1,6 @@
 //! Drives a ring forward: requests, statements given late or in part, turns, and lies.
 
-use reference::{Outcome, Rules, Set, View};
+use reference::{Outcome, Rules, Set, View, NOTICES};
 
 use crate::lies::lie;
 use crate::maker::Maker;
@@ -9,7 +9,8 @@ use crate::maker::Maker;
 #[derive(Clone, Debug)]
 pub struct Plan {
     pub members: Set,
-    pub sender: u8,
+    /// By the number of the notice.
+    pub senders: Vec<u8>,
     pub faulty: Set,
     /// Percent of the steps that are lies.
     pub lies: usize,
@@ -19,10 +20,16 @@ pub struct Plan {
     pub careful: bool,
     /// The part of the controllers that a split keeps from the others, empty for none.
     pub split: Set,
-    pub payload: u64,
+    /// What is sent, by the number of the notice.
+    pub payloads: Vec<u64>,
 }
 
 impl Plan {
+    /// The payload of a notice; a notice that is none has the first one's.
+    pub fn payload(&self, notice: u8) -> u64 {
+        self.payloads.get(usize::from(notice)).unwrap_or(&self.payloads[0]).to_owned()
+    }
+
     fn hears(&self, k: u8) -> Set {
         match self.split {
             0 => !0,
@@ -39,14 +46,20 @@ struct Drive<'a, R> {
     /// The controllers that are in the ring or asked to be.
     active: Set,
     leaving: Set,
-    sent: bool,
+    /// By the number of the notice.
+    sent: Vec<bool>,
 }
 
 /// Sets the ring up and drives it until the lines are used up.
 pub fn drive<R: Rules>(maker: &mut Maker<R>, plan: Plan) {
-    maker.setup(plan.members, plan.sender, plan.faulty);
+    maker.setup(plan.members, &plan.senders, plan.faulty);
     let active = plan.members;
-    let mut drive = Drive { maker, plan, active, leaving: 0, sent: false };
+    let sent = vec![false; plan.senders.len()];
+    let mut drive = Drive { maker, plan, active, leaving: 0, sent };
+    // Many notices are under way at once only if some are sent early.
+    if drive.sent.len() > 1 && drive.maker.rng.chance(60) {
+        drive.send();
+    }
     while !drive.maker.is_done() {
         drive.step();
     }
@@ -111,26 +124,41 @@ impl<R: Rules> Drive<'_, R> {
         !self.plan.careful || self.plan.faulty == 0 || rest.borne() >= self.plan.faulty.count_ones()
     }
 
+    /// Sends some of the notices; one that was sent seldom comes again.
     fn send(&mut self) {
-        if self.sent && !self.maker.rng.chance(5) {
-            return;
+        let notices = self.sent.len();
+        for _ in 0..self.maker.rng.between(1, 1 + notices / 2) {
+            let notice = self.maker.rng.below(notices);
+            if !self.sent[notice] || self.maker.rng.chance(5) {
+                let (sender, payload) = (self.plan.senders[notice], self.plan.payloads[notice]);
+                self.sent[notice] |= self.maker.send(sender, notice as u8, payload) == Outcome::Taken(0);
+            }
         }
-        let (sender, payload) = (self.plan.sender, self.plan.payload);
-        self.sent |= self.maker.send(sender, payload) == Outcome::Taken(0);
     }
 
     /// A line that a careful host would not write.
     fn stray(&mut self) {
         let k = self.maker.rng.below(16) as u8;
         let pool = self.maker.bench.pool().len();
-        match self.maker.rng.below(6) {
-            0 => self.maker.setup(self.plan.members, k, self.plan.faulty),
+        let notices = self.plan.senders.len();
+        match self.maker.rng.below(8) {
+            0 => {
+                let count = self.maker.rng.below(NOTICES + 2);
+                self.maker.setup(self.plan.members, &vec![k; count], self.plan.faulty)
+            }
             1 => {
                 let number = self.maker.rng.below(pool + 2);
                 self.maker.give(k, number)
             }
-            2 => self.maker.send(k, 1),
-            3 => self.maker.all(k),
+            2 => {
+                let notice = self.maker.rng.below(notices);
+                self.maker.send(k, notice as u8, 1)
+            }
+            3 => {
+                let notice = self.maker.rng.between(notices, 255);
+                self.maker.send(k, notice as u8, 1)
+            }
+            4 => self.maker.all(k),
             _ => self.maker.turn(k),
         };
     }

@@ -5,6 +5,7 @@ mod drive;
 mod lies;
 mod limits;
 mod maker;
+mod notices;
 mod rng;
 mod styles;
 
@@ -12,26 +13,39 @@ pub use limits::LIMITS;
 pub use maker::Maker;
 pub use rng::Rng;
 
-use reference::{Document, Rules};
+use reference::{Document, Rules, NOTICES};
 
 /// The styles that are made at random; the limits are styles too.
 pub const RANDOM: &[&str] = &["honest", "liars", "attack", "overrun", "damaged"];
 
 /// A schedule of the style, or `None` if there is no such style.
 ///
-/// The random styles have at most `lines` lines; a limit has as many as it needs.
+/// The random styles have at most `lines` lines; a limit has as many as it needs. A random style has 1, 2, 5 or 64 notices as the seed has it, or
+/// the number that follows its name, as in `honest-64`.
 pub fn schedule(style: &str, seed: u64, lines: usize) -> Option<Vec<u8>> {
     schedule_for::<Document>(style, seed, lines)
 }
 
 /// A schedule made while an engine that follows `R` runs it.
 pub fn schedule_for<R: Rules>(style: &str, seed: u64, lines: usize) -> Option<Vec<u8>> {
-    match style {
-        "honest" => Some(styles::honest::<R>(seed, lines)),
-        "liars" => Some(styles::liars::<R>(seed, lines)),
-        "attack" => Some(attack::attack::<R>(seed, lines)),
-        "overrun" => Some(styles::overrun::<R>(seed, lines)),
-        "damaged" => Some(styles::damaged::<R>(seed, lines)),
+    let (name, notices) = of_notices(style);
+    let maker = Maker::<R>::new(seed, lines, notices);
+    match name {
+        "honest" => Some(styles::honest(maker)),
+        "liars" => Some(styles::liars(maker)),
+        "attack" => Some(attack::attack(maker)),
+        "overrun" => Some(styles::overrun(maker)),
+        "damaged" => Some(styles::damaged(maker)),
         name => limits::limit(name, seed),
+    }
+}
+
+/// A style's name and the number of notices that follows it.
+fn of_notices(style: &str) -> (&str, Option<usize>) {
+    let split = style.rsplit_once('-').filter(|(name, _)| RANDOM.contains(name));
+    let counted = split.and_then(|(name, count)| Some((name, count.parse().ok()?)));
+    match counted {
+        Some((name, count)) if (1..=NOTICES).contains(&count) => (name, Some(count)),
+        _ => (style, None),
     }
 }

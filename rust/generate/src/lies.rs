@@ -1,6 +1,6 @@
 //! What a rule-breaker may sign: false votes, false reports, two of what should be one.
 
-use reference::{Binding, Body, Evidence, History, Report, Rules, Statement, View};
+use reference::{Binding, Body, Evidence, History, Report, Rules, Statement, Told, View};
 
 use crate::drive::Plan;
 use crate::maker::Maker;
@@ -10,15 +10,16 @@ use crate::rng::Rng;
 pub fn lie<R: Rules>(maker: &mut Maker<R>, liar: u8, plan: &Plan) {
     let evidence = maker.evidence();
     let rng = &mut maker.rng;
+    let notice = notice(rng, plan);
     let body = match rng.below(20) {
         0 => Body::Join,
         1 if !plan.careful => Body::Leave,
         1..=4 => agree_view(rng, &evidence),
         5..=8 => agree_history(rng, &evidence),
         9..=12 => Body::Report(report(rng, &evidence, plan)),
-        13..=14 => Body::Prepare { payload: payload(rng, &evidence, plan) },
-        15..=17 => Body::Ack { at: place(rng, &evidence), payload: payload(rng, &evidence, plan) },
-        _ => Body::Store { at: place(rng, &evidence), payload: payload(rng, &evidence, plan) },
+        13..=14 => Body::Prepare { notice, payload: payload(rng, &evidence, plan, notice) },
+        15..=17 => Body::Ack { at: place(rng, &evidence), notice, payload: payload(rng, &evidence, plan, notice) },
+        _ => Body::Store { at: place(rng, &evidence), notice, payload: payload(rng, &evidence, plan, notice) },
     };
     let outside = plan.careful && plan.members >> liar & 1 == 0;
     if outside && body == Body::Join {
@@ -33,11 +34,22 @@ fn place(rng: &mut Rng, evidence: &Evidence) -> View {
     rng.pick(list).unwrap_or(View::new(1, 0))
 }
 
-fn payload(rng: &mut Rng, evidence: &Evidence, plan: &Plan) -> u64 {
-    match rng.below(10) {
-        0..=4 => rng.pick(&evidence.prepares).unwrap_or(plan.payload),
-        5..=6 => plan.payload,
-        7..=8 => plan.payload ^ 1,
+/// A notice of the ring, seldom one that its setup lacks.
+fn notice(rng: &mut Rng, plan: &Plan) -> u8 {
+    let notices = plan.senders.len();
+    let notice = if rng.chance(4) { rng.between(notices, 255) } else { rng.below(notices) };
+    notice as u8
+}
+
+/// A payload for the notice: mostly one of its own, else one of another notice or of none.
+fn payload(rng: &mut Rng, evidence: &Evidence, plan: &Plan, notice: u8) -> u64 {
+    let known = evidence.notices.get(usize::from(notice));
+    let own = plan.payload(notice);
+    match rng.below(20) {
+        0..=9 => known.and_then(|known| rng.pick(&known.prepares)).unwrap_or(own),
+        10..=12 => own,
+        13..=14 => rng.pick(&plan.payloads).unwrap_or(own),
+        15..=17 => own ^ 1,
         _ => rng.draw(),
     }
 }
@@ -89,13 +101,25 @@ fn agree_history(rng: &mut Rng, evidence: &Evidence) -> Body {
     Body::AgreeHistory { at: place(rng, evidence), history: fork(rng, evidence) }
 }
 
-fn report(rng: &mut Rng, evidence: &Evidence, plan: &Plan) -> Report {
+/// What a liar tells of a notice; of many notices it tells nothing for most.
+fn tell(rng: &mut Rng, evidence: &Evidence, plan: &Plan, notice: u8) -> Told {
+    if plan.senders.len() > 1 && rng.chance(60) {
+        return Told::default();
+    }
     let binding = match rng.below(10) {
         0..=3 => Binding::Unbound,
-        4..=7 => Binding::Bound(payload(rng, evidence, plan)),
+        4..=7 => Binding::Bound(payload(rng, evidence, plan, notice)),
         _ => Binding::Barred,
     };
-    let kept = rng.chance(20).then(|| payload(rng, evidence, plan));
+    let kept = rng.chance(20).then(|| payload(rng, evidence, plan, notice));
+    Told { binding, kept }
+}
+
+/// A report, seldom with a group too few or too many, which makes it no statement.
+fn report(rng: &mut Rng, evidence: &Evidence, plan: &Plan) -> Report {
+    let notices = plan.senders.len();
+    let groups = if rng.chance(4) { (notices + 1).saturating_sub(2 * rng.below(2)).max(1) } else { notices };
+    let told = (0..groups).map(|notice| tell(rng, evidence, plan, notice as u8)).collect();
     let view = if rng.chance(60) { evidence.wished } else { beside(rng, evidence) };
-    Report { at: place(rng, evidence), view, binding, kept, history: fork(rng, evidence) }
+    Report { at: place(rng, evidence), view, told, history: fork(rng, evidence) }
 }

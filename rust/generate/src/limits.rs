@@ -5,19 +5,21 @@ use reference::{Body, History, Record, Set, Statement, View};
 
 use crate::drive::{drive, Plan};
 use crate::maker::Maker;
+use crate::notices;
 
 /// The names of the limits.
 pub const LIMITS: &[&str] = &[
     "pool-512", "pool-513", "record-512", "record-513", "ring-512", "candidates-15", "candidates-16", "candidates-17", "candidates-20",
     "incomparable", "two-sealed", "two-certificates", "seven-before-six", "bytes-65536", "bytes-65537", "empty-lines", "no-newline",
-    "everyone-leaves",
+    "everyone-leaves", "count-0", "count-64", "count-65", "count-255", "unknown-notice", "groups", "one-sender", "mixed-notices",
+    "certificates-apart", "leave-waits", "notices-64",
 ];
 
 /// More lines than any schedule has.
 const ENOUGH: usize = SCHEDULE_LIMIT;
 
 pub fn limit(name: &str, seed: u64) -> Option<Vec<u8>> {
-    let mut maker: Maker = Maker::new(seed, ENOUGH);
+    let mut maker: Maker = Maker::new(seed, ENOUGH, None);
     match name {
         "pool-512" => filled(&mut maker, Record::LIMIT),
         "pool-513" => filled(&mut maker, Record::LIMIT + 1),
@@ -37,6 +39,17 @@ pub fn limit(name: &str, seed: u64) -> Option<Vec<u8>> {
         "empty-lines" => return Some(empty_lines(seed)),
         "no-newline" => return Some(no_newline(maker)),
         "everyone-leaves" => everyone_leaves(&mut maker),
+        "count-0" => notices::count(&mut maker, 0),
+        "count-64" => notices::count(&mut maker, 64),
+        "count-65" => notices::count(&mut maker, 65),
+        "count-255" => notices::count(&mut maker, 255),
+        "unknown-notice" => notices::unknown(&mut maker),
+        "groups" => notices::groups(&mut maker),
+        "one-sender" => notices::one_sender(&mut maker),
+        "mixed-notices" => notices::mixed(&mut maker),
+        "certificates-apart" => notices::certificates_apart(&mut maker),
+        "leave-waits" => notices::leave_waits(&mut maker),
+        "notices-64" => notices::all(&mut maker),
         _ => return None,
     }
     Some(maker.finish())
@@ -47,14 +60,14 @@ fn noise(maker: &mut Maker, origin: u8, upto: usize) {
     let mut payload = maker.rng.draw() >> 40;
     while maker.bench.pool().len() < upto && !maker.is_done() {
         payload += 1;
-        maker.lie(&Statement::new(origin, Body::Prepare { payload }));
+        maker.lie(&Statement::new(origin, Body::Prepare { notice: 0, payload }));
     }
 }
 
 /// A pool filled by lies, and then turns and lies that need one more place.
 fn filled(maker: &mut Maker, statements: usize) {
-    maker.setup(0x0007, 0, 0x0200);
-    maker.send(0, 7);
+    maker.setup(0x0007, &[0], 0x0200);
+    maker.send(0, 0, 7);
     maker.turns(0, 1);
     noise(maker, 9, statements.min(Record::LIMIT));
     if statements > Record::LIMIT {
@@ -72,9 +85,9 @@ fn filled(maker: &mut Maker, statements: usize) {
 
 /// A record of controller 0 that is filled, and then a turn that would sign.
 fn record(maker: &mut Maker, statements: usize) {
-    maker.setup(0x0001, 0, 0x0200);
+    maker.setup(0x0001, &[0], 0x0200);
     noise(maker, 9, statements);
-    maker.send(0, 7);
+    maker.send(0, 0, 7);
     if maker.rng.chance(50) {
         maker.all(0);
     } else {
@@ -94,18 +107,19 @@ fn record(maker: &mut Maker, statements: usize) {
 /// A ring that lives until its statements fill the pool.
 fn long_life(maker: &mut Maker) {
     let members = maker.rng.subset(!0, 7);
-    let sender = maker.rng.member(members).unwrap_or(0);
-    let plan = Plan { members, sender, faulty: 0, lies: 0, rounds: 70, careful: true, split: 0, payload: 5 };
+    let senders = vec![maker.rng.member(members).unwrap_or(0)];
+    let plan = Plan { members, senders, faulty: 0, lies: 0, rounds: 70, careful: true, split: 0, payloads: vec![5] };
     drive(maker, plan);
 }
 
-fn rising(count: u32) -> View {
+/// The view in which the first `count` controllers have joined.
+pub fn rising(count: u32) -> View {
     View::new(((1u32 << count) - 1) as Set, 0)
 }
 
 /// The lone faulty member 0 agrees on a chain of views up to the given number of candidates, the last one wished.
 fn chain(maker: &mut Maker, candidates: usize) -> Vec<View> {
-    maker.setup(0x0001, 0, 0xffff);
+    maker.setup(0x0001, &[0], 0xffff);
     let leaving = (1..8).map(|count| View::new(0xffff, rising(count).joined() << 1));
     let views: Vec<View> = (1..=16).map(rising).chain(leaving).take(candidates).collect();
     for &view in &views[1..] {
@@ -120,7 +134,7 @@ fn chain(maker: &mut Maker, candidates: usize) -> Vec<View> {
 }
 
 /// Everybody gets everything and takes turns.
-fn settle(maker: &mut Maker, rounds: usize) {
+pub fn settle(maker: &mut Maker, rounds: usize) {
     for _ in 0..rounds {
         for k in 0..16 {
             maker.all(k);
@@ -135,7 +149,7 @@ fn candidates(maker: &mut Maker, count: usize) {
 }
 
 fn incomparable(maker: &mut Maker) {
-    maker.setup(0x0001, 0, 0xffff);
+    maker.setup(0x0001, &[0], 0xffff);
     for origin in [1, 2] {
         maker.lie(&Statement::new(origin, Body::Join));
         let view = View::new(1 | 1 << origin, 0);
@@ -154,10 +168,10 @@ fn two_sealed(maker: &mut Maker) {
 }
 
 fn two_certificates(maker: &mut Maker) {
-    maker.setup(0x0001, 0, 0xffff);
+    maker.setup(0x0001, &[0], 0xffff);
     for payload in [3, 4] {
-        maker.lie(&Statement::new(0, Body::Prepare { payload }));
-        maker.lie(&Statement::new(0, Body::Ack { at: rising(1), payload }));
+        maker.lie(&Statement::new(0, Body::Prepare { notice: 0, payload }));
+        maker.lie(&Statement::new(0, Body::Ack { at: rising(1), notice: 0, payload }));
         settle(maker, 1);
     }
 }
@@ -172,8 +186,8 @@ fn seven_before_six(maker: &mut Maker) {
 
 /// An honest run, padded with one long unreadable line to the length.
 fn padded(mut maker: Maker, length: usize) -> Vec<u8> {
-    maker.setup(0x0003, 1, 0);
-    maker.send(1, 9);
+    maker.setup(0x0003, &[1], 0);
+    maker.send(1, 0, 9);
     (0..5).for_each(|_| settle(&mut maker, 1));
     let mut schedule = maker.finish();
     schedule.resize(length - 1, b'x');
@@ -181,18 +195,18 @@ fn padded(mut maker: Maker, length: usize) -> Vec<u8> {
     schedule
 }
 
-/// 65,519 empty lines, alone or with the 17 bytes of a setup that its missing newline makes unreadable.
+/// 65,517 empty lines, alone or with the 19 bytes of a setup that its missing newline makes unreadable.
 fn empty_lines(seed: u64) -> Vec<u8> {
-    let mut schedule = vec![b'\n'; 65_519];
+    let mut schedule = vec![b'\n'; 65_517];
     if seed % 2 == 1 {
-        schedule.extend_from_slice(b"setup,0001,0,0000");
+        schedule.extend_from_slice(b"setup,0001,1,0,0000");
     }
     schedule
 }
 
 fn no_newline(mut maker: Maker) -> Vec<u8> {
-    maker.setup(0x0001, 0, 0);
-    maker.send(0, 7);
+    maker.setup(0x0001, &[0], 0);
+    maker.send(0, 0, 7);
     maker.turns(0, 5);
     maker.turn(0);
     let mut schedule = maker.finish();
@@ -202,10 +216,10 @@ fn no_newline(mut maker: Maker) -> Vec<u8> {
 
 /// All members leave, one by one or at once; the last view keeps its members, because one without any has no quorum.
 fn everyone_leaves(maker: &mut Maker) {
-    maker.setup(0x000f, 2, 0);
+    maker.setup(0x000f, &[2], 0);
     let at_once = maker.rng.chance(50);
     if maker.rng.chance(50) {
-        maker.send(2, 11);
+        maker.send(2, 0, 11);
     }
     settle(maker, 3);
     for k in 0..4 {

@@ -1,7 +1,7 @@
 //! Writes a schedule line by line and runs it meanwhile, so that later lines can build on earlier ones.
 
 use reference::bench::SCHEDULE_LIMIT;
-use reference::{Bench, Document, Evidence, Outcome, Refusal, Rules, Set, Statement, View};
+use reference::{Bench, Document, Evidence, Outcome, Refusal, Rules, Set, Statement, View, NOTICES};
 
 use crate::rng::Rng;
 
@@ -10,13 +10,21 @@ pub struct Maker<R = Document> {
     pub bench: Bench<R>,
     schedule: Vec<u8>,
     left: usize,
+    /// The number of notices, if it is not to be drawn.
+    notices: Option<usize>,
     /// The length of each controller's record at its last turn, if that did nothing and no request came since.
     rested: [Option<usize>; 16],
 }
 
 impl<R: Rules> Maker<R> {
-    pub fn new(seed: u64, lines: usize) -> Maker<R> {
-        Maker { rng: Rng::new(seed), bench: Bench::new(), schedule: Vec::new(), left: lines, rested: [None; 16] }
+    pub fn new(seed: u64, lines: usize, notices: Option<usize>) -> Maker<R> {
+        Maker { rng: Rng::new(seed), bench: Bench::new(), schedule: Vec::new(), left: lines, notices, rested: [None; 16] }
+    }
+
+    /// A number of notices for a ring.
+    pub fn notices(&mut self) -> usize {
+        let drawn = [1, 1, 1, 2, 2, 5, 5, NOTICES][self.rng.below(8)];
+        self.notices.unwrap_or(drawn)
     }
 
     pub fn finish(self) -> Vec<u8> {
@@ -52,8 +60,10 @@ impl<R: Rules> Maker<R> {
         self.bench.step(line).outcome
     }
 
-    pub fn setup(&mut self, members: Set, sender: u8, faulty: Set) -> Outcome {
-        self.line(format!("setup,{members:04x},{sender},{faulty:04x}").as_bytes())
+    /// Sets the ring up with a sender for each notice.
+    pub fn setup(&mut self, members: Set, senders: &[u8], faulty: Set) -> Outcome {
+        let listed: String = senders.iter().map(|sender| format!("{sender},")).collect();
+        self.line(format!("setup,{members:04x},{},{listed}{faulty:04x}", senders.len()).as_bytes())
     }
 
     pub fn join(&mut self, k: u8) -> Outcome {
@@ -66,9 +76,9 @@ impl<R: Rules> Maker<R> {
         self.line(format!("leave,{k}").as_bytes())
     }
 
-    pub fn send(&mut self, k: u8, payload: u64) -> Outcome {
+    pub fn send(&mut self, k: u8, notice: u8, payload: u64) -> Outcome {
         self.rested[usize::from(k)] = None;
-        self.line(format!("send,{k},{payload}").as_bytes())
+        self.line(format!("send,{k},{notice},{payload}").as_bytes())
     }
 
     pub fn give(&mut self, k: u8, number: usize) -> Outcome {
@@ -96,7 +106,7 @@ impl<R: Rules> Maker<R> {
             if length.is_some() && self.rested[usize::from(k)] == length {
                 return;
             }
-            if !matches!(self.turn(k), Outcome::Signed(_) | Outcome::Entered(_) | Outcome::Delivered(_)) {
+            if !matches!(self.turn(k), Outcome::Signed(_) | Outcome::Entered(_) | Outcome::Delivered { .. }) {
                 self.rested[usize::from(k)] = length;
             }
         }
@@ -105,8 +115,8 @@ impl<R: Rules> Maker<R> {
     /// What the whole pool shows.
     pub fn evidence(&self) -> Evidence {
         let ring = self.bench.controllers().find_map(|controller| controller.ring());
-        let (initial, sender) = ring.map_or((View::EMPTY, 0), |ring| (ring.initial, ring.sender));
-        Evidence::of(initial, sender, self.bench.pool().statements())
+        let (initial, senders): (_, &[u8]) = ring.map_or((View::EMPTY, &[0]), |ring| (ring.initial, &ring.senders));
+        Evidence::of(initial, senders, self.bench.pool().statements())
     }
 
     /// The numbers of the pool's statements that `k` lacks, of the origins in `from`.

@@ -7,22 +7,38 @@ use crate::maker::Maker;
 use crate::rng::Rng;
 
 fn plan<R: Rules>(maker: &mut Maker<R>, members: usize, faulty: usize) -> Plan {
+    let notices = maker.notices();
     let rng = &mut maker.rng;
     let members = rng.subset(!0, members);
     let faulty = rng.subset(members, faulty);
-    let sender = match rng.below(10) {
+    let sender = |rng: &mut Rng| match rng.below(10) {
         0 => rng.below(16) as u8,
         1..=4 if faulty != 0 => rng.member(faulty).unwrap_or(0),
         _ => rng.member(members).unwrap_or(0),
     };
+    let first = sender(rng);
+    let one_sender = rng.chance(25);
+    let others: Vec<u8> = (1..notices).map(|_| if one_sender { first } else { sender(rng) }).collect();
+    let senders = [vec![first], others].concat();
     let split = if rng.chance(40) { rng.draw() as Set } else { 0 };
-    let payload = if rng.chance(10) { 0 } else { rng.draw() >> rng.below(64) };
-    Plan { members, sender, faulty, lies: 0, rounds: 25, careful: true, split, payload }
+    let payloads = payloads(rng, notices);
+    Plan { members, senders, faulty, lies: 0, rounds: 25, careful: true, split, payloads }
 }
 
-/// Nobody lies; joins, leaves and a notice come in between.
-pub fn honest<R: Rules>(seed: u64, lines: usize) -> Vec<u8> {
-    let mut maker = Maker::<R>::new(seed, lines);
+/// What the notices are sent with: the same, numbers in a row, or any.
+fn payloads(rng: &mut Rng, notices: usize) -> Vec<u64> {
+    let first = if rng.chance(10) { 0 } else { rng.draw() >> rng.below(64) };
+    let way = rng.below(3);
+    let later = |rng: &mut Rng, notice: usize| match way {
+        0 => first,
+        1 => first.wrapping_add(notice as u64),
+        _ => rng.draw() >> rng.below(64),
+    };
+    (0..notices).map(|notice| if notice == 0 { first } else { later(rng, notice) }).collect()
+}
+
+/// Nobody lies; joins, leaves and notices come in between.
+pub fn honest<R: Rules>(mut maker: Maker<R>) -> Vec<u8> {
     let members = maker.rng.between(1, 6);
     let mut plan = plan(&mut maker, members, 0);
     plan.rounds = maker.rng.between(5, 60);
@@ -31,8 +47,7 @@ pub fn honest<R: Rules>(seed: u64, lines: usize) -> Vec<u8> {
 }
 
 /// As many liars as the initial view bears.
-pub fn liars<R: Rules>(seed: u64, lines: usize) -> Vec<u8> {
-    let mut maker = Maker::<R>::new(seed, lines);
+pub fn liars<R: Rules>(mut maker: Maker<R>) -> Vec<u8> {
     let borne = if maker.rng.chance(85) { 1 } else { 2 };
     let members = 3 * borne + maker.rng.between(1, 2);
     let mut plan = plan(&mut maker, members, borne);
@@ -43,8 +58,7 @@ pub fn liars<R: Rules>(seed: u64, lines: usize) -> Vec<u8> {
 }
 
 /// More liars than a view bears; the last lines bring up refusal 7.
-pub fn overrun<R: Rules>(seed: u64, lines: usize) -> Vec<u8> {
-    let mut maker = Maker::<R>::new(seed, lines);
+pub fn overrun<R: Rules>(mut maker: Maker<R>) -> Vec<u8> {
     let draw = maker.rng.below(3);
     if draw == 0 {
         split_ring(&mut maker);
@@ -67,12 +81,14 @@ pub fn overrun<R: Rules>(seed: u64, lines: usize) -> Vec<u8> {
 /// Members 0 to 3 with 2 and 3 faulty: 0 and 1 are led to deliver different payloads, and then hear of each other.
 fn split_ring<R: Rules>(maker: &mut Maker<R>) {
     let payload = maker.rng.draw() >> maker.rng.below(64);
+    let notices = maker.notices();
+    let notice = maker.rng.below(notices) as u8;
     let at = View::new(0xf, 0);
-    maker.setup(0xf, 3, 0xc);
+    maker.setup(0xf, &vec![3; notices], 0xc);
     for (follower, payload) in [(0, payload), (1, !payload)] {
-        let ack = Body::Ack { at, payload };
-        let store = Body::Store { at, payload };
-        for (liar, body) in [(3, Body::Prepare { payload }), (2, ack), (3, ack), (2, store), (3, store)] {
+        let ack = || Body::Ack { at, notice, payload };
+        let store = || Body::Store { at, notice, payload };
+        for (liar, body) in [(3, Body::Prepare { notice, payload }), (2, ack()), (3, ack()), (2, store()), (3, store())] {
             if let Outcome::Taken(number) = maker.lie(&Statement::new(liar, body)) {
                 maker.give(follower, number as usize);
             }
@@ -85,21 +101,24 @@ fn split_ring<R: Rules>(maker: &mut Maker<R>) {
     }
 }
 
-/// Liars that are a quorum by themselves choose two views, or acknowledge two payloads, and everybody hears it.
+/// Liars that are a quorum by themselves choose two views, or acknowledge two payloads of one notice, and everybody hears it.
 fn contradict<R: Rules>(maker: &mut Maker<R>, plan: &Plan) {
     let at = View::new(plan.members, 0);
     let liars: Vec<u8> = (0..16).filter(|k| (plan.members & plan.faulty) >> k & 1 == 1).collect();
     let joiners: Vec<u8> = (0..16).filter(|k| (plan.members | !plan.faulty) >> k & 1 == 0).collect();
     let forks = joiners.len() >= 2 && maker.rng.chance(50);
+    let is_liar = |sender: &u8| plan.faulty >> sender & 1 == 1;
+    let notice = plan.senders.iter().position(is_liar).unwrap_or(0);
     for turn in 0..2 {
         let view = View::new(plan.members | joiners.get(turn).map_or(0, |k| 1 << k), 0);
-        let payload = plan.payload.wrapping_add(turn as u64);
-        let first = if forks { Body::Join } else { Body::Prepare { payload } };
-        let origin = if forks { joiners[turn] } else { plan.sender };
+        let payload = plan.payloads[notice].wrapping_add(turn as u64);
+        let origin = if forks { joiners[turn] } else { plan.senders[notice] };
+        let notice = notice as u8;
+        let first = if forks { Body::Join } else { Body::Prepare { notice, payload } };
         maker.lie(&Statement::new(origin, first));
-        let vote = if forks { Body::AgreeView { at, view } } else { Body::Ack { at, payload } };
+        let vote = if forks { Body::AgreeView { at, view } } else { Body::Ack { at, notice, payload } };
         liars.iter().for_each(|&liar| {
-            maker.lie(&Statement::new(liar, vote));
+            maker.lie(&Statement::new(liar, vote.clone()));
         });
     }
     for k in (0..16).filter(|k| plan.members >> k & 1 == 1) {
@@ -109,15 +128,16 @@ fn contradict<R: Rules>(maker: &mut Maker<R>, plan: &Plan) {
 }
 
 /// A schedule of another style with damage done to its text.
-pub fn damaged<R: Rules>(seed: u64, lines: usize) -> Vec<u8> {
-    let rng = &mut Rng::new(!seed);
+pub fn damaged<R: Rules>(mut maker: Maker<R>) -> Vec<u8> {
+    let rng = &mut Rng::new(maker.rng.draw());
     let mut schedule = match rng.below(3) {
-        0 => honest::<R>(seed, lines),
-        1 => liars::<R>(seed, lines),
-        _ => overrun::<R>(seed, lines),
+        0 => honest(maker),
+        1 => liars(maker),
+        _ => overrun(maker),
     };
     // The setup line is mostly left alone, so that the damage is met by a ring that runs.
-    let spared = if rng.chance(80) { 18.min(schedule.len()) } else { 0 };
+    let setup = schedule.iter().position(|&byte| byte == b'\n').map_or(0, |end| end + 1);
+    let spared = if rng.chance(80) { setup } else { 0 };
     for _ in 0..rng.between(1, 30) {
         let place = spared + rng.below((schedule.len() - spared).max(1));
         damage(rng, &mut schedule, place);

@@ -1,5 +1,6 @@
 //! What a call answers.
 
+use crate::ffi::Value;
 use crate::view::View;
 
 /// What a call answers.
@@ -11,8 +12,13 @@ pub enum Answer {
     Signed(u16),
     /// A turn entered this view.
     Entered(View),
-    /// A turn delivered this payload.
-    Delivered(u64),
+    /// A turn delivered this payload of the notice.
+    Delivered {
+        /// The notice's number.
+        notice: u8,
+        /// Its payload.
+        payload: u64,
+    },
     /// There is nothing to do, and the controller has left the ring.
     Left,
     /// There is nothing to do.
@@ -22,13 +28,13 @@ pub enum Answer {
 }
 
 impl Answer {
-    /// The answer of this number, with the value that came with it.
-    pub(crate) fn told(number: u8, value: u64) -> Answer {
+    /// The answer of this number, with the value and the notice that came with it.
+    pub(crate) fn told(number: u8, [value, notice]: Value) -> Answer {
         match number {
             0 => Answer::Taken,
             1 => Answer::Signed(value as u16),
             2 => Answer::Entered(View::from_word(value)),
-            3 => Answer::Delivered(value),
+            3 => Answer::Delivered { notice: notice as u8, payload: value },
             4 => Answer::Left,
             5 => Answer::Quiet,
             _ => Answer::Refused(Refusal::told(value)),
@@ -40,15 +46,15 @@ impl Answer {
 #[derive(Clone, Copy, PartialEq, Eq, PartialOrd, Ord, Hash, Debug)]
 #[repr(u8)]
 pub enum Refusal {
-    /// A setup without an initial member, with a number above 15, or a second one.
+    /// A setup without an initial member, without notices or with more than 64, with a number above 15, or a second one.
     BadSetup = 1,
-    /// The statement breaks a field rule, or the line is none.
+    /// The statement breaks a field rule, or the line is none; a report has a group for each notice.
     BadStatement = 2,
     /// The statement is in the record.
     Repeated = 3,
     /// The record or the pool is full, and one more statement must go in.
     Full = 4,
-    /// A join by an initial member, a leave before entering, a send by another than the sender, or any of them repeated.
+    /// A join by an initial member, a leave before entering, a send by another than the notice's sender, or any of them repeated.
     BadRequest = 5,
     /// On a turn, more than sixteen candidates.
     ManyCandidates = 6,
@@ -56,15 +62,17 @@ pub enum Refusal {
     Conflict = 7,
     /// Any call before setup.
     OutOfPlace = 8,
+    /// A statement or a send about a notice that the setup lacks.
+    UnknownNotice = 9,
 }
 
 impl Refusal {
-    /// The number in the table of refusals, 1 to 8.
+    /// The number in the table of refusals, 1 to 9.
     pub const fn number(self) -> u8 {
         self as u8
     }
 
-    /// The refusal of this number. Every call that is refused tells 1 to 8.
+    /// The refusal of this number. Every call that is refused tells 1 to 9.
     fn told(number: u64) -> Refusal {
         match number {
             1 => Refusal::BadSetup,
@@ -74,7 +82,8 @@ impl Refusal {
             5 => Refusal::BadRequest,
             6 => Refusal::ManyCandidates,
             7 => Refusal::Conflict,
-            _ => Refusal::OutOfPlace,
+            8 => Refusal::OutOfPlace,
+            _ => Refusal::UnknownNotice,
         }
     }
 }

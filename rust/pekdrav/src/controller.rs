@@ -2,13 +2,13 @@
 
 use crate::answer::Answer;
 use crate::evidence::Evidence;
-use crate::ffi;
+use crate::ffi::{self, Value};
 use crate::pool::Pool;
 use crate::record::Record;
 use crate::statement::Kind;
-use crate::view::{Ring, View, VIEWS};
+use crate::view::{padded, Ring, View, NOTICES, VIEWS};
 
-/// What a controller is bound to.
+/// What a controller is bound to in a notice.
 #[derive(Clone, Copy, PartialEq, Eq, Hash, Debug)]
 pub enum Binding {
     /// To nothing yet.
@@ -19,25 +19,82 @@ pub enum Binding {
     Barred,
 }
 
+/// What a controller has of one notice.
+#[derive(Clone, Copy, PartialEq, Eq, Hash, Debug)]
+pub struct Notice {
+    /// The one whose prepares of it count.
+    pub sender: u8,
+    /// What the controller is bound to.
+    pub binding: Binding,
+    /// Whether the controller delivered it.
+    pub delivered: bool,
+    /// The payload that is to be sent.
+    pub send_requested: Option<u64>,
+}
+
 /// What a controller has beside its record, in the order of `struct pekdrav_fields`.
-#[derive(Clone, PartialEq, Eq, Debug, Default)]
+#[derive(Clone, PartialEq, Eq, Debug)]
 #[repr(C)]
 pub(crate) struct Fields {
     ready: u64,
     number: u64,
     initial: u64,
-    sender: u64,
-    binding: u64,
-    bound: u64,
+    notice_count: u64,
+    /// A set of notices, bit j for notice j; so are the next, `bound` and `barred`.
     delivered: u64,
+    send_requested: u64,
     join_requested: u64,
     leave_requested: u64,
-    send_requested: u64,
-    send_payload: u64,
-    reserved_1: u64,
+    bound: u64,
+    barred: u64,
+    reserved_1: [u64; 2],
     entered_count: u64,
     reserved_2: [u64; 3],
     entered: [u64; VIEWS],
+    /// By the number of the notice; so are the next two.
+    senders: [u64; NOTICES],
+    /// Those that are bound.
+    payloads: [u64; NOTICES],
+    send_payloads: [u64; NOTICES],
+}
+
+impl Fields {
+    const EMPTY: Fields = Fields {
+        ready: 0,
+        number: 0,
+        initial: 0,
+        notice_count: 0,
+        delivered: 0,
+        send_requested: 0,
+        join_requested: 0,
+        leave_requested: 0,
+        bound: 0,
+        barred: 0,
+        reserved_1: [0; 2],
+        entered_count: 0,
+        reserved_2: [0; 3],
+        entered: [0; VIEWS],
+        senders: [0; NOTICES],
+        payloads: [0; NOTICES],
+        send_payloads: [0; NOTICES],
+    };
+
+    fn notice(&self, number: usize) -> Notice {
+        let in_set = |set: u64| set >> number & 1 == 1;
+        let binding = if in_set(self.barred) {
+            Binding::Barred
+        } else if in_set(self.bound) {
+            Binding::Bound(self.payloads[number])
+        } else {
+            Binding::Unbound
+        };
+        Notice {
+            sender: self.senders[number] as u8,
+            binding,
+            delivered: in_set(self.delivered),
+            send_requested: in_set(self.send_requested).then_some(self.send_payloads[number]),
+        }
+    }
 }
 
 /// A controller in the memory that the proved calls are lent.
@@ -51,15 +108,15 @@ pub struct Controller {
 
 impl Default for Controller {
     fn default() -> Controller {
-        let mut controller = Controller { fields: Fields::default(), record: Record::default() };
+        let mut controller = Controller { fields: Fields::EMPTY, record: Record::default() };
         ffi::pekdrav_raw_controller_init(&mut controller.fields, &mut controller.record);
         controller
     }
 }
 
-/// Makes a call, which is lent the place of its value.
-fn answered(call: impl FnOnce(&mut u64) -> u8) -> Answer {
-    let mut value = 0;
+/// Makes a call, which is lent the place of its value and notice.
+fn answered(call: impl FnOnce(&mut Value) -> u8) -> Answer {
+    let mut value = [0; 2];
     let number = call(&mut value);
     Answer::told(number, value)
 }
@@ -71,10 +128,12 @@ impl Controller {
         Controller::default()
     }
 
-    /// Starts controller `number` in the ring of these initial members, bit k for controller k.
-    pub fn setup(&mut self, number: u8, members: u16, sender: u8) -> Answer {
+    /// Starts controller `number` in the ring of these initial members, bit k for controller k, with a sender for each of 1 to 64 notices.
+    pub fn setup(&mut self, number: u8, members: u16, senders: &[u8]) -> Answer {
         let Controller { fields, record } = self;
-        answered(|value| ffi::pekdrav_raw_controller_setup(fields, record, number, members, sender, value))
+        let count = u8::try_from(senders.len()).unwrap_or(u8::MAX);
+        let listed = padded(senders);
+        answered(|value| ffi::pekdrav_raw_controller_setup(fields, record, number, members, count, &listed, value))
     }
 
     /// Notes that it is to join; a later turn signs that.
@@ -87,12 +146,12 @@ impl Controller {
         answered(|value| ffi::pekdrav_raw_controller_leave(&mut self.fields, value))
     }
 
-    /// Notes what the sender is to send; a later turn signs its prepare.
-    pub fn send(&mut self, payload: u64) -> Answer {
-        answered(|value| ffi::pekdrav_raw_controller_send(&mut self.fields, payload, value))
+    /// Notes what the notice's sender is to send; a later turn signs its prepare.
+    pub fn send(&mut self, notice: u8, payload: u64) -> Answer {
+        answered(|value| ffi::pekdrav_raw_controller_send(&mut self.fields, notice, payload, value))
     }
 
-    /// Adds the statement that `line` is, once the host has checked its signature.
+    /// Adds the statement that `line` is in its ring, once the host has checked its signature.
     pub fn add(&mut self, pool: &mut Pool, line: &[u8]) -> Answer {
         let Controller { fields, record } = self;
         answered(|value| ffi::raw_controller_add(fields, record, pool.words_mut(), line, value))
@@ -114,12 +173,12 @@ impl Controller {
 
     /// What the record shows.
     pub fn evidence(&self, pool: &Pool) -> Evidence {
-        self.record.evidence(pool, self.ring())
+        self.record.evidence(pool, &self.ring())
     }
 
     /// What the record shows, in lines, for a service screen.
     pub fn screen(&self, pool: &Pool) -> String {
-        self.record.screen(pool, self.ring())
+        self.record.screen(pool, &self.ring())
     }
 }
 
@@ -140,28 +199,21 @@ impl Controller {
         View::from_word(self.fields.initial)
     }
 
-    /// The sender's number.
-    pub fn sender(&self) -> u8 {
-        self.fields.sender as u8
+    /// What it has of each notice, by number; nothing before setup.
+    pub fn notices(&self) -> impl ExactSizeIterator<Item = Notice> + '_ {
+        let count = if self.is_set_up() { self.fields.notice_count as usize } else { 0 };
+        (0..count.min(NOTICES)).map(|number| self.fields.notice(number))
     }
 
-    /// The initial view and the sender.
+    /// What it has of this notice, if its setup has it.
+    pub fn notice(&self, notice: u8) -> Option<Notice> {
+        self.notices().nth(notice.into())
+    }
+
+    /// The initial view and the senders.
     pub fn ring(&self) -> Ring {
-        Ring { initial: self.initial(), sender: self.sender() }
-    }
-
-    /// What it is bound to.
-    pub fn binding(&self) -> Binding {
-        match self.fields.binding {
-            0 => Binding::Unbound,
-            1 => Binding::Bound(self.fields.bound),
-            _ => Binding::Barred,
-        }
-    }
-
-    /// Whether it delivered.
-    pub fn delivered(&self) -> bool {
-        self.fields.delivered != 0
+        let senders: Vec<u8> = self.notices().map(|notice| notice.sender).collect();
+        Ring::new(self.initial(), &senders)
     }
 
     /// Whether a join was requested.
@@ -172,11 +224,6 @@ impl Controller {
     /// Whether a leave was requested.
     pub fn leave_requested(&self) -> bool {
         self.fields.leave_requested != 0
-    }
-
-    /// The payload that is to be sent.
-    pub fn send_requested(&self) -> Option<u64> {
-        (self.fields.send_requested != 0).then_some(self.fields.send_payload)
     }
 
     /// Its record.

@@ -4,14 +4,21 @@ use crate::controller::Fields;
 use crate::evidence::EvidenceWords;
 use crate::pool::POOL_WORDS;
 use crate::record::Record;
+use crate::view::{Ring, NOTICES};
 
 /// A pool in memory.
 pub type Words = [u64; POOL_WORDS];
 
+/// What comes with an answer: its value, and the notice of a delivery.
+pub type Value = [u64; 2];
+
+/// The senders of the notices, the first of which count.
+pub type Senders = [u8; NOTICES];
+
 // The structs lie in memory as the arrays that the library has.
-const _: () = assert!(size_of::<Fields>() == size_of::<[u64; 32]>());
+const _: () = assert!(size_of::<Fields>() == size_of::<[u64; 224]>());
 const _: () = assert!(size_of::<Record>() == size_of::<[u16; 513]>());
-const _: () = assert!(size_of::<EvidenceWords>() == size_of::<[u64; 40]>());
+const _: () = assert!(size_of::<EvidenceWords>() == size_of::<[u64; 104]>());
 
 // SAFETY: an array is a pointer to it, and a slice a pointer and then a length; nothing checks these lines against the Rattle source. Each function
 // answers whatever the memory holds and keeps no pointer, so one that is lent references alone is safe to call.
@@ -22,44 +29,60 @@ unsafe extern "C" {
         record: &mut Record,
         number: u8,
         members: u16,
-        sender: u8,
-        value: &mut u64,
+        count: u8,
+        senders: &Senders,
+        value: &mut Value,
     ) -> u8;
-    pub safe fn pekdrav_raw_controller_join(fields: &mut Fields, value: &mut u64) -> u8;
-    pub safe fn pekdrav_raw_controller_leave(fields: &mut Fields, value: &mut u64) -> u8;
-    pub safe fn pekdrav_raw_controller_send(fields: &mut Fields, payload: u64, value: &mut u64) -> u8;
+    pub safe fn pekdrav_raw_controller_join(fields: &mut Fields, value: &mut Value) -> u8;
+    pub safe fn pekdrav_raw_controller_leave(fields: &mut Fields, value: &mut Value) -> u8;
+    pub safe fn pekdrav_raw_controller_send(fields: &mut Fields, notice: u8, payload: u64, value: &mut Value) -> u8;
     fn pekdrav_raw_controller_add(
-        fields: &mut Fields,
+        fields: &Fields,
         record: &mut Record,
         words: &mut Words,
         line: *const u8,
         line_len: usize,
-        value: &mut u64,
+        value: &mut Value,
     ) -> u8;
-    pub safe fn pekdrav_raw_controller_turn(fields: &mut Fields, record: &mut Record, words: &mut Words, value: &mut u64) -> u8;
+    pub safe fn pekdrav_raw_controller_turn(fields: &mut Fields, record: &mut Record, words: &mut Words, value: &mut Value) -> u8;
 
     pub safe fn pekdrav_pool_clear(words: &mut Words);
-    fn pekdrav_pool_append(words: &mut Words, line: *const u8, line_len: usize) -> u16;
+    fn pekdrav_pool_append(words: &mut Words, line: *const u8, line_len: usize, notices: usize) -> u16;
     fn pekdrav_pool_text(words: &Words, number: u16, out: *mut u8, out_len: usize) -> usize;
 
     pub safe fn pekdrav_record_signers(record: &Record, words: &Words, kind: u8, at: u64) -> u32;
-    pub safe fn pekdrav_record_evidence(record: &Record, words: &Words, initial: u64, sender: u8, out: &mut EvidenceWords);
-    fn pekdrav_record_screen(record: &Record, words: &Words, initial: u64, sender: u8, out: *mut u8, out_len: usize) -> usize;
+    pub safe fn pekdrav_record_evidence(
+        record: &Record,
+        words: &Words,
+        initial: u64,
+        count: u8,
+        senders: &Senders,
+        out: &mut EvidenceWords,
+    );
+    fn pekdrav_record_screen(
+        record: &Record,
+        words: &Words,
+        initial: u64,
+        count: u8,
+        senders: &Senders,
+        out: *mut u8,
+        out_len: usize,
+    ) -> usize;
 
-    fn pekdrav_statement_rewrite(line: *const u8, line_len: usize, out: *mut u8, out_len: usize) -> usize;
+    fn pekdrav_statement_rewrite(line: *const u8, line_len: usize, notices: usize, out: *mut u8, out_len: usize) -> usize;
     fn pekdrav_schedule_rows(schedule: *const u8, schedule_len: usize, rows: *mut u8, rows_len: usize) -> usize;
 }
 
 #[inline]
-pub fn raw_controller_add(fields: &mut Fields, record: &mut Record, words: &mut Words, line: &[u8], value: &mut u64) -> u8 {
+pub fn raw_controller_add(fields: &Fields, record: &mut Record, words: &mut Words, line: &[u8], value: &mut Value) -> u8 {
     // SAFETY: the pointer is that of a slice, with its length; so in each function below.
     unsafe { pekdrav_raw_controller_add(fields, record, words, line.as_ptr(), line.len(), value) }
 }
 
 #[inline]
-pub fn pool_append(words: &mut Words, line: &[u8]) -> u16 {
+pub fn pool_append(words: &mut Words, line: &[u8], notices: usize) -> u16 {
     // SAFETY: as above.
-    unsafe { pekdrav_pool_append(words, line.as_ptr(), line.len()) }
+    unsafe { pekdrav_pool_append(words, line.as_ptr(), line.len(), notices) }
 }
 
 #[inline]
@@ -69,15 +92,16 @@ pub fn pool_text(words: &Words, number: u16, out: &mut [u8]) -> usize {
 }
 
 #[inline]
-pub fn record_screen(record: &Record, words: &Words, initial: u64, sender: u8, out: &mut [u8]) -> usize {
+pub fn record_screen(record: &Record, words: &Words, ring: &Ring, out: &mut [u8]) -> usize {
+    let (initial, count, senders) = (ring.initial.word(), ring.count, &ring.senders);
     // SAFETY: as above.
-    unsafe { pekdrav_record_screen(record, words, initial, sender, out.as_mut_ptr(), out.len()) }
+    unsafe { pekdrav_record_screen(record, words, initial, count, senders, out.as_mut_ptr(), out.len()) }
 }
 
 #[inline]
-pub fn statement_rewrite(line: &[u8], out: &mut [u8]) -> usize {
+pub fn statement_rewrite(line: &[u8], notices: usize, out: &mut [u8]) -> usize {
     // SAFETY: as above.
-    unsafe { pekdrav_statement_rewrite(line.as_ptr(), line.len(), out.as_mut_ptr(), out.len()) }
+    unsafe { pekdrav_statement_rewrite(line.as_ptr(), line.len(), notices, out.as_mut_ptr(), out.len()) }
 }
 
 #[inline]

@@ -10,11 +10,11 @@
 //!
 //! let (mut controller, mut pool) = (Controller::new(), Pool::new());
 //! assert_eq!(controller.turn(&mut pool), Answer::Refused(Refusal::OutOfPlace));
-//! // A ring of one: controller 0 is the only member and the sender.
-//! assert_eq!(controller.setup(0, 0x0001, 0), Answer::Taken);
-//! assert_eq!(controller.send(7), Answer::Taken);
+//! // A ring of one: controller 0 is the only member, and the sender of the only notice.
+//! assert_eq!(controller.setup(0, 0x0001, &[0]), Answer::Taken);
+//! assert_eq!(controller.send(0, 7), Answer::Taken);
 //! assert_eq!(controller.turn(&mut pool), Answer::Signed(0));
-//! assert_eq!(pool.text(0), Some(b"6,0,00000000,00000000,0,7,0,0,0".to_vec()));
+//! assert_eq!(pool.text(0), Some(b"6,0,00000000,00000000,0,0,7,0,0,0".to_vec()));
 //! assert_eq!(controller.evidence(&pool).wished, controller.initial());
 //! ```
 
@@ -32,9 +32,9 @@ pub mod statement;
 mod view;
 
 pub use answer::{Answer, Refusal};
-pub use controller::{Binding, Controller};
+pub use controller::{Binding, Controller, Notice};
 pub use evidence::{Certificate, Evidence, EvidenceWords, Shown};
 pub use pool::{AppendError, Pool, POOL_WORDS, STATEMENTS};
 pub use record::Record;
 pub use statement::Kind;
-pub use view::{Ring, View, VIEWS};
+pub use view::{Ring, View, NOTICES, VIEWS};

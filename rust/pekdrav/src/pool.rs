@@ -6,8 +6,8 @@ use crate::statement::TEXT_MAX;
 /// A pool has no more statements, and so has a record.
 pub const STATEMENTS: usize = 512;
 
-/// The words of a pool: 21 for each statement, and the number of statements.
-pub const POOL_WORDS: usize = 21 * STATEMENTS + 1;
+/// The words of a pool: 151 for each statement, and the number of statements.
+pub const POOL_WORDS: usize = 151 * STATEMENTS + 1;
 
 /// Statements that controllers signed or were given, numbered from 0 in the order in which they came.
 ///
@@ -19,10 +19,16 @@ pub struct Pool {
 
 impl Default for Pool {
     fn default() -> Pool {
-        let mut words = Box::new([0; POOL_WORDS]);
-        ffi::pekdrav_pool_clear(&mut words);
-        Pool { words }
+        let mut pool = Pool { words: zeros() };
+        pool.clear();
+        pool
     }
+}
+
+/// The memory of a pool, made where it stays: a stack may have no room for it.
+fn zeros() -> Box<ffi::Words> {
+    let words = vec![0; POOL_WORDS].into_boxed_slice();
+    words.try_into().unwrap_or_else(|_| unreachable!("it has as many words as were asked for"))
 }
 
 /// All words are of use to nobody, so none is shown.
@@ -44,7 +50,7 @@ impl From<Box<[u64; POOL_WORDS]>> for Pool {
 pub enum AppendError {
     /// The pool holds 512 others.
     Full,
-    /// The line is the text of no statement that keeps the field rules.
+    /// The line is the text of no statement that keeps the field rules in a ring of that many notices.
     NoStatement,
 }
 
@@ -69,11 +75,16 @@ impl Pool {
         Pool::default()
     }
 
-    /// The number of the statement that `line` is, which goes to the end if it is not in the pool.
+    /// Makes the pool empty. This costs less than a new one, since its memory is there.
+    pub fn clear(&mut self) {
+        ffi::pekdrav_pool_clear(&mut self.words);
+    }
+
+    /// The number of the statement that `line` is in a ring of that many notices, which goes to the end if it is not in the pool.
     ///
     /// Only the words of a new statement and the number of statements are written.
-    pub fn append(&mut self, line: &[u8]) -> Result<u16, AppendError> {
-        match ffi::pool_append(&mut self.words, line) {
+    pub fn append(&mut self, line: &[u8], notices: usize) -> Result<u16, AppendError> {
+        match ffi::pool_append(&mut self.words, line, notices) {
             POOL_FULL => Err(AppendError::Full),
             NO_STATEMENT => Err(AppendError::NoStatement),
             number => Ok(number),

@@ -29,7 +29,7 @@ impl std::fmt::Debug for Record {
 }
 
 /// No text of what a record shows has more bytes.
-const SCREEN_MAX: usize = 512;
+const SCREEN_MAX: usize = 4_096;
 
 impl Record {
     /// An empty record.
@@ -67,7 +67,7 @@ impl Record {
     }
 
     /// What the record shows in a ring.
-    pub fn evidence(&self, pool: &Pool, ring: Ring) -> Evidence {
+    pub fn evidence(&self, pool: &Pool, ring: &Ring) -> Evidence {
         let mut out = EvidenceWords::default();
         self.evidence_into(pool, ring, &mut out);
         Evidence::from(&out)
@@ -75,17 +75,18 @@ impl Record {
 
     /// The same in memory that is lent, all of which is written.
     #[inline]
-    pub fn evidence_into(&self, pool: &Pool, ring: Ring, out: &mut EvidenceWords) {
-        ffi::pekdrav_record_evidence(self, pool.words(), ring.initial.word(), ring.sender, out);
+    pub fn evidence_into(&self, pool: &Pool, ring: &Ring, out: &mut EvidenceWords) {
+        ffi::pekdrav_record_evidence(self, pool.words(), ring.initial.word(), ring.count, &ring.senders, out);
     }
 
     /// What the record shows in a ring, in lines, for a service screen.
     ///
     /// The lines: `wished,VIEW`; then `conflict` and nothing more, or `candidates,COUNT,VIEW,..` (`candidates,many` for more than sixteen),
-    /// `greatest,COUNT,VIEW,..` and `certificate,PAYLOAD,stored` (`kept` if it is not stored, `certificate,none` if no payload has one).
-    pub fn screen(&self, pool: &Pool, ring: Ring) -> String {
+    /// `greatest,COUNT,VIEW,..` and for each notice that has a certificate `certificate,NOTICE,PAYLOAD,stored` (without the notice in a ring of
+    /// one; `kept` if it is not stored; `certificate,none` if no notice has one).
+    pub fn screen(&self, pool: &Pool, ring: &Ring) -> String {
         let mut out = [0; SCREEN_MAX];
-        let length = ffi::record_screen(self, pool.words(), ring.initial.word(), ring.sender, &mut out);
+        let length = ffi::record_screen(self, pool.words(), ring, &mut out);
         out[..length].iter().map(|&byte| char::from(byte)).collect()
     }
 }

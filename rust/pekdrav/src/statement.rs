@@ -3,7 +3,7 @@
 use crate::ffi;
 
 /// No statement's text has more bytes.
-pub const TEXT_MAX: usize = 256;
+pub const TEXT_MAX: usize = 3_120;
 
 /// The kinds of statements, by the number that their text begins with.
 #[derive(Clone, Copy, PartialEq, Eq, PartialOrd, Ord, Hash, Debug)]
@@ -19,19 +19,19 @@ pub enum Kind {
     AgreeHistory = 4,
     /// What its origin has seen and is bound to, for those who enter a greater view.
     Report = 5,
-    /// The payload of the sender's notice.
+    /// The payload of one of the sender's notices.
     Prepare = 6,
-    /// An acknowledgement of a payload.
+    /// An acknowledgement of a notice's payload.
     Ack = 7,
-    /// Its origin has seen a quorum of acks.
+    /// Its origin has seen a quorum of acks of a notice.
     Store = 8,
 }
 
-/// Writes the statement that `line` is from the start of `out` and answers its length.
+/// Writes the statement that `line` is in a ring of that many notices from the start of `out`, and answers its length.
 ///
 /// `None`, with `out` as it was, if `line` is the text of no statement that keeps the field rules or `out` is too short.
 #[inline]
-pub fn rewrite(line: &[u8], out: &mut [u8]) -> Option<usize> {
-    let length = ffi::statement_rewrite(line, out);
+pub fn rewrite(line: &[u8], notices: usize, out: &mut [u8]) -> Option<usize> {
+    let length = ffi::statement_rewrite(line, notices, out);
     (length > 0).then_some(length)
 }

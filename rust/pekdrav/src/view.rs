@@ -51,11 +51,34 @@ impl std::fmt::Debug for View {
     }
 }
 
-/// What a taken setup fixes for good: the initial view and the sender.
+/// A setup names no more notices.
+pub const NOTICES: usize = 64;
+
+/// What a taken setup fixes for good: the initial view, and the sender of each notice.
 #[derive(Clone, Copy, PartialEq, Eq, Hash, Debug)]
 pub struct Ring {
     /// The view that every history begins with.
     pub initial: View,
-    /// The one whose prepares count.
-    pub sender: u8,
+    /// The places after the last sender are 0.
+    pub(crate) senders: [u8; NOTICES],
+    pub(crate) count: u8,
+}
+
+impl Ring {
+    /// The ring with these senders, notice 0's first; those after the 64th do not count.
+    pub fn new(initial: View, senders: &[u8]) -> Ring {
+        Ring { initial, senders: padded(senders), count: senders.len().min(NOTICES) as u8 }
+    }
+
+    /// Those whose prepares count, by the number of the notice.
+    pub fn senders(&self) -> &[u8] {
+        &self.senders[..usize::from(self.count)]
+    }
+}
+
+/// The first 64 senders, and 0 after the last.
+pub(crate) fn padded(senders: &[u8]) -> [u8; NOTICES] {
+    let mut all = [0; NOTICES];
+    all.iter_mut().zip(senders).for_each(|(place, &sender)| *place = sender);
+    all
 }

@@ -16,16 +16,21 @@ pub const NOBODY: u8 = 16;
 const HEADER: &[u8] = b"line,who,answer,value\n";
 
 /// A schedule line that reads.
-#[derive(Clone, Copy, PartialEq, Eq, Debug)]
+#[derive(Clone, PartialEq, Eq, Debug)]
 pub enum Line {
     Setup {
         members: Set,
-        sender: u8,
+        /// By the number of the notice.
+        senders: Vec<u8>,
         faulty: Set,
     },
     Join(u8),
     Leave(u8),
-    Send(u8, u64),
+    Send {
+        k: u8,
+        notice: u8,
+        payload: u64,
+    },
     Give(u8, u64),
     All(u8),
     Turn(u8),
@@ -34,10 +39,10 @@ pub enum Line {
 }
 
 impl Line {
-    /// Reads a line without its newline.
-    pub fn read(line: &[u8]) -> Option<Line> {
+    /// Reads a line without its newline, in a ring whose reports have that many groups.
+    pub fn read(line: &[u8], groups: usize) -> Option<Line> {
         if let Some(text) = line.strip_prefix(b"lie,") {
-            return Some(Line::Lie(Statement::read(text)));
+            return Some(Line::Lie(Statement::read(text, groups)));
         }
         let mut parts = line.split(|&byte| byte == b',');
         let word = parts.next()?;
@@ -45,10 +50,15 @@ impl Line {
         let set = |part| read_hex(part, 4).map(|bits| bits as Set);
         let controller = |part| read_small(part).filter(|&number| number < CONTROLLERS);
         let read = match word {
-            b"setup" => Line::Setup { members: set(next()?)?, sender: read_small(next()?)?, faulty: set(next()?)? },
+            b"setup" => {
+                let members = set(next()?)?;
+                let count = read_small(next()?)?;
+                let senders = (0..count).map(|_| read_small(next()?)).collect::<Option<_>>()?;
+                Line::Setup { members, senders, faulty: set(next()?)? }
+            }
             b"join" => Line::Join(controller(next()?)?),
             b"leave" => Line::Leave(controller(next()?)?),
-            b"send" => Line::Send(controller(next()?)?, read_decimal(next()?)?),
+            b"send" => Line::Send { k: controller(next()?)?, notice: read_small(next()?)?, payload: read_decimal(next()?)? },
             b"give" => Line::Give(controller(next()?)?, read_decimal(next()?)?),
             b"all" => Line::All(controller(next()?)?),
             b"turn" => Line::Turn(controller(next()?)?),
@@ -59,10 +69,10 @@ impl Line {
 
     /// The controller that the line's row shows.
     fn who(&self) -> u8 {
-        match *self {
-            Line::Setup { sender, .. } => sender.min(NOBODY),
-            Line::Join(k) | Line::Leave(k) | Line::Send(k, _) | Line::Give(k, _) | Line::All(k) | Line::Turn(k) => k,
-            Line::Lie(statement) => statement.map_or(NOBODY, |statement| statement.origin),
+        match self {
+            Line::Setup { senders, .. } => senders.first().map_or(NOBODY, |&sender| sender.min(NOBODY)),
+            Line::Join(k) | Line::Leave(k) | Line::Send { k, .. } | Line::Give(k, _) | Line::All(k) | Line::Turn(k) => *k,
+            Line::Lie(statement) => statement.as_ref().map_or(NOBODY, |statement| statement.origin),
         }
     }
 }
@@ -75,7 +85,11 @@ pub enum Outcome {
     /// With the number of the statement.
     Signed(u64),
     Entered(View),
-    Delivered(u64),
+    /// Its row shows the payload alone.
+    Delivered {
+        notice: u8,
+        payload: u64,
+    },
     Left,
     Quiet,
     Refused(Refusal),
@@ -98,7 +112,7 @@ impl Row {
         let (word, value): (&[u8], u64) = match self.outcome {
             Outcome::Taken(value) => (b",taken,", value),
             Outcome::Signed(number) => (b",signed,", number),
-            Outcome::Delivered(payload) => (b",delivered,", payload),
+            Outcome::Delivered { payload, .. } => (b",delivered,", payload),
             Outcome::Left => (b",left,", 0),
             Outcome::Quiet => (b",quiet,", 0),
             Outcome::Refused(refusal) => (b",refused,", refusal as u64),
@@ -164,9 +178,14 @@ impl<R: Rules> Bench<R> {
         self.ready
     }
 
+    /// The number of groups that a report has, which is 1 before setup.
+    pub fn groups(&self) -> usize {
+        self.seats[0].controller.groups()
+    }
+
     /// Runs a line, given without its newline.
     pub fn step(&mut self, line: &[u8]) -> Row {
-        let Some(line) = Line::read(line) else {
+        let Some(line) = Line::read(line, self.groups()) else {
             return Row::UNREADABLE;
         };
         Row { who: line.who(), outcome: self.run(line) }
@@ -174,11 +193,11 @@ impl<R: Rules> Bench<R> {
 
     fn run(&mut self, line: Line) -> Outcome {
         match line {
-            Line::Setup { members, sender, faulty } => self.setup(members, sender, faulty),
+            Line::Setup { members, senders, faulty } => self.setup(members, &senders, faulty),
             _ if !self.ready => Outcome::Refused(Refusal::Unreadable),
             Line::Join(k) => outcome(self.seat(k).controller.join()),
             Line::Leave(k) => outcome(self.seat(k).controller.leave()),
-            Line::Send(k, payload) => outcome(self.seat(k).controller.send(payload)),
+            Line::Send { k, notice, payload } => outcome(self.seat(k).controller.send(notice, payload)),
             Line::Give(k, number) => self.give(k, number),
             Line::All(k) => self.give_all(k),
             Line::Turn(k) => self.turn(k),
@@ -190,23 +209,23 @@ impl<R: Rules> Bench<R> {
         &mut self.seats[usize::from(k)]
     }
 
-    fn setup(&mut self, members: Set, sender: u8, faulty: Set) -> Outcome {
-        // All sixteen judge a setup alike, so the first answer stands for all.
-        let answers: Vec<Answer> = self.seats.iter_mut().map(|seat| seat.controller.setup(members, sender)).collect();
-        if answers[0] == Answer::Taken {
+    fn setup(&mut self, members: Set, senders: &[u8], faulty: Set) -> Outcome {
+        // All sixteen judge a setup alike, so one answer stands for all.
+        let answer = self.seats.iter_mut().fold(Answer::Quiet, |_, seat| seat.controller.setup(members, senders));
+        if answer == Answer::Taken {
             self.faulty = faulty;
             self.ready = true;
         }
-        outcome(answers[0])
+        outcome(answer)
     }
 
     fn give(&mut self, k: u8, number: u64) -> Outcome {
         let number = usize::try_from(number).unwrap_or(usize::MAX);
-        let Some(&statement) = self.pool.statements().get(number) else {
+        let Some(statement) = self.pool.statements().get(number) else {
             return Outcome::Refused(Refusal::Unreadable);
         };
-        let seat = self.seat(k);
-        let answer = seat.controller.add(&statement);
+        let seat = &mut self.seats[usize::from(k)];
+        let answer = seat.controller.add(statement);
         seat.held[number] |= answer == Answer::Taken;
         outcome(answer)
     }
@@ -245,6 +264,9 @@ impl<R: Rules> Bench<R> {
         if self.faulty & alone(statement.origin) == 0 {
             return Outcome::Refused(Refusal::Unreadable);
         }
+        if usize::from(statement.notice()) >= self.groups() {
+            return Outcome::Refused(Refusal::Notice);
+        }
         if self.pool.holds(&statement) {
             return Outcome::Refused(Refusal::Present);
         }
@@ -260,7 +282,7 @@ fn outcome(answer: Answer) -> Outcome {
     match answer {
         Answer::Taken | Answer::Signed(_) => Outcome::Taken(0),
         Answer::Entered(view) => Outcome::Entered(view),
-        Answer::Delivered(payload) => Outcome::Delivered(payload),
+        Answer::Delivered { notice, payload } => Outcome::Delivered { notice, payload },
         Answer::Left => Outcome::Left,
         Answer::Quiet => Outcome::Quiet,
         Answer::Refused(refusal) => Outcome::Refused(refusal),

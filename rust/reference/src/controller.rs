@@ -2,10 +2,10 @@
 
 use std::marker::PhantomData;
 
-use crate::evidence::{is_quorum, Evidence};
+use crate::evidence::{is_quorum, Evidence, Known};
 use crate::record::Record;
 use crate::rules::{Document, Rules};
-use crate::statement::{Binding, Body, Fields, Report, Statement};
+use crate::statement::{Binding, Body, Fields, Report, Statement, Told, NOTICES};
 use crate::view::{alone, History, Set, View, CONTROLLERS};
 
 /// Why a call is refused; the number is the one that the bench prints.
@@ -19,32 +19,42 @@ pub enum Refusal {
     Candidates = 6,
     Conflict = 7,
     Unreadable = 8,
+    Notice = 9,
 }
 
 /// What a call answers.
-#[derive(Clone, Copy, PartialEq, Eq, Debug)]
+#[derive(Clone, PartialEq, Eq, Debug)]
 pub enum Answer {
     Taken,
     Signed(Statement),
     Entered(View),
-    Delivered(u64),
+    Delivered { notice: u8, payload: u64 },
     Left,
     Quiet,
     Refused(Refusal),
 }
 
 /// What a taken setup fixes for good.
-#[derive(Clone, Copy, PartialEq, Eq, Debug)]
+#[derive(Clone, PartialEq, Eq, Debug)]
 pub struct Ring {
     pub initial: View,
-    pub sender: u8,
+    /// By the number of the notice.
+    pub senders: Vec<u8>,
 }
 
-/// The requests that were taken.
+/// The requests that were taken and are about no notice.
 #[derive(Clone, Copy, PartialEq, Eq, Debug, Default)]
 pub struct Requests {
     pub join: bool,
     pub leave: bool,
+}
+
+/// What a controller has of one notice.
+#[derive(Clone, Copy, PartialEq, Eq, Debug, Default)]
+pub struct Notice {
+    pub binding: Binding,
+    pub delivered: bool,
+    /// The payload that is to be sent.
     pub send: Option<u64>,
 }
 
@@ -53,8 +63,8 @@ pub struct Controller<R = Document> {
     number: u8,
     ring: Option<Ring>,
     entered: Vec<View>,
-    binding: Binding,
-    delivered: bool,
+    /// By number; empty before setup.
+    notices: Vec<Notice>,
     requests: Requests,
     record: Record,
     rules: PhantomData<R>,
@@ -63,8 +73,12 @@ pub struct Controller<R = Document> {
 /// What the first rule that applies has a controller do.
 enum Step {
     Sign(Body),
-    Enter(View, Binding),
-    Deliver(u64),
+    /// With the bindings by the number of the notice.
+    Enter(View, Vec<Binding>),
+    Deliver {
+        notice: u8,
+        payload: u64,
+    },
     Rest,
 }
 
@@ -75,8 +89,7 @@ impl<R: Rules> Controller<R> {
             number,
             ring: None,
             entered: Vec::new(),
-            binding: Binding::Unbound,
-            delivered: false,
+            notices: Vec::new(),
             requests: Requests::default(),
             record: Record::default(),
             rules: PhantomData,
@@ -87,20 +100,22 @@ impl<R: Rules> Controller<R> {
         self.number
     }
 
-    pub fn ring(&self) -> Option<Ring> {
-        self.ring
+    pub fn ring(&self) -> Option<&Ring> {
+        self.ring.as_ref()
     }
 
     pub fn entered(&self) -> &[View] {
         &self.entered
     }
 
-    pub fn binding(&self) -> Binding {
-        self.binding
+    /// What it has of each notice, by number; nothing before setup.
+    pub fn notices(&self) -> &[Notice] {
+        &self.notices
     }
 
-    pub fn delivered(&self) -> bool {
-        self.delivered
+    /// The number of groups that a report has, which is 1 before setup.
+    pub fn groups(&self) -> usize {
+        self.ring.as_ref().map_or(1, |ring| ring.senders.len())
     }
 
     pub fn requests(&self) -> Requests {
@@ -111,13 +126,16 @@ impl<R: Rules> Controller<R> {
         &self.record
     }
 
-    pub fn setup(&mut self, members: Set, sender: u8) -> Answer {
-        let numbered = self.number < CONTROLLERS && sender < CONTROLLERS;
-        if self.ring.is_some() || members == 0 || !numbered {
+    /// Starts the controller in a ring with a sender for each notice.
+    pub fn setup(&mut self, members: Set, senders: &[u8]) -> Answer {
+        let numbered = self.number < CONTROLLERS && senders.iter().all(|&sender| sender < CONTROLLERS);
+        let counted = (1..=NOTICES).contains(&senders.len());
+        if self.ring.is_some() || members == 0 || !numbered || !counted {
             return Answer::Refused(Refusal::Setup);
         }
         let initial = View::new(members, 0);
-        self.ring = Some(Ring { initial, sender });
+        self.ring = Some(Ring { initial, senders: senders.to_vec() });
+        self.notices = vec![Notice::default(); senders.len()];
         if initial.has_member(self.number) {
             self.entered.push(initial);
         }
@@ -141,18 +159,24 @@ impl<R: Rules> Controller<R> {
         })
     }
 
-    pub fn send(&mut self, payload: u64) -> Answer {
-        let number = self.number;
-        self.request(|ring, requests, _| {
-            let allowed = ring.sender == number && requests.send.is_none();
-            requests.send = Some(payload);
-            allowed
-        })
+    pub fn send(&mut self, notice: u8, payload: u64) -> Answer {
+        let Some(ring) = &self.ring else {
+            return Answer::Refused(Refusal::Unreadable);
+        };
+        let place = usize::from(notice);
+        let (Some(&sender), Some(noted)) = (ring.senders.get(place), self.notices.get_mut(place)) else {
+            return Answer::Refused(Refusal::Notice);
+        };
+        if sender != self.number || noted.send.is_some() {
+            return Answer::Refused(Refusal::Request);
+        }
+        noted.send = Some(payload);
+        Answer::Taken
     }
 
     /// Notes a request if `note`, given also whether a view was entered, allows it.
-    fn request(&mut self, note: impl FnOnce(Ring, &mut Requests, bool) -> bool) -> Answer {
-        let Some(ring) = self.ring else {
+    fn request(&mut self, note: impl FnOnce(&Ring, &mut Requests, bool) -> bool) -> Answer {
+        let Some(ring) = &self.ring else {
             return Answer::Refused(Refusal::Unreadable);
         };
         let mut requests = self.requests;
@@ -164,24 +188,36 @@ impl<R: Rules> Controller<R> {
     }
 
     pub fn add(&mut self, statement: &Statement) -> Answer {
-        if self.ring.is_none() {
+        let Some(ring) = &self.ring else {
             return Answer::Refused(Refusal::Unreadable);
-        }
-        if !statement.keeps_field_rules() {
+        };
+        if !statement.keeps_field_rules(ring.senders.len()) {
             return Answer::Refused(Refusal::Statement);
+        }
+        if usize::from(statement.notice()) >= ring.senders.len() {
+            return Answer::Refused(Refusal::Notice);
         }
         if self.record.holds(statement) {
             return Answer::Refused(Refusal::Present);
         }
-        match self.record.push(*statement) {
+        match self.record.push(statement.clone()) {
             Some(_) => Answer::Taken,
             None => Answer::Refused(Refusal::Full),
         }
     }
 
+    /// Adds the statement that the text is.
+    pub fn add_text(&mut self, text: &[u8]) -> Answer {
+        self.add_read(Statement::read(text, self.groups()))
+    }
+
     /// Adds the statement that the fields stand for.
     pub fn add_fields(&mut self, fields: &Fields) -> Answer {
-        match Statement::from_fields(fields) {
+        self.add_read(Statement::from_fields(fields, self.groups()))
+    }
+
+    fn add_read(&mut self, read: Option<Statement>) -> Answer {
+        match read {
             Some(statement) => self.add(&statement),
             None if self.ring.is_none() => Answer::Refused(Refusal::Unreadable),
             None => Answer::Refused(Refusal::Statement),
@@ -195,10 +231,10 @@ impl<R: Rules> Controller<R> {
 
     /// A turn where `room` says whether a statement may go into the pool.
     pub fn turn_with(&mut self, room: impl FnOnce(&Statement) -> bool) -> Answer {
-        let Some(ring) = self.ring else {
+        let Some(ring) = &self.ring else {
             return Answer::Refused(Refusal::Unreadable);
         };
-        let evidence = Evidence::gather::<R>(ring.initial, ring.sender, self.record.statements());
+        let evidence = Evidence::gather::<R>(ring.initial, &ring.senders, self.record.statements());
         if evidence.conflict() {
             return Answer::Refused(Refusal::Conflict);
         }
@@ -215,14 +251,14 @@ impl<R: Rules> Controller<R> {
     fn take(&mut self, step: Step, top: View, room: impl FnOnce(&Statement) -> bool) -> Answer {
         match step {
             Step::Sign(body) => self.sign(body, room),
-            Step::Enter(view, binding) => {
+            Step::Enter(view, bindings) => {
                 self.entered.push(view);
-                self.binding = binding;
+                self.notices.iter_mut().zip(bindings).for_each(|(notice, binding)| notice.binding = binding);
                 Answer::Entered(view)
             }
-            Step::Deliver(payload) => {
-                self.delivered = true;
-                Answer::Delivered(payload)
+            Step::Deliver { notice, payload } => {
+                self.notices[usize::from(notice)].delivered = true;
+                Answer::Delivered { notice, payload }
             }
             Step::Rest if top.left() & alone(self.number) != 0 => Answer::Left,
             Step::Rest => Answer::Quiet,
@@ -235,10 +271,10 @@ impl<R: Rules> Controller<R> {
             return Answer::Refused(Refusal::Full);
         }
         // Only rule 5 signs an ack, and it binds; a refused signature leaves the binding as it was.
-        if let Body::Ack { payload, .. } = body {
-            self.binding = Binding::Bound(payload);
+        if let Body::Ack { notice, payload, .. } = statement.body {
+            self.notices[usize::from(notice)].binding = Binding::Bound(payload);
         }
-        self.record.push(statement);
+        self.record.push(statement.clone());
         Answer::Signed(statement)
     }
 }
@@ -246,7 +282,7 @@ impl<R: Rules> Controller<R> {
 /// A controller before a turn, with what its record shows.
 struct Situation<'a, R> {
     controller: &'a Controller<R>,
-    ring: Ring,
+    ring: &'a Ring,
     evidence: &'a Evidence,
     /// All candidates; they form a chain of at most 16 views here.
     candidates: History,
@@ -277,8 +313,20 @@ impl<R: Rules> Situation<'_, R> {
     }
 
     fn sign_once(&self, body: Body) -> Option<Step> {
-        let signed = self.controller.record.holds(&Statement::new(self.controller.number, body));
-        (!signed).then_some(Step::Sign(body))
+        let statement = Statement::new(self.controller.number, body);
+        let signed = self.controller.record.holds(&statement);
+        (!signed).then_some(Step::Sign(statement.body))
+    }
+
+    /// The notices, bit j for notice j, that `of` finds in the controller's own statements.
+    fn own_notices(&self, of: impl Fn(&Body) -> Option<u8>) -> u64 {
+        self.own().filter_map(of).fold(0, |notices, notice| notices | bit(notice))
+    }
+
+    /// What `rule` has the controller do for the least notice to which it applies.
+    fn least(&self, rule: impl Fn(u8, &Notice, &Known) -> Option<Step>) -> Option<Step> {
+        let all = self.controller.notices.iter().zip(&self.evidence.notices);
+        (0..).zip(all).find_map(|(notice, (mine, known))| rule(notice, mine, known))
     }
 
     /// Rule 1.
@@ -286,13 +334,13 @@ impl<R: Rules> Situation<'_, R> {
         let reported: Vec<View> = self.own().filter_map(|body| report_of(body).map(|report| report.at)).collect();
         let owes = |view: &&View| view.has_member(self.controller.number) && !reported.contains(view);
         let at = *self.greatest.below_top().iter().find(owes)?;
-        Some(Step::Sign(Body::Report(Report {
-            at,
-            view: self.evidence.wished,
-            binding: self.controller.binding,
-            kept: self.evidence.certificate().filter(|_| R::CERTIFICATE_REPORTED),
-            history: self.candidates,
-        })))
+        let all = self.controller.notices.iter().zip(&self.evidence.notices);
+        let tell = |(mine, known): (&Notice, &Known)| Told {
+            binding: mine.binding,
+            kept: known.certificate().filter(|_| R::CERTIFICATE_REPORTED),
+        };
+        let told = all.map(tell).collect();
+        Some(Step::Sign(Body::Report(Report { at, view: self.evidence.wished, told, history: self.candidates })))
     }
 
     /// Rule 2.
@@ -303,17 +351,18 @@ impl<R: Rules> Situation<'_, R> {
         let older = self.greatest.below_top();
         let older = if R::EVERY_OLDER_VIEW { older } else { &older[older.len().saturating_sub(1)..] };
         let mut reporters = [0 as Set; History::LIMIT];
-        let mut binding = self.controller.binding;
+        let mut bindings: Vec<Binding> = self.controller.notices.iter().map(|notice| notice.binding).collect();
         for Statement { origin, body } in self.controller.record.statements() {
             let Some(report) = report_of(body) else { continue };
             let Some(place) = older.iter().position(|view| *view == report.at) else { continue };
             if self.evidence.counts_by::<R>(*origin, report) {
                 reporters[place] |= alone(*origin);
-                binding = if R::BINDING_CARRIED { binding.join(report.binding) } else { binding };
+                let told = report.told.iter().filter(|_| R::BINDING_CARRIED);
+                bindings.iter_mut().zip(told).for_each(|(binding, told)| *binding = binding.join(told.binding));
             }
         }
         let quorum = |(view, reporters): (&View, &Set)| is_quorum::<R>(*view, *reporters);
-        older.iter().zip(&reporters).all(quorum).then_some(Step::Enter(self.top, binding))
+        older.iter().zip(&reporters).all(quorum).then_some(Step::Enter(self.top, bindings))
     }
 
     /// Rule 3.
@@ -335,34 +384,51 @@ impl<R: Rules> Situation<'_, R> {
 
     /// Rule 5.
     fn ack(&self) -> Option<Step> {
-        let acked = |body: &Body| matches!(body, Body::Ack { at, .. } if *at == self.top);
-        if !self.stands || self.own().any(acked) {
+        if !self.stands {
             return None;
         }
-        let prepared = || self.evidence.prepares.first().copied().filter(|_| self.top.has_member(self.ring.sender));
-        let payload = match self.controller.binding {
-            Binding::Bound(payload) if R::BINDING_KEPT => payload,
-            Binding::Barred if R::BINDING_KEPT => return None,
-            _ => prepared()?,
-        };
-        Some(Step::Sign(Body::Ack { at: self.top, payload }))
+        let acked = self.own_notices(|body| match *body {
+            Body::Ack { at, notice, .. } if at == self.top => Some(notice),
+            _ => None,
+        });
+        self.least(|notice, mine, known| {
+            let prepared = || known.prepares.first().copied().filter(|_| self.top.has_member(self.ring.senders[usize::from(notice)]));
+            let payload = match mine.binding {
+                _ if acked & bit(notice) != 0 => return None,
+                Binding::Bound(payload) if R::BINDING_KEPT => payload,
+                Binding::Barred if R::BINDING_KEPT => return None,
+                _ => prepared()?,
+            };
+            Some(Step::Sign(Body::Ack { at: self.top, notice, payload }))
+        })
     }
 
     /// Rule 6.
     fn store(&self) -> Option<Step> {
-        let payload = self.evidence.certificate()?;
-        let stored = |body: &Body| matches!(body, Body::Store { at, .. } if *at == self.top);
-        let due = self.stands && !self.own().any(stored);
-        due.then_some(Step::Sign(Body::Store { at: self.top, payload }))
+        if !self.stands {
+            return None;
+        }
+        let stored = self.own_notices(|body| match *body {
+            Body::Store { at, notice, .. } if at == self.top => Some(notice),
+            _ => None,
+        });
+        self.least(|notice, _, known| {
+            let payload = known.certificate().filter(|_| stored & bit(notice) == 0)?;
+            Some(Step::Sign(Body::Store { at: self.top, notice, payload }))
+        })
     }
 
     /// Rule 7.
     fn deliver(&self) -> Option<Step> {
-        let payload = self.evidence.certificate()?;
-        let Controller { number, entered, delivered, .. } = self.controller;
-        let present = !entered.is_empty() && self.top.left() & alone(*number) == 0;
-        let due = present && !(*delivered && R::DELIVERED_ONCE) && self.evidence.stored.contains(&payload);
-        due.then_some(Step::Deliver(payload))
+        let Controller { number, entered, .. } = self.controller;
+        if entered.is_empty() || self.top.left() & alone(*number) != 0 {
+            return None;
+        }
+        self.least(|notice, mine, known| {
+            let payload = known.certificate()?;
+            let due = !(mine.delivered && R::DELIVERED_ONCE) && known.stored.contains(&payload);
+            due.then_some(Step::Deliver { notice, payload })
+        })
     }
 
     /// Rule 8.
@@ -372,17 +438,34 @@ impl<R: Rules> Situation<'_, R> {
 
     /// Rule 9.
     fn leave(&self) -> Option<Step> {
-        let prepared = || self.own().any(|body| matches!(body, Body::Prepare { .. }));
-        let free = self.controller.delivered || (self.evidence.certificate().is_none() && !prepared());
-        (self.controller.requests.leave && free).then(|| self.sign_once(Body::Leave)).flatten()
+        if !self.controller.requests.leave {
+            return None;
+        }
+        let prepared = self.own_notices(|body| match *body {
+            Body::Prepare { notice, .. } => Some(notice),
+            _ => None,
+        });
+        let waits = |(notice, (mine, known)): (u8, (&Notice, &Known))| {
+            !mine.delivered && (known.certificate().is_some() || prepared & bit(notice) != 0)
+        };
+        let all = self.controller.notices.iter().zip(&self.evidence.notices);
+        (!(0..).zip(all).any(waits)).then(|| self.sign_once(Body::Leave)).flatten()
     }
 
     /// Rule 10.
     fn prepare(&self) -> Option<Step> {
-        let payload = self.controller.requests.send?;
-        let leaving = self.own().any(|body| *body == Body::Leave);
-        (self.stands && !leaving).then(|| self.sign_once(Body::Prepare { payload })).flatten()
+        let leaving = || self.own().any(|body| *body == Body::Leave);
+        let asked = self.controller.notices.iter().any(|mine| mine.send.is_some());
+        if !asked || !self.stands || leaving() {
+            return None;
+        }
+        self.least(|notice, mine, _| self.sign_once(Body::Prepare { notice, payload: mine.send? }))
     }
+}
+
+/// The set of one notice.
+fn bit(notice: u8) -> u64 {
+    1u64.checked_shl(u32::from(notice)).unwrap_or(0)
 }
 
 fn report_of(body: &Body) -> Option<&Report> {

@@ -2,10 +2,37 @@
 
 use crate::index::{hash_of, Index};
 use crate::rules::{Document, Rules};
-use crate::statement::{Binding, Body, Report, Statement};
+use crate::statement::{Binding, Body, Report, Statement, Told};
 use crate::view::{alone, History, Set, View};
 
-/// What a list of statements shows in a ring with a given initial view and sender.
+/// What a list of statements shows of one notice.
+#[derive(Clone, Debug, Default)]
+pub struct Known {
+    /// The payloads that have a certificate, each once.
+    pub certificates: Vec<u64>,
+    /// The payloads that a quorum of a sealed top stored, each once.
+    pub stored: Vec<u64>,
+    /// The payloads that the sender prepared, in order of arrival.
+    pub prepares: Vec<u64>,
+}
+
+impl Known {
+    pub fn certificate(&self) -> Option<u64> {
+        self.certificates.first().copied()
+    }
+
+    /// Whether what a report tells has its grounds here.
+    fn grounds<R: Rules>(&self, told: &Told) -> bool {
+        let bound = match told.binding {
+            Binding::Unbound => true,
+            Binding::Bound(payload) => self.prepares.contains(&payload),
+            Binding::Barred => self.prepares.iter().any(|payload| *payload != self.prepares[0]),
+        };
+        (bound || !R::PREPARED_ONLY) && told.kept.is_none_or(|payload| self.certificates.contains(&payload))
+    }
+}
+
+/// What a list of statements shows in a ring with a given initial view and a sender for each notice.
 #[derive(Clone, Debug)]
 pub struct Evidence {
     pub wished: View,
@@ -15,44 +42,30 @@ pub struct Evidence {
     pub sealed: Vec<History>,
     /// The tops of the sealed histories, each once.
     pub tops: Vec<View>,
-    /// The payloads that have a certificate, each once.
-    pub certificates: Vec<u64>,
-    /// The payloads that a quorum of a sealed top stored, each once.
-    pub stored: Vec<u64>,
-    /// The payloads that the sender prepared, in order of arrival.
-    pub prepares: Vec<u64>,
+    /// By the number of the notice.
+    pub notices: Vec<Known>,
 }
 
 impl Evidence {
-    pub fn of(initial: View, sender: u8, statements: &[Statement]) -> Evidence {
-        Evidence::gather::<Document>(initial, sender, statements)
+    pub fn of(initial: View, senders: &[u8], statements: &[Statement]) -> Evidence {
+        Evidence::gather::<Document>(initial, senders, statements)
     }
 
-    pub(crate) fn gather<R: Rules>(initial: View, sender: u8, statements: &[Statement]) -> Evidence {
-        let tally = Tally::count::<R>(sender, statements);
+    pub(crate) fn gather<R: Rules>(initial: View, senders: &[u8], statements: &[Statement]) -> Evidence {
+        let mut tally = Tally::count::<R>(senders, statements);
         let joined = initial.joined() | tally.joins;
         let wished = View::new(joined, initial.left() | (tally.leaves & joined));
         let shown = Shown::settle::<R>(initial, wished, &tally);
-        let voted = |votes: &Votes| shown.voted_at_tops::<R>(votes);
-        let mut certificates = voted(&tally.acks);
-        certificates.retain(|payload| !R::PREPARED_ONLY || tally.prepares.contains(payload));
-        let stored = voted(&tally.stores);
-        Evidence {
-            wished,
-            candidates: shown.candidates.list,
-            sealed: shown.sealed,
-            tops: shown.tops.list,
-            certificates,
-            stored,
-            prepares: tally.prepares,
-        }
+        let notices = shown.notices::<R>(&mut tally);
+        Evidence { wished, candidates: shown.candidates.list, sealed: shown.sealed, tops: shown.tops.list, notices }
     }
 
     /// Whether the statements contradict each other, which ends every turn with refusal 7.
     pub fn conflict(&self) -> bool {
         // Sorted by size, a list of views is a chain exactly if each lies within the next.
         let fork = self.candidates.windows(2).any(|pair| !pair[0].within(pair[1]));
-        fork || self.certificates.len() > 1 || self.greatest().is_none()
+        let torn = self.notices.iter().any(|known| known.certificates.len() > 1);
+        fork || torn || self.greatest().is_none()
     }
 
     /// The sealed history that holds every other, if the sealed histories form a chain.
@@ -61,26 +74,17 @@ impl Evidence {
         self.sealed.last().filter(|_| chain)
     }
 
-    pub fn certificate(&self) -> Option<u64> {
-        self.certificates.first().copied()
-    }
-
     /// Whether a report by `origin` counts.
     pub fn counts(&self, origin: u8, report: &Report) -> bool {
         self.counts_by::<Document>(origin, report)
     }
 
     pub(crate) fn counts_by<R: Rules>(&self, origin: u8, report: &Report) -> bool {
-        let grounded = match report.binding {
-            Binding::Unbound => true,
-            Binding::Bound(payload) => self.prepares.contains(&payload),
-            Binding::Barred => self.prepares.iter().any(|payload| *payload != self.prepares[0]),
-        };
-        (grounded || !R::PREPARED_ONLY)
-            && report.at.has_member(origin)
+        report.at.has_member(origin)
             && report.view.within(self.wished)
             && report.history.views().iter().all(|view| self.candidates.contains(view))
-            && report.kept.is_none_or(|payload| self.certificates.contains(&payload))
+            && report.told.len() == self.notices.len()
+            && self.notices.iter().zip(&*report.told).all(|(known, told)| known.grounds::<R>(told))
     }
 }
 
@@ -90,7 +94,7 @@ pub(crate) fn is_quorum<R: Rules>(at: View, signers: Set) -> bool {
     needed.is_some_and(|needed| signers.count_ones() >= needed)
 }
 
-/// The signers of each different vote, a vote being a view it is cast at and what it is for.
+/// The signers of each different vote, a vote being a view it is cast at, its notice, and what it is for.
 struct Votes {
     groups: Vec<Group>,
     index: Index,
@@ -98,6 +102,8 @@ struct Votes {
 
 struct Group {
     at: View,
+    /// 0 in votes that are about no notice.
+    notice: u8,
     choice: u64,
     signers: Set,
 }
@@ -107,17 +113,19 @@ impl Votes {
         Votes { groups: Vec::new(), index: Index::for_keys(votes) }
     }
 
-    fn cast<R: Rules>(&mut self, origin: u8, at: View, choice: u64) {
+    fn cast<R: Rules>(&mut self, origin: u8, at: View, notice: u8, choice: u64) {
         if R::MEMBERS_ONLY && !at.has_member(origin) {
             return;
         }
         let groups = &mut self.groups;
-        let same = |place: usize| groups[place].at == at && groups[place].choice == choice;
-        match self.index.find(hash_of(&(at, choice)), same) {
+        let same = |place: usize| groups[place].at == at && groups[place].notice == notice && groups[place].choice == choice;
+        // A view leaves half of a word free for the notice.
+        let place = u64::from(at.bits()) | u64::from(notice) << 32;
+        match self.index.find(hash_of(&(place, choice)), same) {
             Ok(place) => groups[place].signers |= alone(origin),
             Err(slot) => {
                 self.index.put(slot, groups.len());
-                groups.push(Group { at, choice, signers: alone(origin) });
+                groups.push(Group { at, notice, choice, signers: alone(origin) });
             }
         }
     }
@@ -151,7 +159,8 @@ impl<'a> Histories<'a> {
 struct Tally<'a> {
     joins: Set,
     leaves: Set,
-    prepares: Vec<u64>,
+    /// What was prepared; the rest is not known yet.
+    notices: Vec<Known>,
     views: Votes,
     histories: Votes,
     acks: Votes,
@@ -160,12 +169,12 @@ struct Tally<'a> {
 }
 
 impl<'a> Tally<'a> {
-    fn count<R: Rules>(sender: u8, statements: &'a [Statement]) -> Tally<'a> {
+    fn count<R: Rules>(senders: &[u8], statements: &'a [Statement]) -> Tally<'a> {
         let room = statements.len();
         let mut tally = Tally {
             joins: 0,
             leaves: 0,
-            prepares: Vec::new(),
+            notices: vec![Known::default(); senders.len()],
             views: Votes::with_room(room),
             histories: Votes::with_room(room),
             acks: Votes::with_room(room),
@@ -176,19 +185,30 @@ impl<'a> Tally<'a> {
             match body {
                 Body::Join => tally.joins |= alone(*origin),
                 Body::Leave => tally.leaves |= alone(*origin),
-                Body::AgreeView { at, view } => tally.views.cast::<R>(*origin, *at, view.bits().into()),
+                Body::AgreeView { at, view } => tally.views.cast::<R>(*origin, *at, 0, view.bits().into()),
                 Body::AgreeHistory { at, history } => {
                     let number = tally.named.number(history);
-                    tally.histories.cast::<R>(*origin, *at, number);
+                    tally.histories.cast::<R>(*origin, *at, 0, number);
                 }
                 Body::Report(_) => {}
-                Body::Prepare { payload } if *origin == sender => tally.prepares.push(*payload),
+                Body::Prepare { notice, payload } if senders.get(usize::from(*notice)) == Some(origin) => {
+                    tally.notices[usize::from(slot::<R>(*notice))].prepares.push(*payload);
+                }
                 Body::Prepare { .. } => {}
-                Body::Ack { at, payload } => tally.acks.cast::<R>(*origin, *at, *payload),
-                Body::Store { at, payload } => tally.stores.cast::<R>(*origin, *at, *payload),
+                Body::Ack { at, notice, payload } => tally.acks.cast::<R>(*origin, *at, slot::<R>(*notice), *payload),
+                Body::Store { at, notice, payload } => tally.stores.cast::<R>(*origin, *at, slot::<R>(*notice), *payload),
             }
         }
         tally
+    }
+}
+
+/// Where what is said of a notice is counted.
+fn slot<R: Rules>(notice: u8) -> u8 {
+    if R::NOTICES_APART {
+        notice
+    } else {
+        0
     }
 }
 
@@ -278,13 +298,35 @@ impl Shown {
             && vote.choice.views().iter().all(|view| self.candidates.contains(*view))
     }
 
-    /// The choices that a quorum of a sealed top made, each once.
-    fn voted_at_tops<R: Rules>(&self, votes: &Votes) -> Vec<u64> {
-        let at_tops = votes.quorums::<R>().filter(|group| self.tops.contains(group.at));
-        let mut choices: Vec<u64> = at_tops.map(|group| group.choice).collect();
-        choices.sort_unstable();
-        choices.dedup();
-        choices
+    /// What was prepared, certified and stored of each notice.
+    fn notices<R: Rules>(&self, tally: &mut Tally) -> Vec<Known> {
+        let mut notices = std::mem::take(&mut tally.notices);
+        for group in self.voted_at_tops::<R>(&tally.acks) {
+            let Some(known) = notices.get_mut(usize::from(group.notice)) else { continue };
+            if !R::PREPARED_ONLY || known.prepares.contains(&group.choice) {
+                known.certificates.push(group.choice);
+            }
+        }
+        for group in self.voted_at_tops::<R>(&tally.stores) {
+            let Some(known) = notices.get_mut(usize::from(group.notice)) else { continue };
+            known.stored.push(group.choice);
+        }
+        for known in &mut notices {
+            for payloads in [&mut known.certificates, &mut known.stored] {
+                payloads.sort_unstable();
+                payloads.dedup();
+            }
+        }
+        if !R::NOTICES_APART {
+            let all = notices[0].clone();
+            notices.fill(all);
+        }
+        notices
+    }
+
+    /// The votes of a quorum of a sealed top; one choice may come from several tops.
+    fn voted_at_tops<'a, R: Rules>(&'a self, votes: &'a Votes) -> impl Iterator<Item = &'a Group> {
+        votes.quorums::<R>().filter(|group| self.tops.contains(group.at))
     }
 }
 

@@ -13,9 +13,9 @@ pub mod text;
 pub mod view;
 
 pub use bench::{Bench, Outcome, Row};
-pub use controller::{Answer, Controller, Refusal};
-pub use evidence::Evidence;
+pub use controller::{Answer, Controller, Notice, Refusal};
+pub use evidence::{Evidence, Known};
 pub use record::Record;
 pub use rules::{Document, Rules};
-pub use statement::{Binding, Body, Fields, Report, Statement};
+pub use statement::{Binding, Body, Fields, Group, Report, Statement, Told, NOTICES};
 pub use view::{History, Set, View};

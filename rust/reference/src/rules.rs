@@ -18,7 +18,9 @@ pub trait Rules {
     const CERTIFICATE_REPORTED: bool = true;
     /// A controller that is bound acknowledges nothing else, and one that is barred nothing.
     const BINDING_KEPT: bool = true;
-    /// A delivery happens once.
+    /// What is said of one notice counts for no other.
+    const NOTICES_APART: bool = true;
+    /// A notice is delivered once.
     const DELIVERED_ONCE: bool = true;
 }
 

@@ -11,6 +11,6 @@ agreed-spec =
     (λ c κs. search needs) (λ c κs. search needs)
     (λ c. one _ (c .before .before .rule3 .ensures) (sym (c .before .acts .ensures) ∙ c .if1 .taken) (λ d X h. (h .1 .0, tt)))
     (λ c κs. search needs) (λ c κs. search needs)
-    (λ c. skip _ (c .before .before .before .before .before .rule3 .ensures) (sym (c .before .before .before .before .acts .ensures) ∙ c .before .before .before .if1 .left) (λ d X h. (h .1 .0, tt)) (one _ (c .before .before .rule4 .ensures) (sym (c .before .acts2 .ensures) ∙ c .if2 .taken) (λ d X h. h .1)))
+    (λ c. skip _ (c .before .before .before .before .before .rule3 .ensures) (sym (c .before .before .before .before .acts .ensures) ∙ c .before .before .before .if1 .left) (λ d X h. (h .1 .0, tt)) (one _ (c .before .before .rule4 .ensures) (sym (c .before .acts2 .ensures) ∙ c .if2 .taken) (λ d X h. (h .1 .0, (h .1 .1 .0, tt)))))
     (λ c κs. search needs)
-    (λ c. skip _ (c .before .before .before .before .before .before .rule3 .ensures) (sym (c .before .before .before .before .before .acts .ensures) ∙ c .before .before .before .before .if1 .left) (λ d X h. (h .1 .0, tt)) (skip _ (c .before .before .before .rule4 .ensures) (sym (c .before .before .acts2 .ensures) ∙ c .before .if2 .left) (λ d X h. h .1) (others (c .noticed .ensures) (λ d X h. (h .0, (h .1 .0, tt)))))))
+    (λ c. skip _ (c .before .before .before .before .before .before .rule3 .ensures) (sym (c .before .before .before .before .before .acts .ensures) ∙ c .before .before .before .before .if1 .left) (λ d X h. (h .1 .0, tt)) (skip _ (c .before .before .before .rule4 .ensures) (sym (c .before .before .acts2 .ensures) ∙ c .before .if2 .left) (λ d X h. (h .1 .0, (h .1 .1 .0, tt))) (others (c .noticed .ensures) (λ d X h. (h .0, (h .1 .0, h .1 .1 .1)))))))

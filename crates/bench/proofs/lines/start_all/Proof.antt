@@ -3,16 +3,17 @@ use mathlib.Core.Path.{refl}
 use mathlib.Core.List.{[]}
 use Prim.Native.Nat.{_-_, _≤_}
 use lib.ListN.{getD}
+use Rattle.engine.specs.Meaning.{firstSenders}
 use Rattle.bench.proofs.Starts.{StartedTo, started-none, started-next, started-all}
 use borrow.Author.Needs.{needs}
 use Rattle.bench.proofs.lines.start_all.Statement.{statement}
 use Rattle.bench.proofs.lines.start_all.Tie as tie
 
 abbrev Inv-loop : tie.InvT-loop
-Inv-loop records₀ members sender c seats₀ k₀ records seats k = (k ≤ 16) × StartedTo members sender k seats records
+Inv-loop records₀ members count senders c seats₀ k₀ records seats k = (k ≤ 16) × StartedTo members (firstSenders senders count) k seats records
 
 abbrev μ-loop : tie.MeasureT-loop
-μ-loop records₀ members sender c seats₀ k₀ records seats k = 16 - k
+μ-loop records₀ members count senders c seats₀ k₀ records seats k = 16 - k
 
 pub start-all-spec : {M : Type 1} → statement M
 start-all-spec =

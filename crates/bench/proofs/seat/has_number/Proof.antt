@@ -4,8 +4,7 @@ use mathlib.Core.Bool.{false}
 use Prim.Native.Nat.{_-_, _≤_}
 use lib.Dec.{eqb}
 use lib.ListN.{getD}
-use Rattle.protocol.specs.Lists.{any}
-use Rattle.views.specs.Table.{table}
+use Rattle.protocol.specs.Lists.{any, listOf}
 use Rattle.views.proofs.Tables.{any-zero}
 use Rattle.bench.proofs.Records.{number-next, listed-yes, listed-no}
 use borrow.Author.Needs.{needs}
@@ -13,7 +12,7 @@ use Rattle.bench.proofs.seat.has_number.Statement.{statement}
 use Rattle.bench.proofs.seat.has_number.Tie as tie
 
 abbrev Inv-loop : tie.InvT-loop
-Inv-loop ids n end i₀ i = (i ≤ end) × (any (eqb n) (table i (λ j. getD ids j 0)) ≡ false)
+Inv-loop ids n end i₀ i = (i ≤ end) × (any (eqb n) (listOf i (λ j. getD ids j 0)) ≡ false)
 
 abbrev μ-loop : tie.MeasureT-loop
 μ-loop ids n end i₀ i = end - i

@@ -3,8 +3,5 @@ use borrow.Author.Needs.{needs}
 use Rattle.engine.proofs.Controller.new.Statement.{statement}
 use Rattle.engine.proofs.Controller.new.Tie as tie
 
-returns : tie.Need-returns
-returns c = new-is _ (c .new .ensures .0)
-
 pub new-spec : {M : Type 1} → statement M
-new-spec = tie.close (tie.spec (λ c κs. search needs) returns)
+new-spec = tie.close (tie.spec (λ c κs. search needs) (λ c. new-is _ (c .new .ensures .0)))

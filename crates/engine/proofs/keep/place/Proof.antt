@@ -4,11 +4,5 @@ use borrow.Author.Needs.{needs}
 use Rattle.engine.proofs.keep.place.Statement.{statement}
 use Rattle.engine.proofs.keep.place.Tie as tie
 
-returns : tie.Need-returns
-returns c = record-full (omega (arith, c .before .record-length .ensures .0, c .if1 .taken))
-
-returns-2 : tie.Need-returns-2
-returns-2 c = pool-placed _ _ _ (c .before .before .before .before .args .st) (c .before .before .before .before .pre) (omega (arith, c .before .before .before .record-length .ensures .0, c .before .before .if1 .left)) _ (c .append .ensures)
-
 pub place-spec : {M : Type 1} → statement M
-place-spec = tie.close (tie.spec (λ c κs. search needs) returns (λ c κs. search needs) returns-2)
+place-spec = tie.close (tie.spec (λ c κs. search needs) (λ c. record-full (omega (arith, c .before .record-length .ensures .0, c .if1 .taken))) (λ c κs. search needs) (λ c. pool-placed _ _ _ (c .before .before .before .before .args .st) _ (c .before .before .before .before .pre) (omega (arith, c .before .before .before .record-length .ensures .0, c .before .before .if1 .left)) _ (c .append .ensures)))

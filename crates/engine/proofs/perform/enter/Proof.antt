@@ -4,8 +4,5 @@ use borrow.Author.Needs.{needs}
 use Rattle.engine.proofs.perform.enter.Statement.{statement}
 use Rattle.engine.proofs.perform.enter.Tie as tie
 
-returns : tie.Need-returns
-returns c = (refl, entering _ _ _ _ (c .before .push .ensures .0))
-
 pub enter-spec : {M : Type 1} → statement M
-enter-spec = tie.close (tie.spec (λ c κs. search needs) returns)
+enter-spec = tie.close (tie.spec (λ c κs. c .before .before .before .before .before .pre .settled) (λ c κs. search needs) (λ c. (refl, entering (c .before .before .before .before .before .before .before .before .before .before .before .args .c) _ _ _ _ (c .before .before .before .before .before .before .before .before .before .before .before .args .s) (c .before .before .before .before .before .before .before .before .before .before .before .pre) _ _ _ (c .before .before .before .push .ensures .0) (c .before .before .before .before .before .merged .ensures))))

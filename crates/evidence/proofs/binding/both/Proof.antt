@@ -1,4 +1,4 @@
-use Rattle.evidence.proofs.Merging as laws
+use Rattle.evidence.proofs.Merges as laws
 use borrow.Author.Needs.{needs}
 use Rattle.evidence.proofs.binding.both.Statement.{statement}
 use Rattle.evidence.proofs.binding.both.Tie as tie

@@ -1,5 +1,6 @@
 use borrow.Author.Needs.{needs}
 use mathlib.Core.Path.{sym, _∙_}
+use Rattle.evidence.proofs.Senders.{senders-most}
 use Rattle.evidence.proofs.summary.of_record.Statement.{statement}
 use Rattle.evidence.proofs.summary.of_record.Tie as tie
 
@@ -7,5 +8,7 @@ pub of-record-spec : {M : Type 1} → statement M
 of-record-spec =
     tie.close
     (tie.spec
-    (λ c κs. search needs) (λ c κs. search needs) (λ c. search needs) (λ c κs. search needs) (λ c κs. search needs)
-    (λ c. c .unvoted .ensures _ _ (sym (c .before .before .before .before .before .has-votes .ensures) ∙ c .before .before .before .before .if1 .left) (c .before .before .before .wished-by .ensures)))
+    (λ c κs. search needs) (λ c κs. search needs)
+    (λ c. c .of-votes .ensures)
+    (λ c κs. search needs) (λ c κs. search needs)
+    (λ c. c .unvoted .ensures _ _ _ (senders-most _ _) (sym (c .before .before .before .before .before .has-votes .ensures) ∙ c .before .before .before .before .if1 .left) (c .before .before .before .wished-by .ensures)))

@@ -3,6 +3,7 @@ use native.Mathlib.Omega.{arith}
 use Rattle.tables.proofs.Chains.{empty-made}
 use Rattle.sealing.proofs.Judged.{blank-made}
 use Rattle.pool.specs.Pool.{recordIn}
+use Rattle.evidence.proofs.Senders.{senders-most}
 use Rattle.evidence.proofs.Tied as laws
 use Rattle.evidence.proofs.summary.of_votes.Statement.{statement}
 use Rattle.evidence.proofs.summary.of_votes.Tie as tie
@@ -18,7 +19,7 @@ of-votes-spec =
     (λ c κs. c .before .before .before .before .before .before .before .before .before .before .before .tabulate .ensures .agreed .few)
     (λ c κs. search needs)
     (λ c κs. (record { choices = _; agreements = _; tables = c .before .before .before .before .before .before .before .before .before .before .before .before .before .before .before .before .before .before .tabulate .ensures; verdicts = c .before .before .before .before .before .before .before .before .before .before .before .before .before .before .verdicts .ensures }, c .before .before .before .before .end .ensures _ _ (c .before .before .before .before .before .before .before .before .before .before .before .before .before .before .before .before .before .before .before .before .before .before .gather .ensures .groups)))
-    (λ c κs. c .before .keep-backed .ensures)
-    (λ c κs. c .before .before .before .keep-backed .ensures)
+    (λ c κs. c .before .before .before .before .keep-backed .ensures)
+    (λ c κs. c .before .before .before .before .before .before .before .keep-backed .ensures)
     (λ c κs. search needs)
-    (λ c. c .tie .ensures _ _ (recordIn (c .before .before .before .before .before .before .before .before .before .before .before .before .before .before .before .before .before .before .before .before .before .before .before .before .before .before .before .before .before .before .before .before .args .words .now) (c .before .before .before .before .before .before .before .before .before .before .before .before .before .before .before .before .before .before .before .before .before .before .before .before .before .before .before .before .before .before .before .before .args .ids .now)) _ _ (c .before .before .before .before .before .before .before .before .before .before .before .before .before .before .before .before .before .before .before .before .before .before .before .before .before .before .before .before .gather .ensures .wished) (c .before .before .before .before .before .before .before .before .before .before .before .before .before .before .before .before .rank .ensures _ (laws.choices-marked _ _ _ _ _ _ _ _ (c .before .before .before .before .before .before .before .before .before .before .before .before .before .before .before .before .before .before .before .before .before .before .before .before .tabulate .ensures) (c .before .before .before .before .before .before .before .before .before .before .before .before .before .before .before .before .before .before .before .before .verdicts .ensures))) (c .before .before .before .before .before .before .before .before .before .before .before .before .climb .ensures _ (laws.agreements-marked _ _ _ _ _ _ _ _ (c .before .before .before .before .before .before .before .before .before .before .before .before .before .before .before .before .before .before .before .before .before .before .before .before .tabulate .ensures) (c .before .before .before .before .before .before .before .before .before .before .before .before .before .before .before .before .before .before .before .before .verdicts .ensures))) (c .before .before .before .certificate .ensures) (c .before .is-stored .ensures)))
+    (λ c. c .tie .ensures _ _ (recordIn (c .before .before .before .before .before .before .before .before .before .before .before .before .before .before .before .before .before .before .before .before .before .before .before .before .before .before .before .before .before .before .before .before .before .before .before .before .args .words .now) (c .before .before .before .before .before .before .before .before .before .before .before .before .before .before .before .before .before .before .before .before .before .before .before .before .before .before .before .before .before .before .before .before .before .before .before .before .args .ids .now)) _ _ _ (senders-most _ _) (c .before .before .before .before .before .before .before .before .before .before .before .before .before .before .before .before .before .before .before .before .before .before .before .before .before .before .before .before .before .before .before .before .gather .ensures .wished) (c .before .before .before .before .before .before .before .before .before .before .before .before .before .before .before .before .before .before .before .before .rank .ensures _ (laws.choices-marked _ _ _ _ _ _ _ _ (c .before .before .before .before .before .before .before .before .before .before .before .before .before .before .before .before .before .before .before .before .before .before .before .before .before .before .before .before .tabulate .ensures) (c .before .before .before .before .before .before .before .before .before .before .before .before .before .before .before .before .before .before .before .before .before .before .before .before .verdicts .ensures))) (c .before .before .before .before .before .before .before .before .before .before .before .before .before .before .before .before .climb .ensures _ (laws.agreements-marked _ _ _ _ _ _ _ _ (c .before .before .before .before .before .before .before .before .before .before .before .before .before .before .before .before .before .before .before .before .before .before .before .before .before .before .before .before .tabulate .ensures) (c .before .before .before .before .before .before .before .before .before .before .before .before .before .before .before .before .before .before .before .before .before .before .before .before .verdicts .ensures))) (c .before .before .before .before .certificates .ensures) (c .before .stored .ensures)))

@@ -8,4 +8,4 @@ unvoted-spec =
     tie.close
     (tie.spec
     (λ c κs. search needs) (λ c κs. search needs)
-    (λ c. λ sender X none w. laws.unvoted _ X none _ sender (c .before .before .before .before .args .candidates .now) (c .before .before .before .before .args .greatest .now) (c .before .before .start .ensures) (c .start2 .ensures) w))
+    (λ c. λ senders X P most none w. laws.unvoted _ X none _ senders (c .before .before .before .before .args .candidates .now) (c .before .before .before .before .args .greatest .now) P most (c .before .before .start .ensures) (c .start2 .ensures) w))

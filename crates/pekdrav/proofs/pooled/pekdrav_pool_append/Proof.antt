@@ -1,6 +1,5 @@
-use mathlib.Core.Path.{sym, _∙_}
 use borrow.Author.Tests.{not-true, not-false}
-use Rattle.host.proofs.Written.{not-read, not-kept}
+use Rattle.host.proofs.Written.{not-read}
 use Rattle.pekdrav.proofs.Placing.{stayed, went-in}
 use borrow.Author.Needs.{needs}
 use Rattle.pekdrav.proofs.pooled.pekdrav_pool_append.Statement.{statement}
@@ -10,16 +9,7 @@ use Rattle.pekdrav.proofs.pooled.pekdrav_pool_append.Lts as lts
 use Rattle.pekdrav.proofs.pooled.place_number.Reads as place-number-reads
 use Rattle.pool.proofs.append.Reads as append-reads
 use Rattle.statements.proofs.read.Reads as read-reads
-use Rattle.statements.proofs.keeps_field_rules.Reads as keeps-field-rules-reads
 
 pub pekdrav-pool-append-spec : {M : Type 1} → statement M
 pekdrav-pool-append-spec =
-    tie.close
-    (tie.spec
-    (λ c κs. search needs)
-    (λ c. stayed _ _ (not-read _ _ (c .before .before .read .ensures) (not-true _ (c .if1 .taken))))
-    (λ c κs. search needs)
-    (λ c. stayed _ _ (not-kept _ _ (c .before .before .before .before .before .read .ensures) _ (c .before .keeps-field-rules .ensures) (not-true _ (c .if2 .taken))))
-    (λ c κs. search needs)
-    (λ c κs. search needs)
-    (λ c. went-in _ _ (c .before .before .before .before .before .before .before .before .read .ensures) (not-false _ (c .before .before .before .before .before .before .if1 .left)) (sym (c .before .before .before .before .keeps-field-rules .ensures) ∙ not-false _ (c .before .before .before .if2 .left)) _ _ _ (c .before .append .ensures) _ (c .place-number .ensures)))
+    tie.close (tie.spec (λ c κs. search needs) (λ c. stayed _ _ _ (not-read _ _ _ _ (c .before .before .read .ensures) (not-true _ (c .if1 .taken)))) (λ c κs. search needs) (λ c κs. search needs) (λ c. went-in _ _ _ _ (c .before .before .before .before .before .before .before .read .ensures) (not-false _ (c .before .before .before .before .before .if1 .left)) _ _ _ (c .before .append .ensures) _ (c .place-number .ensures)))

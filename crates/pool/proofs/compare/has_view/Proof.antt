@@ -3,9 +3,8 @@ use native.Mathlib.Omega.{arith}
 use mathlib.Core.Path.{_≡_, sym, ap, _∙_}
 use mathlib.Core.Bool.{false}
 use Prim.Native.Nat.{_-_, _≤_}
-use Rattle.protocol.specs.Lists.{any}
+use Rattle.protocol.specs.Lists.{any, listOf}
 use Rattle.protocol.specs.View.{sameView}
-use Rattle.views.specs.Table.{table}
 use Rattle.views.specs.View.{viewOf}
 use Rattle.views.proofs.Tables.{any-zero, any-more, any-at}
 use Rattle.views.proofs.Views.{view-inj, same-yes, same-no}
@@ -15,7 +14,7 @@ use Rattle.pool.proofs.compare.has_view.Statement.{statement}
 use Rattle.pool.proofs.compare.has_view.Tie as tie
 
 abbrev Inv-loop : tie.InvT-loop
-Inv-loop words n t c p₀ p = (p ≤ c) × (any (sameView (viewOf t)) (table p (viewAt words n)) ≡ false)
+Inv-loop words n t c p₀ p = (p ≤ c) × (any (sameView (viewOf t)) (listOf p (viewAt words n)) ≡ false)
 
 abbrev μ-loop : tie.MeasureT-loop
 μ-loop words n t c p₀ p = c - p

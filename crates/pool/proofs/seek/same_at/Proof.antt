@@ -1,9 +1,10 @@
 use native.Mathlib.Omega.{arith}
 use mathlib.Core.Path.{sym, ap, _∙_}
+use borrow.Author.Tests.{not-true, not-false}
+use Rattle.views.specs.View.{viewOf}
 use Rattle.views.proofs.Views.{view-inj}
 use Rattle.statements.specs.Meaning.{stmtOf}
-use Rattle.pool.proofs.Searches.{differs, views-tell}
-use Rattle.views.specs.View.{viewOf}
+use Rattle.pool.proofs.Searches.{differs, views-tell, groups-same, groups-other}
 use borrow.Author.Needs.{needs}
 use Rattle.pool.proofs.seek.same_at.Statement.{statement}
 use Rattle.pool.proofs.seek.same_at.Tie as tie
@@ -24,17 +25,17 @@ returns-4 : tie.Need-returns-4
 unfolding stmtOf
 returns-4 c = differs (λ s. s .view) _ _ (λ q. c .if4 .taken (view-inj _ _ (omega arith) (omega arith) (c .before .before .word2 .ensures ∙ q ∙ sym (c .before .view .ensures))))
 
+returns-5 : tie.Need-returns-5
+unfolding stmtOf
+returns-5 c = differs (λ s. s .notice) _ _ (λ q. c .if5 .taken (q ∙ sym (c .before .notice .ensures .0)))
+
+returns-6 : tie.Need-returns-6
+unfolding stmtOf
+returns-6 c = groups-other _ _ _ (c .before .same-groups .ensures) (not-true _ (c .if6 .taken))
+
 returns-7 : tie.Need-returns-7
 unfolding stmtOf
-returns-7 c = differs (λ s. s .stored) _ _ (λ q. c .if7 .taken (c .before .before .flag .ensures .0 ∙ q ∙ sym (c .before .stored .ensures .0)))
-
-returns-8 : tie.Need-returns-8
-unfolding stmtOf
-returns-8 c = differs (λ s. s .kept) _ _ (λ q. c .if8 .taken (q ∙ sym (c .before .before .kept .ensures)))
-
-returns-9 : tie.Need-returns-9
-unfolding stmtOf
-returns-9 c = views-tell _ _ _ (c .before .before .before .before .before .before .before .before .before .before .before .before .before .before .before .before .before .before .before .before .before .before .before .before .before .if1 .left ∙ c .before .before .before .before .before .before .before .before .before .before .before .before .before .before .before .before .before .before .before .before .before .before .before .before .before .before .kind .ensures .0) (c .before .before .before .before .before .before .before .before .before .before .before .before .before .before .before .before .before .before .before .before .before .before .if2 .left ∙ c .before .before .before .before .before .before .before .before .before .before .before .before .before .before .before .before .before .before .before .before .before .before .before .origin .ensures .0) (sym (c .before .before .before .before .before .before .before .before .before .before .before .before .before .before .before .before .before .before .before .before .word .ensures) ∙ ap viewOf (c .before .before .before .before .before .before .before .before .before .before .before .before .before .before .before .before .before .before .if3 .left) ∙ c .before .before .before .before .before .before .before .before .before .before .before .before .before .before .before .before .before .before .before .at .ensures) (sym (c .before .before .before .before .before .before .before .before .before .before .before .before .before .before .before .before .word2 .ensures) ∙ ap viewOf (c .before .before .before .before .before .before .before .before .before .before .before .before .before .before .if4 .left) ∙ c .before .before .before .before .before .before .before .before .before .before .before .before .before .before .before .view .ensures) (sym (c .before .before .before .before .before .before .before .before .before .before .binding-number .ensures .0) ∙ c .before .before .before .before .before .before .before .before .if6 .left ∙ c .before .before .before .before .before .before .before .before .before .binding .ensures .0) (sym (c .before .before .before .before .before .before .before .before .before .before .before .before .before .payload-of .ensures) ∙ c .before .before .before .before .before .before .before .before .before .before .before .if5 .left ∙ c .before .before .before .before .before .before .before .before .before .before .before .before .payload .ensures) (sym (c .before .before .before .before .before .before .before .flag .ensures .0) ∙ c .before .before .before .before .before .if7 .left ∙ c .before .before .before .before .before .before .stored .ensures .0) (c .before .before .if8 .left ∙ c .before .before .before .before .kept .ensures) (c .same-history .ensures)
+returns-7 c = views-tell _ _ _ (c .before .before .before .before .before .before .before .before .before .before .before .before .before .before .before .before .before .before .if1 .left ∙ c .before .before .before .before .before .before .before .before .before .before .before .before .before .before .before .before .before .before .before .kind .ensures .0) (c .before .before .before .before .before .before .before .before .before .before .before .before .before .before .before .if2 .left ∙ c .before .before .before .before .before .before .before .before .before .before .before .before .before .before .before .before .origin .ensures .0) (sym (c .before .before .before .before .before .before .before .before .before .before .before .before .before .word .ensures) ∙ ap viewOf (c .before .before .before .before .before .before .before .before .before .before .before .if3 .left) ∙ c .before .before .before .before .before .before .before .before .before .before .before .before .at .ensures) (sym (c .before .before .before .before .before .before .before .before .before .word2 .ensures) ∙ ap viewOf (c .before .before .before .before .before .before .before .if4 .left) ∙ c .before .before .before .before .before .before .before .before .view .ensures) (c .before .before .before .before .if5 .left ∙ c .before .before .before .before .before .notice .ensures .0) (groups-same _ (c .before .before .before .same-groups .ensures) (not-false _ (c .before .before .if6 .left))) (c .same-history .ensures)
 
 pub same-at-spec : {M : Type 1} → statement M
 same-at-spec =
@@ -48,13 +49,9 @@ same-at-spec =
     returns-3
     (λ c κs. search needs) (λ c κs. search needs)
     returns-4
-    (λ c κs. search needs) (λ c κs. search needs)
-    (λ c. differs (λ s. s .payload) _ _ (λ q. c .if5 .taken (c .before .before .payload-of .ensures ∙ q ∙ sym (c .before .payload .ensures))))
-    (λ c κs. search needs) (λ c κs. search needs)
-    (λ c. differs (λ s. s .binding) _ _ (λ q. c .if6 .taken (c .before .before .binding-number .ensures .0 ∙ q ∙ sym (c .before .binding .ensures .0))))
-    (λ c κs. search needs) (λ c κs. search needs)
-    returns-7
+    (λ c. search needs) (λ c κs. search needs)
+    returns-5
+    (λ c κs. c .before .before .before .before .before .before .before .before .before .before .before .before .before .before .if1 .left ∙ c .before .before .before .before .before .before .before .before .before .before .before .before .before .before .before .kind .ensures .0)
+    returns-6
     (λ c κs. search needs)
-    returns-8
-    (λ c κs. search needs)
-    returns-9)
+    returns-7)

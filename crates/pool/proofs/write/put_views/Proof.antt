@@ -3,13 +3,14 @@ use native.Mathlib.Omega.{arith}
 use mathlib.Core.Path.{_≡_}
 use Prim.Native.Nat.{_-_, _≤_}
 use lib.Seq.{sets}
-use Rattle.views.specs.Table.{table}
-use Rattle.pool.proofs.Writes.{heldWord, word-of, none-written, one-written, wrote-views}
+use Rattle.protocol.specs.Lists.{listOf}
+use Rattle.pool.proofs.Rows.{none-written, one-written}
+use Rattle.pool.proofs.Writes.{heldWord, word-of, wrote-views}
 use Rattle.pool.proofs.write.put_views.Statement.{statement}
 use Rattle.pool.proofs.write.put_views.Tie as tie
 
 abbrev Inv-loop : tie.InvT-loop
-Inv-loop words₀ s n views p₀ words p = (p ≤ n) × (words ≡ sets words₀ s (table p (heldWord views)))
+Inv-loop words₀ s n views p₀ words p = (p ≤ n) × (words ≡ sets words₀ s (listOf p (heldWord views)))
 
 abbrev μ-loop : tie.MeasureT-loop
 μ-loop words₀ s n views p₀ words p = 16 - p

@@ -3,7 +3,7 @@ use native.Mathlib.Omega.{arith}
 use Prim.Native.Nat.{_-_, _≤_}
 use mathlib.Core.Path.{_≡_, sym, ap, _∙_}
 use lib.ListN.{length, length-set}
-use Rattle.views.specs.Table.{table}
+use Rattle.protocol.specs.Lists.{listOf}
 use Rattle.pool.specs.Pool.{viewAt}
 use Rattle.pool.proofs.Laws.{views-of}
 use Rattle.views.specs.View.{viewsOf}
@@ -12,7 +12,7 @@ use Rattle.ranking.proofs.histories.copy_views.Statement.{statement}
 use Rattle.ranking.proofs.histories.copy_views.Tie as tie
 
 abbrev Inv-loop : tie.InvT-loop
-Inv-loop words n out₀ c p₀ out p = (p ≤ c) × (length out ≡ 16) × (viewsOf out p ≡ table p (viewAt words n))
+Inv-loop words n out₀ c p₀ out p = (p ≤ c) × (length out ≡ 16) × (viewsOf out p ≡ listOf p (viewAt words n))
 
 abbrev μ-loop : tie.MeasureT-loop
 μ-loop words n out₀ c p₀ out p = c - p

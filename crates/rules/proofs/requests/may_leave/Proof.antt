@@ -1,7 +1,8 @@
-use Rattle.rules.proofs.Applied.{leave-late, leave-waits, leave-free}
+use Rattle.rules.proofs.Notices.{leave-may}
 use borrow.Author.Needs.{needs}
 use Rattle.rules.proofs.requests.may_leave.Statement.{statement}
 use Rattle.rules.proofs.requests.may_leave.Tie as tie
 
 pub may-leave-spec : {M : Type 1} → statement M
-may-leave-spec = tie.close (tie.spec (λ c. leave-late _ _ (c .if1 .taken)) (λ c. leave-waits _ _ _ (c .before .before .if1 .left) (c .if2 .taken)) (λ c κs. search needs) (λ c. leave-free _ _ _ _ (c .before .before .before .if1 .left) (c .before .if2 .left) (c .signed-kind .ensures)))
+may-leave-spec =
+    tie.close (tie.spec (λ c κs. search needs) (λ c κs. search needs) (λ c κs. search needs) (λ c κs. search needs) (λ c. leave-may _ _ _ _ _ (c .before .before .before .notices .ensures) (c .before .before .either .ensures) (c .before .except .ensures) (c .least .ensures)))

@@ -1,5 +1,4 @@
-use mathlib.Core.Path.{ap, sym, _∙_}
-use mathlib.Core.Bool.{Bool, _&&_}
+use mathlib.Core.Path.{sym, _∙_}
 use borrow.Author.Tests.{not-true, not-false}
 use Rattle.schedule.proofs.Lies.{not-lie, lie-told, after-comma, all-within}
 use borrow.Author.Needs.{needs}
@@ -11,8 +10,8 @@ lied-spec =
     tie.close
     (tie.spec
     (λ c. search needs) (λ c κs. search needs) (λ c. search needs) (λ c κs. search needs)
-    (λ c. not-lie (c .before .before .before .before .before .before .args .line .now) (sym (c .before .before .before .starts-with .ensures) ∙ not-true _ (c .before .before .if1 .taken)) _ (c .read .ensures))
+    (λ c. not-lie (c .before .before .before .before .before .before .before .args .line .now) _ _ _ (sym (c .before .before .before .before .starts-with .ensures) ∙ not-true _ (c .before .before .before .if1 .taken)) (c .read .ensures))
     (λ c. all-within (c .before .before .before .before .args .line .now) (sym (c .before .starts-with .ensures) ∙ not-false _ (c .if1 .left)))
     (λ c. all-within (c .before .before .before .before .args .line .now) (sym (c .before .starts-with .ensures) ∙ not-false _ (c .if1 .left)))
-    (λ c. search needs) (λ c κs. search needs) (λ c κs. search needs)
-    (λ c. lie-told (c .before .before .before .before .before .before .before .before .before .args .line .now) (c .before .before .before .read2 .result) (after-comma (c .before .before .before .before .before .before .before .before .before .args .line .now) _ (c .before .before .before .read2 .ensures)) (sym (c .before .before .before .before .before .before .starts-with .ensures) ∙ not-false _ (c .before .before .before .before .before .if1 .left)) _ (ap (λ (b : Bool). c .before .before .before .read2 .result .ok && b) (c .before .keeps-field-rules .ensures))))
+    (λ c. search needs) (λ c κs. search needs)
+    (λ c. lie-told (c .before .before .before .before .before .before .before .args .line .now) _ _ _ (sym (c .before .before .before .before .starts-with .ensures) ∙ not-false _ (c .before .before .before .if1 .left)) (after-comma (c .before .before .before .before .before .before .before .args .line .now) _ _ _ (c .read2 .ensures))))

@@ -1,5 +1,6 @@
-use borrow.Author.Tests.{not-true, not-false}
-use Rattle.schedule.proofs.Commands.{setup-some, setup-more, setup-none}
+use Rattle.schedule.proofs.Setups.{not-setup}
+use Rattle.schedule.specs.declared.verb.Verb.the-variants.{Setup}
+use Rattle.schedule.proofs.Commands.{begins-by, no-setup-word}
 use borrow.Author.Needs.{needs}
 use Rattle.schedule.proofs.line.read_setup.Statement.{statement}
 use Rattle.schedule.proofs.line.read_setup.Tie as tie
@@ -7,9 +8,4 @@ use Rattle.schedule.proofs.line.read_setup.Tie as tie
 pub read-setup-spec : {M : Type 1} → statement M
 read-setup-spec =
     tie.close
-    (tie.spec
-    (λ c κs. search needs) (λ c κs. search needs) (λ c κs. search needs)
-    (λ c. setup-more (c .before .before .before .before .before .before .args .line .now) _ _ _ (c .before .before .before .before .set-at .ensures) (c .before .before .before .number-at .ensures) (c .before .before .set-at2 .ensures) (c .before .before .before .before .before .before .pre) (c .if1 .taken))
-    (λ c. setup-none (c .before .before .before .before .before .before .before .before .args .line .now) _ _ _ (c .before .before .before .before .before .before .set-at .ensures) (c .before .before .before .before .before .number-at .ensures) (c .before .before .before .before .set-at2 .ensures) (c .before .before .before .before .before .before .before .before .pre) (not-true _ (c .if2 .taken)))
-    (λ c. search needs) (λ c. search needs) (λ c. search needs)
-    (λ c. setup-some (c .before .before .before .before .before .before .before .before .before .before .before .args .line .now) _ _ _ (c .before .before .before .before .before .before .before .before .before .set-at .ensures) (c .before .before .before .before .before .before .before .before .number-at .ensures) (c .before .before .before .before .before .before .before .set-at2 .ensures) (c .before .before .before .before .before .before .before .before .before .before .before .pre) (c .before .before .before .before .before .if1 .left) (not-false _ (c .before .before .before .if2 .left))))
+    (tie.spec (λ c κs. search needs) (λ c. search needs) (λ c κs. search needs) (λ c. not-setup (c .before .before .before .before .args .line .now) _ _ (c .before .before .verb-of .ensures) (no-setup-word _ (c .before .match .keys2)) _ (c .no-setup .ensures)) (λ c κs. begins-by (c .before .before .before .before .before .args .line .now) _ (c .before .before .before .verb-of .ensures) Setup (c .before .enum-told .given .1)) (λ c. search needs))

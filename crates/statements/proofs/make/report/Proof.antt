@@ -5,4 +5,4 @@ use Rattle.statements.proofs.make.report.Statement.{statement}
 use Rattle.statements.proofs.make.report.Tie as tie
 
 pub report-spec : {M : Type 1} → statement M
-report-spec = tie.close (tie.spec (λ c κs. search needs) (λ c. report-made _ (c .before .args .payload) refl refl (c .kept .ensures) (c .before .pre)))
+report-spec = tie.close (tie.spec (λ c κs. search needs) (λ c. report-made _ _ refl refl (c .shortened .ensures .1) (c .shortened .ensures .0)))

@@ -4,9 +4,8 @@ use mathlib.Core.Path.{_≡_, sym, _∙_}
 use mathlib.Core.Bool.{true}
 use Prim.Native.Nat.{_-_, _≤_}
 use borrow.Author.Tests.{not-true, not-false}
-use Rattle.protocol.specs.Lists.{all}
+use Rattle.protocol.specs.Lists.{all, listOf}
 use Rattle.protocol.specs.View.{hasMembers}
-use Rattle.views.specs.Table.{table}
 use Rattle.views.specs.Held.{heldAt}
 use Rattle.views.proofs.Tables.{all-zero, all-more, all-miss}
 use Rattle.views.proofs.Held.{of-history}
@@ -14,7 +13,7 @@ use Rattle.views.proofs.History.each_has_members.Statement.{statement}
 use Rattle.views.proofs.History.each_has_members.Tie as tie
 
 abbrev Inv-loop : tie.InvT-loop
-Inv-loop n views p₀ p = (p ≤ n) × (all (hasMembers 16) (table p (heldAt views)) ≡ true)
+Inv-loop n views p₀ p = (p ≤ n) × (all (hasMembers 16) (listOf p (heldAt views)) ≡ true)
 
 abbrev μ-loop : tie.MeasureT-loop
 μ-loop n views p₀ p = n - p

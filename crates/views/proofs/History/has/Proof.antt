@@ -3,9 +3,8 @@ use native.Mathlib.Omega.{arith}
 use mathlib.Core.Path.{_≡_, sym, _∙_}
 use mathlib.Core.Bool.{false}
 use Prim.Native.Nat.{_-_, _≤_}
-use Rattle.protocol.specs.Lists.{any}
+use Rattle.protocol.specs.Lists.{any, listOf}
 use Rattle.protocol.specs.View.{sameView}
-use Rattle.views.specs.Table.{table}
 use Rattle.views.specs.Held.{viewIs, heldAt}
 use Rattle.views.proofs.Tables.{any-zero, any-more, any-at}
 use Rattle.views.proofs.Held.{of-history}
@@ -13,7 +12,7 @@ use Rattle.views.proofs.History.has.Statement.{statement}
 use Rattle.views.proofs.History.has.Tie as tie
 
 abbrev Inv-loop : tie.InvT-loop
-Inv-loop v n views p₀ p = (p ≤ n) × (any (sameView (viewIs v)) (table p (heldAt views)) ≡ false)
+Inv-loop v n views p₀ p = (p ≤ n) × (any (sameView (viewIs v)) (listOf p (heldAt views)) ≡ false)
 
 abbrev μ-loop : tie.MeasureT-loop
 μ-loop v n views p₀ p = n - p

@@ -4,8 +4,8 @@ use mathlib.Core.Path.{_≡_, sym, _∙_}
 use mathlib.Core.Bool.{true}
 use Prim.Native.Nat.{_-_, _≤_}
 use borrow.Author.Tests.{not-true, not-false}
+use Rattle.protocol.specs.Lists.{listOf}
 use Rattle.protocol.specs.Statement.{isRising}
-use Rattle.views.specs.Table.{table}
 use Rattle.views.specs.Held.{heldAt}
 use Rattle.views.proofs.Histories.{rising-none, rising-one, rising-breaks, rising-more}
 use Rattle.views.proofs.Held.{of-history}
@@ -13,7 +13,7 @@ use Rattle.views.proofs.History.rising.Statement.{statement}
 use Rattle.views.proofs.History.rising.Tie as tie
 
 abbrev Inv-loop : tie.InvT-loop
-Inv-loop n views p₀ p = (1 ≤ p) × (p ≤ n) × (isRising 16 (table p (heldAt views)) ≡ true)
+Inv-loop n views p₀ p = (1 ≤ p) × (p ≤ n) × (isRising 16 (listOf p (heldAt views)) ≡ true)
 
 abbrev μ-loop : tie.MeasureT-loop
 μ-loop n views p₀ p = n - p

@@ -1,4 +1,5 @@
 use native.Mathlib.Omega.{arith}
+use mathlib.Core.Path.{sym, _∙_}
 use borrow.Author.Tests.{not-true, not-false}
 use Rattle.votes.proofs.Gathering.{sofar-skip, sofar-old, sofar-new}
 use borrow.Author.Needs.{needs}
@@ -11,7 +12,7 @@ add-spec =
     (tie.spec
     (λ c. search needs) (λ c. search needs) (λ c κs. search needs)
     (λ c. sofar-skip _ _ (c .before .before .before .pre .0) (c .before .before .before .pre .1) _ (c .before .is-vote .ensures) (not-true _ (c .if1 .taken)))
-    (λ c κs. search needs) (λ c κs. search needs) (λ c κs. search needs) (λ c. search needs) (λ c. search needs) (λ c κs. search needs) (λ c κs. search needs)
+    (λ c κs. search needs) (λ c κs. sym (c .before .before .is-vote .ensures) ∙ not-false _ (c .before .if1 .left)) (λ c κs. search needs) (λ c. search needs) (λ c. search needs) (λ c κs. search needs) (λ c κs. search needs)
     (λ c κs. search needs) (λ c. search needs) (λ c. search needs)
     (λ c. sofar-old _ _ (c .before .before .before .before .before .before .before .before .before .before .before .before .before .before .pre .0) (c .before .before .before .before .before .before .before .before .before .before .before .before .before .before .pre .1) (c .before .before .before .before .before .before .before .before .before .vote-of .result) _ _ _ (c .before .before .before .before .before .before .before .before .before .vote-of .ensures .0) (c .before .before .before .before .before .find .ensures) (c .before .before .before .before .before .before .before .before .before .before .origin .ensures .0) _ _ (c .before .before .before .before .if2 .taken) (c .before .before .signers-of .ensures) (c .before .note .ensures) (record { place = c .signed-by .ensures .0; tag = c .signed-by .ensures .1; signers = c .signed-by .ensures .2 }))
     (λ c κs. search needs) (λ c κs. search needs) (λ c κs. search needs) (λ c κs. search needs)

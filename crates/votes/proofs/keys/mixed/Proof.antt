@@ -2,7 +2,7 @@ use borrow.Author.Needs.{needs}
 use native.Mathlib.Omega.{arith}
 use mathlib.Core.Path.{_≡_, refl}
 use Prim.Native.Nat.{_+_, _-_, _*_, _≤_}
-use Rattle.views.specs.Table.{table}
+use Rattle.protocol.specs.Lists.{listOf}
 use Rattle.pool.specs.Pool.{viewAt}
 use Rattle.pool.proofs.Laws.{of-views, nth-fits}
 use Rattle.votes.specs.Keys.{mixFrom}
@@ -11,7 +11,7 @@ use Rattle.votes.proofs.keys.mixed.Statement.{statement}
 use Rattle.votes.proofs.keys.mixed.Tie as tie
 
 abbrev Inv-loop : tie.InvT-loop
-Inv-loop words n c h₀ p₀ h p = (p ≤ c) × (h + p ≤ p * 1152921504606846976) × (h ≡ mixFrom 0 0 (table p (viewAt words n)))
+Inv-loop words n c h₀ p₀ h p = (p ≤ c) × (h + p ≤ p * 1152921504606846976) × (h ≡ mixFrom 0 0 (listOf p (viewAt words n)))
 
 abbrev μ-loop : tie.MeasureT-loop
 μ-loop words n c h₀ p₀ h p = c - p
