@@ -97,12 +97,35 @@ static void check_pool(void) {
     CHECK(pekdrav_pool_append(&pool, bytes(report_line), strlen(report_line), 1) == PEKDRAV_NO_STATEMENT);
     CHECK(pekdrav_pool_append(&pool, bytes(report_line), strlen(report_line), 2) == 4);
     for (int payload = 0; payload < PEKDRAV_STATEMENTS - 5; payload++) {
-        int length = snprintf(line, sizeof line, "6,4,00000000,00000000,0,0,%d,0,0,0", payload);
+        int length = snprintf(line, sizeof line, "7,3,00080000,00000000,0,0,%d,0,0,0", payload);
         CHECK(pekdrav_pool_append(&pool, bytes(line), (size_t)length, 2) == payload + 5);
     }
     CHECK(pekdrav_pool_append(&pool, bytes("2,1,00000000,00000000,0,0,0,0,0,0"), 33, 2) == PEKDRAV_POOL_FULL);
     CHECK(pekdrav_statement_rewrite(bytes(join_line), strlen(join_line), 2, rows, sizeof rows) == strlen(join_line));
     CHECK(pekdrav_schedule_rows(bytes(""), 0, rows, sizeof rows) == strlen("line,who,answer,value\n0,16,refused,8\n"));
+}
+
+/* Over a pool of votes that all differ: the library works within the memory that it is lent, whatever that held. */
+static void check_workspace(void) {
+    static struct {
+        uint64_t before[8];
+        struct pekdrav_workspace work;
+        uint64_t after[8];
+    } lent;
+    static struct pekdrav_record all;
+    struct pekdrav_evidence told, again;
+    uint64_t initial = pekdrav_view(8, 0);
+    memset(&lent, 0xa5, sizeof lent);
+    for (uint16_t number = 0; number < PEKDRAV_STATEMENTS; number++) {
+        all.ids[number] = number;
+    }
+    all.count = PEKDRAV_STATEMENTS;
+    pekdrav_raw_record_evidence(&all, &pool, initial, 2, senders, lent.work.keys, lent.work.groups, &told);
+    pekdrav_record_evidence(&all, &pool, initial, 2, senders, &again);
+    CHECK(told.certified == 2 && told.payloads[1] == 7 && memcmp(&told, &again, sizeof told) == 0);
+    for (int i = 0; i < 8; i++) {
+        CHECK(lent.before[i] == 0xa5a5a5a5a5a5a5a5 && lent.after[i] == 0xa5a5a5a5a5a5a5a5);
+    }
 }
 
 int main(void) {
@@ -111,5 +134,6 @@ int main(void) {
     check_turns();
     check_record();
     check_pool();
+    check_workspace();
     return failed;
 }

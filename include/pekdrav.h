@@ -174,9 +174,6 @@ size_t pekdrav_schedule_rows(const uint8_t *schedule, size_t schedule_len, uint8
 
 /* Who signed a statement of this kind, an enum pekdrav_kind, at this view: bit k for controller k. */
 uint32_t pekdrav_record_signers(const struct pekdrav_record *record, const struct pekdrav_pool *pool, uint8_t kind, uint64_t at);
-/* Writes all of `out`. */
-void pekdrav_record_evidence(const struct pekdrav_record *record, const struct pekdrav_pool *pool, uint64_t initial, uint8_t count,
-                             const uint8_t senders[PEKDRAV_NOTICES], struct pekdrav_evidence *out);
 /* Writes what the record shows in lines, for a service screen, and answers the text's length; 0, with `out` as it was, if `out` has fewer than
  * PEKDRAV_SCREEN_MAX bytes. The lines: `wished,VIEW`; then `conflict` and nothing more, or `candidates,COUNT,VIEW,..` (`candidates,many` for more than
  * sixteen), `greatest,COUNT,VIEW,..` and for each notice that has a certificate `certificate,NOTICE,PAYLOAD,stored` (without the notice in a ring of one;
@@ -184,7 +181,12 @@ void pekdrav_record_evidence(const struct pekdrav_record *record, const struct p
 size_t pekdrav_record_screen(const struct pekdrav_record *record, const struct pekdrav_pool *pool, uint64_t initial, uint8_t count,
                              const uint8_t senders[PEKDRAV_NOTICES], uint8_t *out, size_t out_len);
 
-/* The calls of a controller as the library has them: fields and record are two pointers, and the answer is a byte. Use the functions below. */
+/* Calls as the library has them: a controller's fields and its record are two pointers, an answer is a byte, and the two arrays in which votes are gathered
+ * are the caller's. Nothing has to be in these before a call, and nothing in them counts afterwards. Use the functions below. */
+struct pekdrav_workspace {
+    uint64_t keys[2 * PEKDRAV_STATEMENTS];
+    uint64_t groups[PEKDRAV_STATEMENTS];
+};
 void pekdrav_raw_controller_init(struct pekdrav_fields *fields, struct pekdrav_record *record);
 uint8_t pekdrav_raw_controller_setup(struct pekdrav_fields *fields, struct pekdrav_record *record, uint8_t number, uint16_t members, uint8_t count,
                                      const uint8_t senders[PEKDRAV_NOTICES], struct pekdrav_value *value);
@@ -193,7 +195,11 @@ uint8_t pekdrav_raw_controller_leave(struct pekdrav_fields *fields, struct pekdr
 uint8_t pekdrav_raw_controller_send(struct pekdrav_fields *fields, uint8_t notice, uint64_t payload, struct pekdrav_value *value);
 uint8_t pekdrav_raw_controller_add(const struct pekdrav_fields *fields, struct pekdrav_record *record, struct pekdrav_pool *pool, const uint8_t *line,
                                    size_t line_len, struct pekdrav_value *value);
-uint8_t pekdrav_raw_controller_turn(struct pekdrav_fields *fields, struct pekdrav_record *record, struct pekdrav_pool *pool, struct pekdrav_value *value);
+uint8_t pekdrav_raw_controller_turn(struct pekdrav_fields *fields, struct pekdrav_record *record, struct pekdrav_pool *pool,
+                                    uint64_t keys[2 * PEKDRAV_STATEMENTS], uint64_t groups[PEKDRAV_STATEMENTS], struct pekdrav_value *value);
+void pekdrav_raw_record_evidence(const struct pekdrav_record *record, const struct pekdrav_pool *pool, uint64_t initial, uint8_t count,
+                                 const uint8_t senders[PEKDRAV_NOTICES], uint64_t keys[2 * PEKDRAV_STATEMENTS], uint64_t groups[PEKDRAV_STATEMENTS],
+                                 struct pekdrav_evidence *out);
 
 #ifdef __cplusplus
 }
@@ -203,6 +209,13 @@ uint8_t pekdrav_raw_controller_turn(struct pekdrav_fields *fields, struct pekdra
 static inline uint64_t pekdrav_view(uint32_t joined, uint32_t left) { return (uint64_t)left << 32 | joined; }
 static inline uint32_t pekdrav_view_joined(uint64_t view) { return (uint32_t)view; }
 static inline uint32_t pekdrav_view_left(uint64_t view) { return (uint32_t)(view >> 32); }
+
+/* All that a record shows in a ring of this initial view and of `count` notices, of which 64 count at most, with these senders. Writes all of `out`. */
+static inline void pekdrav_record_evidence(const struct pekdrav_record *record, const struct pekdrav_pool *pool, uint64_t initial, uint8_t count,
+                                           const uint8_t senders[PEKDRAV_NOTICES], struct pekdrav_evidence *out) {
+    struct pekdrav_workspace work;
+    pekdrav_raw_record_evidence(record, pool, initial, count, senders, work.keys, work.groups, out);
+}
 
 /* A controller before its setup. */
 static inline void pekdrav_controller_init(struct pekdrav_controller *controller) {
@@ -237,7 +250,8 @@ static inline enum pekdrav_answer pekdrav_controller_add(struct pekdrav_controll
 
 /* Does the first step that the rules allow. */
 static inline enum pekdrav_answer pekdrav_controller_turn(struct pekdrav_controller *controller, struct pekdrav_pool *pool, struct pekdrav_value *value) {
-    return (enum pekdrav_answer)pekdrav_raw_controller_turn(&controller->fields, &controller->record, pool, value);
+    struct pekdrav_workspace work;
+    return (enum pekdrav_answer)pekdrav_raw_controller_turn(&controller->fields, &controller->record, pool, work.keys, work.groups, value);
 }
 
 /* Whether it delivered this notice, and whether a send of it was requested; no for a notice that the setup lacks. */

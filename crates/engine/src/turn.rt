@@ -14,6 +14,8 @@ use crate::Refusal;
 use crate::calls;
 use crate::perform;
 use crate::situation;
+use evidence::GROUPS;
+use evidence::KEYS;
 use evidence::Ring;
 use pool::POOL_WORDS;
 use pool::RECORD;
@@ -66,8 +68,15 @@ fn ring_of(c: Controller) -> Ring
 
 impl Controller {
     // The first rule that applies is done, by the evidence e of the record. The block `told` is what a report of this turn would tell: of each notice the binding, and the
-    // certificate's payload. It is filled here and not in a function of its own, since each that is given a controller's bindings by value copies them.
-    pub fn turn(self, ids: &mut [u16; RECORD], words: &mut [u64; POOL_WORDS]) -> Outcome
+    // certificate's payload. It is filled here and not in a function of its own, since each that is given a controller's bindings by value copies them. The votes are
+    // gathered in memory that is lent, and that may hold anything.
+    pub fn turn_in(
+        self,
+        ids: &mut [u16; RECORD],
+        words: &mut [u64; POOL_WORDS],
+        keys: &mut [u64; KEYS],
+        groups: &mut [u64; GROUPS],
+    ) -> Outcome
         ensures { λ r. ⌜ Turns (now (words .entry)) (now (ids .entry)) self (protocol.turn (controllerIs self) (recordIn (now (words .entry)) (now (ids .entry))) (hasRoom (poolOf (now (words .entry))))) r (now (words .exit)) (now (ids .exit)) ⌝ }
     {
         if !self.ready {
@@ -83,6 +92,8 @@ impl Controller {
             ids,
             ring,
             &senders,
+            keys,
+            groups,
             &mut candidates,
             &mut greatest,
             &mut certs,
@@ -131,5 +142,14 @@ impl Controller {
             answer: perform::rest(s.left),
             controller: self,
         }
+    }
+
+    // The same in memory of its own, which is cleared first.
+    pub fn turn(self, ids: &mut [u16; RECORD], words: &mut [u64; POOL_WORDS]) -> Outcome
+        ensures { λ r. ⌜ Turns (now (words .entry)) (now (ids .entry)) self (protocol.turn (controllerIs self) (recordIn (now (words .entry)) (now (ids .entry))) (hasRoom (poolOf (now (words .entry))))) r (now (words .exit)) (now (ids .exit)) ⌝ }
+    {
+        let mut keys = [0u64; KEYS];
+        let mut groups = [0u64; GROUPS];
+        self.turn_in(ids, words, &mut keys, &mut groups)
     }
 }

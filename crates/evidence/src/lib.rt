@@ -13,6 +13,11 @@ pub use reports::reported;
 use statements::Binding;
 pub use summary::of_record;
 
+// The lengths of the two arrays that a record's votes are gathered in. They are lent, since an array that is declared is cleared, and here any words serve.
+pub const KEYS: usize = tables::KEYS;
+
+pub const GROUPS: usize = votes::GROUPS;
+
 // What of a ring never changes: its initial view, as a word, and how many notices it has. Who sends each of them is lent beside it.
 pub struct Ring {
     pub init: u64,

@@ -59,12 +59,14 @@ fn tie(wish: u64, r: Ranked, h: Summit, c: Certified, stored: u64) -> Evidence
 }
 
 // The evidence of a record, from its votes. The tables serve the gathering first and the search for what was prepared last, since each array that is declared is
-// cleared, which takes time.
+// cleared, which takes time. Those that are lent may hold anything.
 fn of_votes(
     words: &[u64; POOL_WORDS],
     ids: &[u16; RECORD],
     ring: Ring,
     senders: &[u8; NOTICES],
+    keys: &mut [u64; KEYS],
+    groups: &mut [u64; GROUPS],
     candidates: &mut [u64; View::LIMIT],
     greatest: &mut [u64; View::LIMIT],
     certs: &mut [u64; NOTICES],
@@ -72,30 +74,28 @@ fn of_votes(
     ensures { λ e. ⌜ EvidenceOf (ringIs ring) (sendersOf (now (senders .entry)) (ring .notices)) (recordIn (now (words .entry)) (now (ids .entry))) (now (candidates .exit)) (now (greatest .exit)) (now (certs .exit)) e ⌝ }
 {
     let init = ring.init;
-    let mut keys = [0u64; KEYS];
     let mut rows = [0u16; ROWS];
-    let mut groups = [0u64; GROUPS];
-    let found = votes::gather(words, ids, init, &mut keys, &mut rows, &mut groups);
-    let counts = votes::tabulate(words, ids, init, found, &groups, &mut keys, &mut rows);
+    let found = votes::gather(words, ids, init, keys, &mut rows, groups);
+    let counts = votes::tabulate(words, ids, init, found, groups, keys, &mut rows);
     let mut memo = [0u8; MEMO];
-    sealing::verdicts(words, ids, init, &keys, &rows, &mut memo, counts);
-    let r = ranking::rank(&keys, &memo, counts.choices, init, candidates);
+    sealing::verdicts(words, ids, init, keys, &rows, &mut memo, counts);
+    let r = ranking::rank(keys, &memo, counts.choices, init, candidates);
     let h = ranking::climb(words, &rows, &memo, counts.agreements, init, greatest);
-    certificates::end(&mut groups, found.groups);
-    let n = certificates::keep_backed(words, ids, init, &keys, &rows, &memo, &mut groups);
+    certificates::end(groups, found.groups);
+    let n = certificates::keep_backed(words, ids, init, keys, &rows, &memo, groups);
     let c = certificates::certificates(
         words,
         ids,
         init,
         ring.notices,
         senders,
-        &groups,
+        groups,
         n,
-        &mut keys,
+        keys,
         &mut rows,
         certs,
     );
-    let stored = certificates::stored(words, ids, init, &groups, n, c.some, certs);
+    let stored = certificates::stored(words, ids, init, groups, n, c.some, certs);
     tie(found.wished, r, h, c, stored)
 }
 
@@ -136,6 +136,8 @@ pub fn of_record(
     ids: &[u16; RECORD],
     ring: Ring,
     senders: &[u8; NOTICES],
+    keys: &mut [u64; KEYS],
+    groups: &mut [u64; GROUPS],
     candidates: &mut [u64; View::LIMIT],
     greatest: &mut [u64; View::LIMIT],
     certs: &mut [u64; NOTICES],
@@ -143,7 +145,17 @@ pub fn of_record(
     ensures { λ e. ⌜ EvidenceOf (ringIs ring) (sendersOf (now (senders .entry)) (ring .notices)) (recordIn (now (words .entry)) (now (ids .entry))) (now (candidates .exit)) (now (greatest .exit)) (now (certs .exit)) e ⌝ }
 {
     if votes::has_votes(words, ids) {
-        return of_votes(words, ids, ring, senders, candidates, greatest, certs);
+        return of_votes(
+            words,
+            ids,
+            ring,
+            senders,
+            keys,
+            groups,
+            candidates,
+            greatest,
+            certs,
+        );
     }
     unvoted(
         votes::wished_by(words, ids, ring.init),

@@ -7,6 +7,8 @@ ghost use Prim.Native.Nat.{ℕ};
 ghost use Rattle.engine.specs.Meaning.{firstSenders};
 ghost use Rattle.host.specs.Host.{Fresh, SetsUp, Joins, Leaves, Sends, TakesTurn, AddsText};
 use engine::Controller;
+use evidence::GROUPS;
+use evidence::KEYS;
 use host::FIELDS;
 use host::VALUES;
 use pool::POOL_WORDS;
@@ -92,16 +94,19 @@ pub extern "C" fn pekdrav_raw_controller_add(
     host::add_text(fields, ids, words, line, value)
 }
 
+// The votes of the record are gathered in `keys` and `groups`, which may hold anything.
 #[no_mangle]
 pub extern "C" fn pekdrav_raw_controller_turn(
     fields: &mut [u64; FIELDS],
     ids: &mut [u16; RECORD],
     words: &mut [u64; POOL_WORDS],
+    keys: &mut [u64; KEYS],
+    groups: &mut [u64; GROUPS],
     value: &mut [u64; VALUES],
 ) -> u8
     ensures { λ r. ⌜ TakesTurn (now (words .entry)) (now (words .exit)) (now (fields .entry)) (now (ids .entry)) r (now (fields .exit)) (now (ids .exit)) (now (value .exit)) ⌝ }
 {
     let c = host::load(fields);
-    let o = c.turn(ids, words);
+    let o = c.turn_in(ids, words, keys, groups);
     host::finish(fields, o, value)
 }

@@ -9,6 +9,8 @@ ghost use Rattle.pool.specs.Pool.{recordIn};
 ghost use Rattle.screen.specs.Screen.{ScreenShows};
 ghost use Rattle.evidence.specs.Notices.{sendersOf};
 ghost use Rattle.pekdrav.specs.Evidence.{sixteen, payloadsIn, toldOf};
+use evidence::GROUPS;
+use evidence::KEYS;
 use evidence::Ring;
 use pool::POOL_WORDS;
 use pool::RECORD;
@@ -105,13 +107,16 @@ fn tell_payloads(out: &mut [u64; TOLD_WORDS], certified: u64, certs: &[u64; NOTI
 // are more than sixteen candidates, the wished view, how many candidates and how many views of the greatest history follow, which notices have a certificate and of which of
 // them the payload is stored, as sets, and 0; from word 8 on the candidates, from 24 on the greatest history, from 40 on the payloads of the certificates. What is not told is 0:
 // after a conflict every word but 0 and 2, with more than sixteen candidates word 3 and the candidates, the payload of a notice without a certificate, and the words after the last view.
+// The votes are gathered in `keys` and `groups`, which may hold anything.
 #[no_mangle]
-pub extern "C" fn pekdrav_record_evidence(
+pub extern "C" fn pekdrav_raw_record_evidence(
     ids: &[u16; RECORD],
     words: &[u64; POOL_WORDS],
     init: u64,
     count: u8,
     senders: &[u8; NOTICES],
+    keys: &mut [u64; KEYS],
+    groups: &mut [u64; GROUPS],
     out: &mut [u64; TOLD_WORDS],
 )
     ensures { λ _. ⌜ now (out .exit) ≡ toldOf (ringOfWord init) (sendersOf (now (senders .entry)) count) (recordIn (now (words .entry)) (now (ids .entry))) ⌝ }
@@ -129,6 +134,8 @@ pub extern "C" fn pekdrav_record_evidence(
         ids,
         ring,
         senders,
+        keys,
+        groups,
         &mut candidates,
         &mut greatest,
         &mut certs,

@@ -145,7 +145,3 @@ last-named All t n = absurd (miss (0 ∷ 3 ∷ 4 ∷ 6 ∷ 7 ∷ 8 ∷ []) 5 tt 
 last-named Turn t n = refl
 last-named Lie t n = absurd n
 last-named Unknown t n = absurd n
-
--- any other word than a setup's
-pub no-setup-word : (v : Verb) → OneOf (1 ∷ 2 ∷ 3 ∷ 4 ∷ 5 ∷ 6 ∷ 7 ∷ 8 ∷ []) (tagOf verb.the-type v) → v ≡ Setup → ⊥
-no-setup-word v t e = miss (1 ∷ 2 ∷ 3 ∷ 4 ∷ 5 ∷ 6 ∷ 7 ∷ 8 ∷ []) 0 tt (subst (λ u. OneOf (1 ∷ 2 ∷ 3 ∷ 4 ∷ 5 ∷ 6 ∷ 7 ∷ 8 ∷ []) (tagOf verb.the-type u)) e t)

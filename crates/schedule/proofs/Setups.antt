@@ -22,11 +22,10 @@ use Rattle.statements.proofs.Sequence.{ok-before, Comma, each-stops, from-numbe
 use Rattle.schedule.specs.declared.line.Line.the-variants as is
 use Rattle.schedule.specs.declared.line.Parsed.the-variants.{Readable, Unreadable}
 use Rattle.schedule.specs.declared.line.ReadSetup.{ReadSetup}
-use Rattle.schedule.specs.declared.verb.Verb.{Verb}
 use Rattle.schedule.specs.declared.verb.Verb.the-variants.{Setup}
 use Rattle.schedule.specs.Line.{setup, setupWord, ended, Byte, Written}
-use Rattle.schedule.specs.Reading.{verbOf, SetAt, SendersIn, SenderPut, SendersAt, ReadsSetup, SetupOf, BeginsWith, Understood}
-use Rattle.schedule.proofs.Words.{begins, written-verb, reads-none}
+use Rattle.schedule.specs.Reading.{startsWith, verbOf, SetAt, SendersIn, SenderPut, SendersAt, ReadsSetup, SetupOf, BeginsWith, Understood}
+use Rattle.schedule.proofs.Words.{begins, ended-same, reads-none}
 use Rattle.schedule.proofs.Fields.{left-none}
 use Rattle.schedule.proofs.Commands.{follows, put-together}
 
@@ -183,11 +182,17 @@ setup-same T n m L f m′ L′ f′ w w′ =
     ap (λ (x : ℕ). setup x L f) em ∙ ap (λ (l : List ℕ). setup m′ l f) eL ∙ ap (setup m′ L′) ef
 
 -- a line with another word
-pub not-setup : (T S : List ℕ) (v : Verb) → v ≡ verbOf T → (v ≡ Setup → ⊥) → (r : ReadSetup) → r .ok ≡ false → SetupOf T S r
-not-setup T S v e d r o = record {
+pub not-setup : (T S : List ℕ) → startsWith T setupWord ≡ false → (r : ReadSetup) → r .ok ≡ false → SetupOf T S r
+unfolding startsWith
+not-setup T S e r o = record {
   told = λ y. absurd (false≢true (sym o ∙ y));
-  untold = λ _ n a L z w. d (e ∙ written-verb T n (setup a L z) w);
+  untold = λ _ n a L z w. false≢true (sym e ∙ ap (λ (t : List ℕ). startsWith t setupWord) (ended-same T (setupWord ++ setupText a L z) (w .4 ∙ ap ended (setup-parts a L z))));
 }
+
+-- a line with the word
+pub setup-begins : (T : List ℕ) → startsWith T setupWord ≡ true → BeginsWith Setup T
+unfolding verbOf
+setup-begins T e = record { word = rw e }
 
 -- ---- that it reads
 module _ (T : List ℕ) (by : BeginsWith Setup T) (S : List ℕ) (r : ReadSetup) (of : SetupOf T S r) where

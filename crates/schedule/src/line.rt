@@ -285,10 +285,9 @@ pub fn read_line(s: &[u8]) -> ReadLine
 pub fn read_setup(line: &[u8], senders: &mut [u8; NOTICES]) -> ReadSetup
     ensures { λ r. ⌜ SetupOf (now (line .entry)) (now (senders .exit)) r ⌝ }
 {
-    let verb = verb_of(line);
-    let Verb::Setup = verb else {
+    if !starts_with(line, b"setup") {
         return no_setup();
-    };
+    }
     setup_fields(line, senders)
 }
 

@@ -15,6 +15,8 @@ ghost use Rattle.evidence.specs.Notices.{sendersOf};
 ghost use Rattle.screen.specs.Screen.{wishedLine, candidatesLine, viewsLine, certificateLine, greatestWord, ScreenShows};
 ghost use Rattle.screen.specs.ScreenParts.{noticeText, keptOrStored, linesTo, certifiedText, linesOf, Few};
 use evidence::Evidence;
+use evidence::GROUPS;
+use evidence::KEYS;
 use evidence::Ring;
 use pool::POOL_WORDS;
 use pool::RECORD;
@@ -208,11 +210,15 @@ pub fn shown(
     let mut candidates = [0u64; View::LIMIT];
     let mut greatest = [0u64; View::LIMIT];
     let mut certs = [0u64; NOTICES];
+    let mut keys = [0u64; KEYS];
+    let mut groups = [0u64; GROUPS];
     let e = evidence::of_record(
         words,
         ids,
         ring,
         senders,
+        &mut keys,
+        &mut groups,
         &mut candidates,
         &mut greatest,
         &mut certs,

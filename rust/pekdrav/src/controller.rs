@@ -160,7 +160,7 @@ impl Controller {
     /// Does the first step that the rules allow.
     pub fn turn(&mut self, pool: &mut Pool) -> Answer {
         let Controller { fields, record } = self;
-        answered(|value| ffi::pekdrav_raw_controller_turn(fields, record, pool.words_mut(), value))
+        answered(|value| ffi::raw_controller_turn(fields, record, pool.words_mut(), value))
     }
 }
 

@@ -1,13 +1,31 @@
 //! The exports of `crates/pekdrav`, as `include/pekdrav.h` declares them for C; the only module with `unsafe` in it.
 
+use std::mem::MaybeUninit;
+
 use crate::controller::Fields;
 use crate::evidence::EvidenceWords;
-use crate::pool::POOL_WORDS;
+use crate::pool::{POOL_WORDS, STATEMENTS};
 use crate::record::Record;
 use crate::view::{Ring, NOTICES};
 
 /// A pool in memory.
 pub type Words = [u64; POOL_WORDS];
+
+type Keys = [u64; 2 * STATEMENTS];
+type Groups = [u64; STATEMENTS];
+
+/// The two arrays in which votes are gathered. Nothing has to be in them before a call, and nothing in them counts afterwards, so they are not cleared.
+struct Workspace {
+    keys: MaybeUninit<Keys>,
+    groups: MaybeUninit<Groups>,
+}
+
+impl Workspace {
+    #[inline]
+    fn new() -> Workspace {
+        Workspace { keys: MaybeUninit::uninit(), groups: MaybeUninit::uninit() }
+    }
+}
 
 /// What comes with an answer: its value, and the notice of a delivery.
 pub type Value = [u64; 2];
@@ -44,19 +62,28 @@ unsafe extern "C" {
         line_len: usize,
         value: &mut Value,
     ) -> u8;
-    pub safe fn pekdrav_raw_controller_turn(fields: &mut Fields, record: &mut Record, words: &mut Words, value: &mut Value) -> u8;
+    fn pekdrav_raw_controller_turn(
+        fields: &mut Fields,
+        record: &mut Record,
+        words: &mut Words,
+        keys: *mut Keys,
+        groups: *mut Groups,
+        value: &mut Value,
+    ) -> u8;
 
     pub safe fn pekdrav_pool_clear(words: &mut Words);
     fn pekdrav_pool_append(words: &mut Words, line: *const u8, line_len: usize, notices: usize) -> u16;
     fn pekdrav_pool_text(words: &Words, number: u16, out: *mut u8, out_len: usize) -> usize;
 
     pub safe fn pekdrav_record_signers(record: &Record, words: &Words, kind: u8, at: u64) -> u32;
-    pub safe fn pekdrav_record_evidence(
+    fn pekdrav_raw_record_evidence(
         record: &Record,
         words: &Words,
         initial: u64,
         count: u8,
         senders: &Senders,
+        keys: *mut Keys,
+        groups: *mut Groups,
         out: &mut EvidenceWords,
     );
     fn pekdrav_record_screen(
@@ -80,6 +107,13 @@ pub fn raw_controller_add(fields: &Fields, record: &mut Record, words: &mut Word
 }
 
 #[inline]
+pub fn raw_controller_turn(fields: &mut Fields, record: &mut Record, words: &mut Words, value: &mut Value) -> u8 {
+    let mut work = Workspace::new();
+    // SAFETY: the pointers are those of arrays that nobody else has, and any words in them serve; so in `record_evidence`.
+    unsafe { pekdrav_raw_controller_turn(fields, record, words, work.keys.as_mut_ptr(), work.groups.as_mut_ptr(), value) }
+}
+
+#[inline]
 pub fn pool_append(words: &mut Words, line: &[u8], notices: usize) -> u16 {
     // SAFETY: as above.
     unsafe { pekdrav_pool_append(words, line.as_ptr(), line.len(), notices) }
@@ -89,6 +123,14 @@ pub fn pool_append(words: &mut Words, line: &[u8], notices: usize) -> u16 {
 pub fn pool_text(words: &Words, number: u16, out: &mut [u8]) -> usize {
     // SAFETY: as above.
     unsafe { pekdrav_pool_text(words, number, out.as_mut_ptr(), out.len()) }
+}
+
+#[inline]
+pub fn record_evidence(record: &Record, words: &Words, ring: &Ring, out: &mut EvidenceWords) {
+    let (initial, count, senders) = (ring.initial.word(), ring.count, &ring.senders);
+    let mut work = Workspace::new();
+    // SAFETY: as in `raw_controller_turn`.
+    unsafe { pekdrav_raw_record_evidence(record, words, initial, count, senders, work.keys.as_mut_ptr(), work.groups.as_mut_ptr(), out) }
 }
 
 #[inline]

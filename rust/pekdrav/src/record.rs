@@ -76,7 +76,7 @@ impl Record {
     /// The same in memory that is lent, all of which is written.
     #[inline]
     pub fn evidence_into(&self, pool: &Pool, ring: &Ring, out: &mut EvidenceWords) {
-        ffi::pekdrav_record_evidence(self, pool.words(), ring.initial.word(), ring.count, &ring.senders, out);
+        ffi::record_evidence(self, pool.words(), ring, out);
     }
 
     /// What the record shows in a ring, in lines, for a service screen.

@@ -4,9 +4,9 @@ use Rattle.pekdrav.proofs.calls.pekdrav_raw_controller_turn.Statement.{
 use Rattle.pekdrav.proofs.calls.pekdrav_raw_controller_turn.Tie as tie
 use Rattle.pekdrav.proofs.calls.pekdrav_raw_controller_turn.Reads as reads
 use Rattle.pekdrav.proofs.calls.pekdrav_raw_controller_turn.Lts as lts
-use Rattle.engine.proofs.Controller.turn.Reads as turn-reads
+use Rattle.engine.proofs.Controller.turn_in.Reads as turn-in-reads
 use Rattle.host.proofs.finish.Reads as finish-reads
 use Rattle.host.proofs.load.Reads as load-reads
 
 pub pekdrav-raw-controller-turn-spec : {M : Type 1} → statement M
-pekdrav-raw-controller-turn-spec = tie.close (tie.spec (λ c κs. search needs) (λ c κs. search needs) (λ c κs. search needs) (λ c. turn-hosted _ (c .before .before .before .before .before .before .load .ensures) (c .finish .ensures) (c .before .before .before .turn .ensures)))
+pekdrav-raw-controller-turn-spec = tie.close (tie.spec (λ c κs. search needs) (λ c κs. search needs) (λ c κs. search needs) (λ c. turn-hosted _ (c .before .before .before .before .before .before .before .before .load .ensures) (c .finish .ensures) (c .before .before .before .turn-in .ensures)))
