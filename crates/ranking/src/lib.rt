@@ -16,8 +16,9 @@ pub struct Ranked {
     pub count: usize,
 }
 
-// How long the greatest sealed history is, or that two of them are apart.
+// How long the greatest sealed history is, or that two of them are apart; and the set of the places in it of the views that are skipped.
 pub struct Summit {
     pub conflict: bool,
     pub length: usize,
+    pub skipped: u32,
 }
