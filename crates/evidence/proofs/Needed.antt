@@ -16,7 +16,6 @@ use Rattle.protocol.specs.History.{top}
 use Rattle.protocol.proofs.Numbered.{listOf-cong}
 use Rattle.views.specs.View.{viewOf, viewsOf}
 use Rattle.ranking.proofs.Slots.{views-put}
-use Rattle.evidence.specs.declared.Evidence.{Evidence}
 use Rattle.evidence.specs.Reports.{RemainingOf}
 use Rattle.evidence.proofs.Listing.{filter-append, filter-one, byte-one}
 
@@ -64,8 +63,8 @@ module _ (t : View) (skipped : ℕ) (G L : List ℕ) (i m u : ℕ) (l : i < 16) 
         ∙ ap (λ w. filter test (viewsOf G i ++ (viewOf w ∷ []))) is);
   }
 
-pub needed-all : (R : Ring) (e : Evidence) (G L : List ℕ) (t : View) (i m : ℕ) → i ≡ e .length → e .length ≤ 16 → t ≡ top R (viewsOf G (e .length)) → NeededTo t (e .skipped) G L i m → RemainingOf R e G L m
-needed-all R e G L t i m at short topped g = record {
+pub needed-all : (R : Ring) (G L : List ℕ) (t : View) (i n skipped m : ℕ) → i ≡ n → n ≤ 16 → t ≡ top R (viewsOf G n) → NeededTo t skipped G L i m → RemainingOf R G n skipped L m
+needed-all R G L t i n skipped m at short topped g = record {
   most = omega (arith, g .most);
   are = λ p h. g .are p (λ j k. h j (omega arith)) ∙ ap₂ (λ t k. filter (λ u. below 16 u t && not (p u)) (viewsOf G k)) topped at;
 }

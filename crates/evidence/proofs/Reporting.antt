@@ -321,7 +321,7 @@ module _ (init : ℕ) (senders : List ℕ) (X : List Stmt) (C Gr P : List ℕ) (
         (λ s. swap (eqb (s .kind) 5) (eqb (s .origin) k) (sameView (s .at) u) (countsBy q C P K s) ∙ ap (λ c. eqb (s .origin) k && ((eqb (s .kind) 5 && sameView (s .at) u) && c)) (counts-is s))
 
     -- the views that need reports, in a list
-    module _ (L : List ℕ) (n : ℕ) (needed : RemainingOf R e Gr L n) where
+    module _ (L : List ℕ) (n : ℕ) (needed : RemainingOf R Gr (e .length) (e .skipped) L n) where
       remaining-is : viewsOf L n ≡ remainingViews R senders X
       unfolding remainingViews
       remaining-is =

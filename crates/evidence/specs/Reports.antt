@@ -56,11 +56,10 @@ module _ (q : Judge) (C P K : List ℕ) where
   unfoldable pub countsAmong : List View → Stmt → Bool
   countsAmong H s = isKind 5 s && any (sameView (s .at)) H && countsBy s
 
--- The first r words of L are those views of the greatest history, of which G has the words, that lie below its top and are not skipped, where the set of the evidence e has the skipped.
-pub record RemainingOf (R : protocol.Ring) (e : Evidence) (G L : List ℕ) (r : ℕ) : Type 0 where
+-- The first r words of L are those of the first n in G whose views lie below the last of these and are not skipped, where p tells the skipped and the set `skipped` their places.
+pub record RemainingOf (R : protocol.Ring) (G : List ℕ) (n skipped : ℕ) (L : List ℕ) (r : ℕ) : Type 0 where
   pub most : r ≤ 16
-  pub are : (p : View → Bool) → ((i : ℕ) → i < e .length → bit (e .skipped) i ≡ p (viewOf (getD G i 0)))
-      → viewsOf L r ≡ filter (λ u. below 16 u (top R (viewsOf G (e .length))) && not (p u)) (viewsOf G (e .length))
+  pub are : (p : View → Bool) → ((i : ℕ) → i < n → bit skipped i ≡ p (viewOf (getD G i 0))) → viewsOf L r ≡ filter (λ u. below 16 u (top R (viewsOf G n)) && not (p u)) (viewsOf G n)
 
 -- What a report is judged by can be read: there are not too many candidates and notices, and the rows of what was prepared are linked.
 pub record Usable (q : Judge) (K R : List ℕ) : Type 0 where

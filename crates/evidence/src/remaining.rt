@@ -7,7 +7,6 @@ ghost use Rattle.protocol.specs.View.{below};
 ghost use Rattle.protocol.specs.History.{top};
 ghost use Rattle.views.specs.View.{viewOf, ringOfWord, viewsOf};
 ghost use Rattle.evidence.specs.Reports.{RemainingOf};
-use crate::Evidence;
 use views::View;
 
 // The last of the first n views; the initial view, if there is none.
@@ -31,24 +30,24 @@ fn is_needed(u: u64, t: u64, skipped: u32, i: usize) -> bool
     !statements::has(skipped as u64, i)
 }
 
-// Lists them: how many. Every view is written, and stays only if it needs reports, so that the loop has no branch.
+// Lists those among its first n views: how many. Every view is written, and stays only if it needs reports, so that the loop has no branch.
 pub fn list(
     greatest: &[u64; View::LIMIT],
-    e: Evidence,
+    n: usize,
+    skipped: u32,
     init: u64,
     needed: &mut [u64; View::LIMIT],
 ) -> usize
-    requires { ⌜ e .length ≤ 16 ⌝ }
-    ensures { λ r. ⌜ RemainingOf (ringOfWord init) e (now (greatest .entry)) (now (needed .exit)) r ⌝ }
+    requires { ⌜ n ≤ 16 ⌝ }
+    ensures { λ r. ⌜ RemainingOf (ringOfWord init) (now (greatest .entry)) n skipped (now (needed .exit)) r ⌝ }
 {
     views::list_room(needed);
-    let n = e.length;
     let t = top_of(greatest, n, init);
     let mut count = 0usize;
     let mut i = 0usize;
     while i < n {
         let u = views::list_at(greatest, i);
-        let hit = is_needed(u, t, e.skipped, i);
+        let hit = is_needed(u, t, skipped, i);
         needed[count] = u;
         count += hit as usize;
         i += 1;

@@ -320,7 +320,7 @@ pub fn reported(
     let mut listed = [0u16; RECORD];
     reports_in(words, ids, &mut listed);
     let mut needed = [0u64; View::LIMIT];
-    let n = remaining::list(greatest, e, ring.init, &mut needed);
+    let n = remaining::list(greatest, e.length, e.skipped, ring.init, &mut needed);
     let mut i = 0usize;
     while i < n {
         let u = views::list_at(&needed, i);
