@@ -8,7 +8,6 @@ use Prim.Native.Nat.{ℕ, zero, suc, _+_, _≤_, _<_}
 use native.Mathlib.Decide.{decLt}
 use native.Mathlib.Numerals.{add-one}
 use native.Mathlib.Omega.{arith}
-use lib.Dec.{eqb}
 use lib.ListN.{length, getD}
 use borrow.Author.Tests.{eq-eqb, ne-eqb}
 use Rattle.protocol.specs.Sets.{bit}
@@ -17,17 +16,19 @@ use Rattle.protocol.specs.View.{View, Ring, sameView, below, size}
 use Rattle.protocol.specs.History.{top, Holds}
 use Rattle.protocol.specs.Evidence.{passesOver}
 use Rattle.protocol.proofs.Bits.{bit-zero}
-use Rattle.protocol.proofs.Says.{from-true, says-self, says-any}
 use Rattle.views.specs.View.{viewOf, ringOfWord}
 use Rattle.views.specs.Steps.{Noted}
-use Rattle.views.proofs.Views.{passes}
 use Rattle.views.proofs.Tables.{any-append}
 use Rattle.pool.specs.Pool.{countOf, viewAt, stmtAt}
 use Rattle.pool.proofs.Laws.{views-of}
 use Rattle.ranking.specs.Slots.{historyScale, occupied, Starts}
-use Rattle.ranking.specs.Ranking.{PassedOf}
+use Rattle.ranking.specs.Ranking.{PassedToo, PassedOf}
 use Rattle.ranking.proofs.Members.{Climbs, in-left, climbs-apart}
-use Rattle.ranking.proofs.Slots.{here-none, here-one, occupied-in}
+use Rattle.ranking.proofs.Slots.{here-none, here-one}
+
+any-last : {A : Type 0} (p : A → Bool) (l : List A) (a : A) → any p (l ++ (a ∷ [])) ≡ (any p l || p a)
+unfolding any
+any-last p l a = any-append p l (a ∷ []) ∙ ap (λ b. any p l || b) (or-false (p a))
 
 -- ---- a history that starts with another
 
@@ -63,73 +64,65 @@ starts-found W i j a c p e f l q same =
     let s = starts-listed (viewAt W i) c a l in
     record { rest = s .rest; is = sym (views-of W i a e) ∙ s .is ∙ ap (λ l. l ++ s .rest) (subst (λ p. listOf p (viewAt W i) ≡ listOf p (viewAt W j)) q same ∙ views-of W j c f) }
 
+-- ---- what one history passes over
+
+module _ (init : ℕ) (u t : View) (H : List View) (topped : t ≡ top (ringOfWord init) H) (b : Bool) (asked : b ≡ below 16 u t) where
+  parts : passesOver (ringOfWord init) u H ≡ (not (any (sameView u) H) && b)
+  unfolding passesOver
+  parts = ap (λ b. not (any (sameView u) H) && b) (sym (asked ∙ ap (below 16 u) topped))
+
+  pub passes-above : b ≡ false → false ≡ passesOver (ringOfWord init) u H
+  passes-above e = sym (parts ∙ ap (λ b. not (any (sameView u) H) && b) e ∙ and-false (not (any (sameView u) H)))
+
+  pub passes-lacking : (has : Bool) → b ≡ true → has ≡ any (sameView u) H → not has ≡ passesOver (ringOfWord init) u H
+  passes-lacking has e f = ap not f ∙ sym (parts ∙ ap (λ b. not (any (sameView u) H) && b) e ∙ and-true (not (any (sameView u) H)))
+
+module _ (R : Ring) (H : List View) (list : List ℕ) (seen : ℕ) where
+  -- the set r has, beside `seen`, the places below i
+  pub record TooTo (i r : ℕ) : Type 0 where
+    pub before : (j : ℕ) → j < i → bit r j ≡ (bit seen j || passesOver R (viewOf (getD list j 0)) H)
+    pub after : (j : ℕ) → i ≤ j → j < 16 → bit r j ≡ bit seen j
+
+  pub too-first : TooTo 0 seen
+  too-first = record { before = λ j l. absurd (omega arith); after = λ j l m. refl }
+
+  pub too-more : (i u so o r : ℕ) (hit : Bool) → i < 16 → u ≡ getD list i 0 → o ≡ i → hit ≡ passesOver R (viewOf u) H → Noted so hit o r → TooTo i so → TooTo (i + 1) r
+  too-more i u so o r hit l is at e n s = record {
+    before = λ j h. n .bits j (omega arith) ∙ elim (decLt j i) [
+      | yes m ↦ ap₂ (λ a b. a || hit && b) (s .before j m) (ne-eqb o j (λ q. omega arith)) ∙ idle (bit seen j || passesOver R (viewOf (getD list j 0)) H)
+      | no m ↦ (let q : i ≡ j = omega arith in
+          ap₂ (λ a b. a || hit && b) (s .after j (omega arith) (omega arith)) (eq-eqb o j (at ∙ q)) ∙ ap (λ b. bit seen j || b) (and-true hit ∙ e ∙ ap (λ v. passesOver R (viewOf v) H) (is ∙ ap (λ k. getD list k 0) q)))
+    ];
+    after = λ j h m. n .bits j m ∙ ap₂ (λ a b. a || hit && b) (s .after j (omega arith) m) (ne-eqb o j (λ q. omega arith)) ∙ idle (bit seen j);
+  }
+    where
+      idle : (a : Bool) → (a || hit && false) ≡ a
+      idle a = ap (λ b. a || b) (and-false hit) ∙ or-false a
+
+  pub too-all : (i n r : ℕ) → i ≡ n → TooTo i r → PassedToo R H list n seen r
+  too-all i n r e s = record { bits = λ j l. s .before j (omega arith) }
+
 -- ---- what the histories in the slots pass over
 
-module _ (init : ℕ) (W S : List ℕ) (u : View) where
-  abbrev passing : List View → Bool
-  passing H = passesOver (ringOfWord init) u H
+module _ (R : Ring) (W S list : List ℕ) (n : ℕ) where
+  abbrev passedTo : ℕ → ℕ → Type 0
+  passedTo k r = PassedOf R (occupied (historyScale W) S k) list n r
 
-  abbrev passedTo : ℕ → Bool
-  passedTo k = any passing (occupied (historyScale W) S k)
-
-  pub passed-first : passedTo 0 ≡ false
+  pub passed-first : passedTo 0 0
   unfolding any occupied
-  passed-first = refl
+  passed-first = record { bits = λ i l. bit-zero i }
 
-  module _ (k n c : ℕ) (is : n ≡ getD S k 0) (sized : c ≡ length (stmtAt W n .views)) where
-    pub passed-skip : (c ≡ k → ⊥) → passedTo k ≡ false → passedTo (k + 1) ≡ false
-    passed-skip d e = rw add-one (ap (any passing) (here-none (historyScale W) S k (λ h. d (sized ∙ ap (λ n. length (stmtAt W n .views)) is ∙ h))) ∙ e)
+  module _ (k m c seen : ℕ) (is : m ≡ getD S k 0) (sized : c ≡ length (stmtAt W m .views)) (s : passedTo k seen) where
+    pub passed-skip : (c ≡ k → ⊥) → passedTo (k + 1) seen
+    passed-skip d = rw add-one (subst (λ H. PassedOf R H list n seen) (sym (here-none (historyScale W) S k (λ h. d (sized ∙ ap (λ n. length (stmtAt W n .views)) is ∙ h)))) s)
 
-    module _ (there : c ≡ k) (r : Bool) (asked : r ≡ passing (stmtAt W n .views)) where
-      one-more : (b : Bool) → passedTo k ≡ b → passedTo (k + 1) ≡ (b || r)
-      unfolding any
-      one-more b e = rw add-one (
-          ap (any passing) (here-one (historyScale W) S k (ap (λ n. length (stmtAt W n .views)) (sym is) ∙ sym sized ∙ there)) ∙ any-append passing (occupied (historyScale W) S k) (stmtAt W (getD S k 0) .views ∷ [])
-          ∙ ap₂ _||_ e (or-false (passing (stmtAt W (getD S k 0) .views)) ∙ ap (λ n. passing (stmtAt W n .views)) (sym is) ∙ sym asked))
+    pub passed-more : (r : ℕ) → c ≡ k → PassedToo R (stmtAt W m .views) list n seen r → passedTo (k + 1) r
+    passed-more r e p = rw add-one (
+        subst (λ H. PassedOf R H list n r) (sym (here-one (historyScale W) S k (ap (λ n. length (stmtAt W n .views)) (sym is) ∙ sym sized ∙ e)))
+        (record { bits = λ i l. p .bits i l ∙ ap₂ (λ a n. a || passesOver R (viewOf (getD list i 0)) (stmtAt W n .views)) (s .bits i l) is ∙ sym (any-last (passesOver R (viewOf (getD list i 0))) (occupied (historyScale W) S k) (stmtAt W (getD S k 0) .views)) }))
 
-      pub passed-miss : r ≡ false → passedTo k ≡ false → passedTo (k + 1) ≡ false
-      passed-miss f e = one-more false e ∙ f
-
-      pub passed-hit : k < 17 → r ≡ true → true ≡ passedTo 17
-      passed-hit l f = sym (passes (says-any (λ H. says-self (passing H)) (occupied (historyScale W) S 17))
-          (stmtAt W (getD S k 0) .views, occupied-in (historyScale W) S 17 k l (ap (λ n. length (stmtAt W n .views)) (sym is) ∙ sym sized ∙ there), from-true (ap (λ n. passing (stmtAt W n .views)) (sym is) ∙ sym asked ∙ f)))
-
-  pub passed-end : (k : ℕ) → k ≡ 17 → passedTo k ≡ false → false ≡ passedTo 17
-  passed-end k e f = sym (ap passedTo (sym e) ∙ f)
-
--- the test of one history
-module _ (init : ℕ) (u : View) (H : List View) (has : Bool) (asked : has ≡ any (sameView u) H) where
-  pub passes-not : has ≡ true → false ≡ passesOver (ringOfWord init) u H
-  unfolding passesOver
-  passes-not e = sym (ap (λ b. not b && below 16 u (top (ringOfWord init) H)) (sym asked ∙ e))
-
-  pub passes-below : (t : View) (r : Bool) → has ≡ false → t ≡ top (ringOfWord init) H → r ≡ below 16 u t → r ≡ passesOver (ringOfWord init) u H
-  unfolding passesOver
-  passes-below t r e f g = g ∙ ap (below 16 u) f ∙ sym (ap (λ b. not b && below 16 u (top (ringOfWord init) H)) (sym asked ∙ e))
-
--- the set of those of a list, place by place
-module _ (R : Ring) (histories : List (List View)) (list : List ℕ) where
-  -- the set r has the places below i
-  pub record PassedTo (i r : ℕ) : Type 0 where
-    pub before : (j : ℕ) → j < i → bit r j ≡ any (passesOver R (viewOf (getD list j 0))) histories
-    pub after : (j : ℕ) → i ≤ j → j < 16 → bit r j ≡ false
-
-  pub places-first : PassedTo 0 0
-  places-first = record { before = λ j l. absurd (omega arith); after = λ j l m. bit-zero j }
-
-  pub places-more : (i u seen o r : ℕ) (hit : Bool) → i < 16 → u ≡ getD list i 0 → o ≡ i → hit ≡ any (passesOver R (viewOf u)) histories → Noted seen hit o r → PassedTo i seen → PassedTo (i + 1) r
-  places-more i u seen o r hit l is at e n s = record {
-    before = λ j h. n .bits j (omega arith) ∙ elim (decLt j i) [
-      | yes m ↦ (let z : eqb o j ≡ false = ne-eqb o j (λ q. omega arith) in
-          ap₂ (λ a b. a || hit && b) (s .before j m) z ∙ ap (λ b. any (passesOver R (viewOf (getD list j 0))) histories || b) (and-false hit) ∙ or-false (any (passesOver R (viewOf (getD list j 0))) histories))
-      | no m ↦ (let q : i ≡ j = omega arith in
-          ap₂ (λ a b. a || hit && b) (s .after j (omega arith) (omega arith)) (eq-eqb o j (at ∙ q)) ∙ and-true hit ∙ e ∙ ap (λ v. any (passesOver R (viewOf v)) histories) (is ∙ ap (λ k. getD list k 0) q))
-    ];
-    after = λ j h m. n .bits j m ∙ ap₂ (λ a b. a || hit && b) (s .after j (omega arith) m) (ne-eqb o j (λ q. omega arith)) ∙ and-false hit;
-  }
-
-  pub places-all : (i n r : ℕ) → i ≡ n → PassedTo i r → PassedOf R histories list n r
-  places-all i n r e s = record { bits = λ j l. s .before j (omega arith) }
+  pub passed-all : (k r : ℕ) → k ≡ n → passedTo k r → PassedOf R (occupied (historyScale W) S n) list n r
+  passed-all k r e s = subst (λ k. PassedOf R (occupied (historyScale W) S k) list n r) e s
 
 -- ---- a history that starts with H has no view that H passes over
 

@@ -5,9 +5,11 @@ use mathlib.Core.Logic.{_⊎_, inl, inr}
 use mathlib.Core.Bool.{Bool, true, false, not, _||_}
 use mathlib.Core.List.{List, [], _∷_, _++_, List·Memᴰ·cases-cons, List·Memᴰ·not-nil}
 use Prim.Native.Nat.{ℕ, _+_, _≤_, _<_}
+use native.Mathlib.Decide.{decLt}
 use native.Mathlib.Numerals.{add-one}
 use native.Mathlib.Omega.{arith}
 use lib.Dec.{T}
+use lib.ListN as list
 use lib.ListN.{length, getD, set}
 use Rattle.protocol.specs.Sets.{bit}
 use Rattle.protocol.specs.Lists.{_∈_, _⊆_, any, listOf}
@@ -30,8 +32,8 @@ use Rattle.pool.proofs.Laws.{views-of}
 use Rattle.ranking.specs.Slots.{historyScale, startScale, numberIn, sealMark, Starts, Stands, Slots, Clash, occupied, Broken, Chain}
 use Rattle.ranking.specs.Ranking.{FirstMarked, ChainOf, PassedOf, MarkedAgreements, HistoriesOf}
 use Rattle.ranking.proofs.Members.{Climbs, listOf-in, same-members}
-use Rattle.ranking.proofs.Slots.{views-put, occupied-in, occupied-out}
-use Rattle.ranking.proofs.Skips.{unpassed}
+use Rattle.ranking.proofs.Slots.{views-put, occupied-in, occupied-out, occupied-wide}
+use Rattle.ranking.proofs.Skips.{starts-same, unpassed}
 
 -- ---- lengths
 
@@ -161,7 +163,7 @@ module _ (init : ℕ) (X : List Stmt) where
     none-skipped : ((H : List View) → Sealed (ringOfWord init) X H → Starts G H) → (u : View) → u ∈ G → isSkipped (ringOfWord init) X u ≡ false
     none-skipped s u m = fails (says-skipped (ringOfWord init) X u) (λ k. over (k .sealed) (s (k .history) (k .sealed)) u m (k .lacks) (k .greater))
 
-    skipped-by : (histories : List (List View)) → ((H : List View) → H ∈ histories → Sealed (ringOfWord init) X H) → ((H : List View) → Sealed (ringOfWord init) X H → (H ≡ viewOf init ∷ []) ⊎ (H ∈ histories))
+    skipped-by : (histories : List (List View)) → ((H : List View) → H ∈ histories → Sealed (ringOfWord init) X H) → ((H : List View) → Sealed (ringOfWord init) X H → Starts G H ⊎ (H ∈ histories))
         → (u : View) → u ∈ G → any (passesOver (ringOfWord init) u) histories ≡ isSkipped (ringOfWord init) X u
     skipped-by histories out into u m =
         says-unique (says-map to from (says-any (says-passes (ringOfWord init) X u) histories)) (says-skipped (ringOfWord init) X u)
@@ -171,7 +173,7 @@ module _ (init : ℕ) (X : List Stmt) where
 
         from : Skipped (ringOfWord init) X u → (H : List View) × (H ∈ histories) × ((u ∈ H → ⊥) × Below 16 u (top (ringOfWord init) H))
         from k = elim (into (k .history) (k .sealed)) [
-          | inl e ↦ absurd (over (k .sealed) (subst (Starts G) (sym e) (starts-init g)) u m (k .lacks) (k .greater))
+          | inl s ↦ absurd (over (k .sealed) s u m (k .lacks) (k .greater))
           | inr i ↦ (k .history, i, (k .lacks, k .greater))
         ]
 
@@ -244,6 +246,22 @@ module _ (init : ℕ) (X : List Stmt) where
                     subst (λ G. Starts G H) (sym e) (d .under H (subst (λ H. H ∈ occupied (startScale W) S 17) f (occupied-in (startScale W) S 17 j l s)) .1))
               ]
 
-          pub summit : (r : ℕ) → PassedOf (ringOfWord init) shown out length r → HistoriesOf init X out (record { conflict = false; length = length; skipped = r })
+          -- those in the slots of fewer views are all but the greatest
+          abbrev shorter : List (List View)
+          shorter = occupied (historyScale W) S length
+
+          shorter-sealed : (H : List View) → H ∈ shorter → Sealed (ringOfWord init) X H
+          shorter-sealed H i = slot-sealed (occupied-wide (historyScale W) S length 17 (omega (arith, copied-short W out last length e)) H i)
+
+          in-shorter : (H : List View) → Sealed (ringOfWord init) X H → Starts (viewsOf out length) H ⊎ (H ∈ shorter)
+          in-shorter H h = elim (in-slots H h) [
+            | inl q ↦ inl (subst (Starts (viewsOf out length)) (sym q) (starts-init sealed))
+            | inr i ↦ (let (j, _, s, f) = occupied-out (historyScale W) S 17 i in elim (decLt j length) [
+              | yes l ↦ inr (subst (λ H. H ∈ shorter) f (occupied-in (historyScale W) S length j l s))
+              | no l ↦ inl (subst (λ K. Starts K H) (sym (held-level sealed h (omega (arith, held-shorter h (holds-each H h), views-count out length, s, ap list.length f)) (holds-each H h))) (starts-same H))
+            ])
+          ]
+
+          pub summit : (r : ℕ) → PassedOf (ringOfWord init) shorter out length r → HistoriesOf init X out (record { conflict = false; length = length; skipped = r })
           summit r p = greatest length r out sealed holds-each pairs
-              (λ u m i l q. p .bits i l ∙ ap (λ u. any (passesOver (ringOfWord init) u) shown) q ∙ skipped-by sealed shown (λ H. slot-sealed) in-slots u m)
+              (λ u m i l q. p .bits i l ∙ ap (λ u. any (passesOver (ringOfWord init) u) shorter) q ∙ skipped-by sealed shorter shorter-sealed in-shorter u m)

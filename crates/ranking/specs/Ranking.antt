@@ -33,6 +33,10 @@ pub record ChainOf (W S : List ℕ) (whole steady : Bool) (last : ℕ) : Type 0 
   pub bad : whole ≡ false → Broken (historyScale W) S 17
   pub starts : whole ≡ true → steady ≡ true → (some : Bool) × Chain (startScale W) S 17 some last
 
+-- r is the set `seen`, and the places too, among the first n words of a list, of the views that the history H passes over.
+pub record PassedToo (R : Ring) (H : List View) (list : List ℕ) (n seen r : ℕ) : Type 0 where
+  pub bits : (i : ℕ) → i < n → bit r i ≡ (bit seen i || passesOver R (viewOf (getD list i 0)) H)
+
 -- r is the set of the places, among the first n words of a list, of the views that one of the histories passes over.
 pub record PassedOf (R : Ring) (histories : List (List View)) (list : List ℕ) (n r : ℕ) : Type 0 where
   pub bits : (i : ℕ) → i < n → bit r i ≡ any (passesOver R (viewOf (getD list i 0))) histories

@@ -2,16 +2,15 @@
 ghost use mathlib.Core.Path.{_≡_};
 ghost use mathlib.Core.Bool.{true};
 ghost use mathlib.Core.List.{List};
-ghost use Prim.Native.Nat.{_≤_, _<_};
+ghost use Prim.Native.Nat.{ℕ, _≤_, _<_};
 ghost use lib.ListN.{getD, length};
-ghost use Rattle.protocol.specs.Lists.{any};
-ghost use Rattle.protocol.specs.History.{holds};
+ghost use Rattle.protocol.specs.History.{holds, top};
 ghost use Rattle.protocol.specs.Statement.{Stmt};
 ghost use Rattle.protocol.specs.Evidence.{passesOver};
 ghost use Rattle.pool.specs.Pool.{stmtAt};
 ghost use Rattle.views.specs.View.{viewOf, ringOfWord, viewsOf};
 ghost use Rattle.ranking.specs.Slots.{historyScale, numberIn, sealMark, occupied, Starts, Slots, Filled};
-ghost use Rattle.ranking.specs.Ranking.{FirstMarked, ChainOf, PassedOf, MarkedAgreements, HistoriesOf};
+ghost use Rattle.ranking.specs.Ranking.{FirstMarked, ChainOf, PassedToo, PassedOf, MarkedAgreements, HistoriesOf};
 use crate::MEMO;
 use crate::Summit;
 use pool::POOL_WORDS;
@@ -170,52 +169,61 @@ fn link_lengths(words: &[u64; POOL_WORDS], slots: &[u16; LENGTHS]) -> Links
     }
 }
 
-// Whether the history of statement n passes over u.
-fn passes_over(words: &[u64; POOL_WORDS], n: u16, init: u64, u: u64) -> bool
-    ensures { λ r. ⌜ r ≡ passesOver (ringOfWord init) (viewOf u) (stmtAt (now (words .entry)) n .views) ⌝ }
+// Whether the history of statement n, whose top is t, passes over u.
+fn passes_over(words: &[u64; POOL_WORDS], n: u16, t: u64, u: u64) -> bool
+    ensures { λ r. ⌜ ((init : ℕ) → viewOf t ≡ top (ringOfWord init) (stmtAt (now (words .entry)) n .views) → r ≡ passesOver (ringOfWord init) (viewOf u) (stmtAt (now (words .entry)) n .views)) ⌝ }
 {
-    if pool::has_view(words, n, u) {
+    if !views::below_view(u, t) {
         return false;
     }
-    views::below_view(u, pool::top_view(words, n, init))
+    !pool::has_view(words, n, u)
 }
 
-// Whether a history in the slots passes over u.
-fn is_passed(words: &[u64; POOL_WORDS], slots: &[u16; LENGTHS], init: u64, u: u64) -> bool
-    ensures { λ r. ⌜ r ≡ any (passesOver (ringOfWord init) (viewOf u)) (occupied (historyScale (now (words .entry))) (now (slots .entry)) 17) ⌝ }
+// The set `seen`, and the places too, among the first m views of a list, of those that the history of statement n passes over.
+fn passed_by(
+    words: &[u64; POOL_WORDS],
+    n: u16,
+    init: u64,
+    list: &[u64; View::LIMIT],
+    m: usize,
+    seen: u32,
+) -> u32
+    requires { ⌜ m ≤ 16 ⌝ }
+    ensures { λ r. ⌜ PassedToo (ringOfWord init) (stmtAt (now (words .entry)) n .views) (now (list .entry)) m seen r ⌝ }
 {
-    let mut k = 0usize;
-    while k < LENGTHS {
-        let n = number_at(slots, k);
-        if pool::count(words, n) != k {
-            k += 1;
-            continue;
-        }
-        if passes_over(words, n, init, u) {
-            return true;
-        }
-        k += 1;
+    let t = pool::top_view(words, n, init);
+    let mut all = seen;
+    let mut i = 0usize;
+    while i < m {
+        let hit = passes_over(words, n, t, views::list_at(list, i));
+        all = views::note(all, hit, i as u64);
+        i += 1;
     }
-    false
+    all
 }
 
-// The places, among the first n views of a list, of those that a history in the slots passes over.
+// The places, among the first m views of a list, of those that a history in the slots passes over that has fewer views than these.
 fn passed(
     words: &[u64; POOL_WORDS],
     slots: &[u16; LENGTHS],
     init: u64,
     list: &[u64; View::LIMIT],
-    n: usize,
+    m: usize,
 ) -> u32
-    requires { ⌜ n ≤ 16 ⌝ }
-    ensures { λ r. ⌜ PassedOf (ringOfWord init) (occupied (historyScale (now (words .entry))) (now (slots .entry)) 17) (now (list .entry)) n r ⌝ }
+    requires { ⌜ m ≤ 16 ⌝ }
+    ensures { λ r. ⌜ PassedOf (ringOfWord init) (occupied (historyScale (now (words .entry))) (now (slots .entry)) m) (now (list .entry)) m r ⌝ }
 {
     let mut seen = 0u32;
-    let mut i = 0usize;
-    while i < n {
-        let hit = is_passed(words, slots, init, views::list_at(list, i));
-        seen = views::note(seen, hit, i as u64);
-        i += 1;
+    let mut k = 0usize;
+    while k < m {
+        let n = number_at(slots, k);
+        if pool::count(words, n) != k {
+            k += 1;
+            continue;
+        }
+        let more = passed_by(words, n, init, list, m, seen);
+        seen = more;
+        k += 1;
     }
     seen
 }

@@ -9,6 +9,6 @@ passes-over-spec =
     tie.close
     (tie.spec
     (λ c κs. search needs)
-    (λ c. laws.passes-not _ _ _ _ (c .before .has-view .ensures) (c .if1 .taken))
-    (λ c κs. search needs) (λ c κs. search needs)
-    (λ c. laws.passes-below _ _ _ _ (c .before .before .before .has-view .ensures) _ _ (c .before .before .if1 .left) (c .before .top-view .ensures) (c .below-view .ensures)))
+    (λ c. λ init q. laws.passes-above init _ _ _ q _ (c .before .below-view .ensures) (not-true _ (c .if1 .taken)))
+    (λ c κs. search needs)
+    (λ c. λ init q. laws.passes-lacking init _ _ _ q _ (c .before .before .below-view .ensures) _ (not-false _ (c .before .if1 .left)) (c .has-view .ensures)))
