@@ -2,7 +2,7 @@
 
 use std::marker::PhantomData;
 
-use crate::evidence::{is_quorum, Evidence, Known};
+use crate::evidence::{is_quorum, skipped_by, Evidence, Known};
 use crate::record::Record;
 use crate::rules::{Document, Rules};
 use crate::statement::{Binding, Body, Fields, Report, Statement, Told, NOTICES};
@@ -350,19 +350,32 @@ impl<R: Rules> Situation<'_, R> {
         }
         let older = self.greatest.below_top();
         let older = if R::EVERY_OLDER_VIEW { older } else { &older[older.len().saturating_sub(1)..] };
+        let skipped: Vec<bool> = older.iter().map(|view| self.skips(*view)).collect();
+        let carried = R::BINDING_CARRIED && (R::SHORT_ROAD_BINDS || !skipped.contains(&true));
         let mut reporters = [0 as Set; History::LIMIT];
         let mut bindings: Vec<Binding> = self.controller.notices.iter().map(|notice| notice.binding).collect();
         for Statement { origin, body } in self.controller.record.statements() {
             let Some(report) = report_of(body) else { continue };
             let Some(place) = older.iter().position(|view| *view == report.at) else { continue };
-            if self.evidence.counts_by::<R>(*origin, report) {
+            let heard = !skipped[place] || !R::SKIPPED_UNHEARD;
+            if heard && self.evidence.counts_by::<R>(*origin, report) {
                 reporters[place] |= alone(*origin);
-                let told = report.told.iter().filter(|_| R::BINDING_CARRIED);
+                let told = report.told.iter().filter(|_| carried);
                 bindings.iter_mut().zip(told).for_each(|(binding, told)| *binding = binding.join(told.binding));
             }
         }
-        let quorum = |(view, reporters): (&View, &Set)| is_quorum::<R>(*view, *reporters);
-        older.iter().zip(&reporters).all(quorum).then_some(Step::Enter(self.top, bindings))
+        let enough = |place: usize| skipped[place] || is_quorum::<R>(older[place], reporters[place]);
+        (0..older.len()).all(enough).then_some(Step::Enter(self.top, bindings))
+    }
+
+    /// Whether entering needs no reports on the view.
+    fn skips(&self, view: View) -> bool {
+        let named = |Statement { body, .. }: &Statement| match body {
+            Body::AgreeHistory { history, .. } => skipped_by::<R>(view, history),
+            _ => false,
+        };
+        let unsealed = || !R::SKIPPED_BY_SEALED && self.controller.record.statements().iter().any(named);
+        R::VIEWS_SKIPPED && (self.evidence.skips_by::<R>(view) || unsealed())
     }
 
     /// Rule 3.

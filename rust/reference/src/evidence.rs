@@ -74,6 +74,15 @@ impl Evidence {
         self.sealed.last().filter(|_| chain)
     }
 
+    /// Whether some sealed history lacks the view and has a greater top, so that entering needs no reports on the view.
+    pub fn skips(&self, view: View) -> bool {
+        self.skips_by::<Document>(view)
+    }
+
+    pub(crate) fn skips_by<R: Rules>(&self, view: View) -> bool {
+        self.sealed.iter().any(|history| skipped_by::<R>(view, history))
+    }
+
     /// Whether a report by `origin` counts.
     pub fn counts(&self, origin: u8, report: &Report) -> bool {
         self.counts_by::<Document>(origin, report)
@@ -86,6 +95,12 @@ impl Evidence {
             && report.told.len() == self.notices.len()
             && self.notices.iter().zip(&*report.told).all(|(known, told)| known.grounds::<R>(told))
     }
+}
+
+/// Whether the history, if it is sealed, makes reports on the view needless.
+pub(crate) fn skipped_by<R: Rules>(view: View, history: &History) -> bool {
+    let passed = view.strictly_within(history.top()) || !R::SKIPPED_BY_GREATER;
+    passed && !(R::SKIPPED_BY_LACK && history.views().contains(&view))
 }
 
 /// Whether the signers make up a quorum of `at`.
