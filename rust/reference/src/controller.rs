@@ -368,14 +368,16 @@ impl<R: Rules> Situation<'_, R> {
         (0..older.len()).all(enough).then_some(Step::Enter(self.top, bindings))
     }
 
-    /// Whether entering needs no reports on the view.
+    /// Whether entering needs no reports on the view, which is one of the greatest history's.
     fn skips(&self, view: View) -> bool {
+        // The greatest history has all its own views, so only the others can lack one; it is the last of the sealed.
+        let others = self.evidence.sealed.split_last().map_or(&[][..], |(_, others)| others);
         let named = |Statement { body, .. }: &Statement| match body {
             Body::AgreeHistory { history, .. } => skipped_by::<R>(view, history),
             _ => false,
         };
         let unsealed = || !R::SKIPPED_BY_SEALED && self.controller.record.statements().iter().any(named);
-        R::VIEWS_SKIPPED && (self.evidence.skips_by::<R>(view) || unsealed())
+        R::VIEWS_SKIPPED && (others.iter().any(|history| skipped_by::<R>(view, history)) || unsealed())
     }
 
     /// Rule 3.

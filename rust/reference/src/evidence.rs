@@ -76,11 +76,7 @@ impl Evidence {
 
     /// Whether some sealed history lacks the view and has a greater top, so that entering needs no reports on the view.
     pub fn skips(&self, view: View) -> bool {
-        self.skips_by::<Document>(view)
-    }
-
-    pub(crate) fn skips_by<R: Rules>(&self, view: View) -> bool {
-        self.sealed.iter().any(|history| skipped_by::<R>(view, history))
+        self.sealed.iter().any(|history| skipped_by::<Document>(view, history))
     }
 
     /// Whether a report by `origin` counts.
