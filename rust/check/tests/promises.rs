@@ -36,9 +36,19 @@ fn attacks_within_the_premises_fail() {
 }
 
 #[test]
+fn runs_past_skipped_views_keep_the_promises_and_take_the_short_road() {
+    let totals = soak("skips", 1, 700, 600).unwrap();
+    println!("skips: {totals}");
+    assert!(totals.failed.is_empty(), "{:?}", totals.failed);
+    assert_eq!(totals.within_premises, totals.runs);
+    assert!(totals.short_roads * 5 > totals.runs * 2 && totals.bound_otherwise * 4 > totals.runs);
+    assert!(totals.late * 4 > totals.runs && totals.two_notices > 30 && totals.most.short_roads >= 10);
+}
+
+#[test]
 fn rings_of_each_number_of_notices_keep_the_promises() {
     for notices in [1, 2, 5, 64] {
-        for style in ["honest", "liars", "attack"] {
+        for style in ["honest", "liars", "attack", "skips"] {
             let totals = soak(&format!("{style}-{notices}"), 1, 40, 800).unwrap();
             println!("{style}-{notices}: {totals}");
             assert!(totals.failed.is_empty(), "{style}-{notices}: {:?}", totals.failed);
@@ -73,6 +83,8 @@ fn agrees(run: &Run, statements: &[Statement]) {
     same(&fast.tops, slow.tops());
     assert_eq!(fast.sealed.len(), slow.sealed_histories().len());
     assert!(fast.sealed.iter().all(|history| slow.is_sealed(history)));
+    assert!(fast.candidates.iter().all(|view| fast.skips(*view) == slow.is_skipped(*view)));
+    assert!(fast.conflict() || fast.greatest().copied() == slow.greatest());
     let stores = slow.stores();
     for (notice, known) in (0..).zip(&fast.notices) {
         same(&known.certificates, &slow.certificates(notice));
@@ -111,7 +123,7 @@ fn the_tables_agree_with_the_definitions() {
 
 #[test]
 fn a_longer_list_shows_all_that_its_prefix_shows() {
-    for style in ["liars", "attack", "overrun"] {
+    for style in ["liars", "attack", "skips", "overrun"] {
         for seed in 0..15 {
             let run = Run::of::<Document>(&schedule(style, seed, 300).unwrap());
             let ring = run.ring.unwrap();
@@ -121,6 +133,7 @@ fn a_longer_list_shows_all_that_its_prefix_shows() {
                 assert!(last.wished.within(next.wished));
                 assert!(last.candidates.iter().all(|view| next.candidates.contains(view)));
                 assert!(last.sealed.iter().all(|history| next.sealed.contains(history)));
+                assert!(last.candidates.iter().all(|view| next.skips(*view) || !last.skips(*view)));
                 for (earlier, later) in last.notices.iter().zip(&next.notices) {
                     assert!(earlier.certificates.iter().all(|payload| later.certificates.contains(payload)));
                 }
@@ -171,6 +184,8 @@ fn each_limit_is_met() {
             ("leave-waits", ",delivered,30", true),
             ("leave-waits", ",delivered,31", true),
             ("notices-64", ",signed,511", true),
+            ("skipped-14", ",15,entered,ffff0000", true),
+            ("skipped-14", ",0,entered,ffff0000", true),
         ] {
             assert_eq!(rows(style, seed).contains(needle), expected, "{style} {seed} {needle}");
         }
