@@ -3,7 +3,8 @@
 use check::{soak, Definition, Run};
 use generate::{schedule, LIMITS, RANDOM};
 use reference::bench::run;
-use reference::{Body, Document, Evidence, Statement};
+use reference::controller::Ring;
+use reference::{Answer, Binding, Body, Controller, Document, Evidence, Statement, View};
 
 #[test]
 fn honest_runs_keep_the_promises_and_go_deep() {
@@ -119,6 +120,51 @@ fn the_tables_agree_with_the_definitions() {
             }
         }
     }
+}
+
+/// Whether rule 2 applies to who starts anew on the record, if it has no report to sign before, and what it is bound to then.
+fn rule_2(ring: &Ring, k: u8, record: &[Statement]) -> Option<(View, bool, Vec<Binding>)> {
+    let shown = Definition::new(ring.initial, &ring.senders, record);
+    let greatest = shown.greatest()?;
+    let reported = |at: View| {
+        let on = |body: &Body| matches!(body, Body::Report(report) if report.at == at);
+        record.iter().any(|statement| statement.origin == k && on(&statement.body))
+    };
+    let top = greatest.top();
+    let owes = |view: &View| view.has_member(k) && !reported(*view);
+    if top == ring.initial || !top.has_member(k) || greatest.below_top().iter().any(owes) {
+        return None;
+    }
+    let needed: Vec<View> = greatest.below_top().iter().copied().filter(|view| !shown.is_skipped(*view)).collect();
+    let mut bindings = vec![Binding::Unbound; ring.senders.len()];
+    for report in needed.iter().flat_map(|view| shown.counted(*view)) {
+        bindings.iter_mut().zip(&*report.told).for_each(|(binding, told)| *binding = binding.join(told.binding));
+    }
+    Some((top, needed.iter().all(|view| shown.is_reported(*view)), bindings))
+}
+
+#[test]
+fn who_starts_anew_on_a_record_enters_as_defined() {
+    let (mut entered, mut waited) = (0, 0);
+    let runs = (0..40).map(|seed| ("skips", seed)).chain((0..8).flat_map(|seed| [("honest", seed), ("liars", seed), ("attack", seed)]));
+    for (style, seed) in runs {
+        let run = Run::of::<Document>(&schedule(style, 5_000 + seed, 400).unwrap());
+        let ring = run.ring.as_ref().unwrap();
+        for (k, record) in (0..).zip(&run.records) {
+            for length in [record.len() * 3 / 4, record.len() * 7 / 8, record.len()] {
+                let Some((top, due, bindings)) = rule_2(ring, k, &record[..length]) else { continue };
+                let mut anew = Controller::<Document>::new(k);
+                anew.setup(ring.initial.members(), &ring.senders);
+                record[..length].iter().for_each(|statement| assert_eq!(anew.add(statement), Answer::Taken));
+                assert_eq!(anew.turn() == Answer::Entered(top), due, "{style} {seed}, controller {k}, {length} statements");
+                let bound: Vec<Binding> = anew.notices().iter().map(|notice| notice.binding).collect();
+                assert!(!due || bound == bindings, "{style} {seed}, controller {k}, {length} statements");
+                *(if due { &mut entered } else { &mut waited }) += 1;
+            }
+        }
+    }
+    println!("entered {entered}, waited {waited}");
+    assert!(entered > 200 && waited > 50);
 }
 
 #[test]

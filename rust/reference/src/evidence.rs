@@ -76,7 +76,8 @@ impl Evidence {
 
     /// Whether some sealed history lacks the view and has a greater top, so that entering needs no reports on the view.
     pub fn skips(&self, view: View) -> bool {
-        self.sealed.iter().any(|history| skipped_by::<Document>(view, history))
+        let passes = |history: &History| view.strictly_within(history.top()) && !history.views().contains(&view);
+        self.sealed.iter().any(passes)
     }
 
     /// Whether a report by `origin` counts.
@@ -91,12 +92,6 @@ impl Evidence {
             && report.told.len() == self.notices.len()
             && self.notices.iter().zip(&*report.told).all(|(known, told)| known.grounds::<R>(told))
     }
-}
-
-/// Whether the history, if it is sealed, makes reports on the view needless.
-pub(crate) fn skipped_by<R: Rules>(view: View, history: &History) -> bool {
-    let passed = view.strictly_within(history.top()) || !R::SKIPPED_BY_GREATER;
-    passed && !(R::SKIPPED_BY_LACK && history.views().contains(&view))
 }
 
 /// Whether the signers make up a quorum of `at`.
