@@ -36,10 +36,10 @@ pub struct Notice {
 pub struct Evidence {
     pub conflict: bool,
     pub many: bool,
+    pub skipped: u32,
     pub wished: u64,
     pub count: usize,
     pub length: usize,
-    pub skipped: u32,
     pub certified: u64,
     pub stored: u64,
 }

@@ -30,7 +30,7 @@ use Rattle.views.proofs.Views.{passes, fails}
 use Rattle.pool.specs.Pool.{countOf, viewAt, stmtAt}
 use Rattle.pool.proofs.Laws.{views-of}
 use Rattle.ranking.specs.Slots.{historyScale, startScale, numberIn, sealMark, Starts, Stands, Slots, Clash, occupied, Broken, Chain}
-use Rattle.ranking.specs.Ranking.{FirstMarked, ChainOf, PassedOf, MarkedAgreements, HistoriesOf}
+use Rattle.ranking.specs.Ranking.{FirstMarked, ChainOf, PassedOf, SkippedOf, MarkedAgreements, HistoriesOf}
 use Rattle.ranking.proofs.Members.{Climbs, listOf-in, same-members}
 use Rattle.ranking.proofs.Slots.{views-put, occupied-in, occupied-out, occupied-wide}
 use Rattle.ranking.proofs.Skips.{starts-same, unpassed}
@@ -236,7 +236,7 @@ module _ (init : ℕ) (X : List Stmt) where
           ]
 
           -- each starts with the one before, so that nothing is skipped
-          pub summit-steady : (also : Bool) → Chain (startScale W) S 17 also last → HistoriesOf init X out (record { conflict = false; length = length; skipped = 0 })
+          summit-steady : (also : Bool) → Chain (startScale W) S 17 also last → HistoriesOf init X out (record { conflict = false; length = length; skipped = 0 })
           summit-steady also d = greatest length 0 out sealed holds-each pairs (λ u m i l q. bit-zero i ∙ sym (none-skipped sealed starts u m))
             where
               starts : (H : List View) → Sealed (ringOfWord init) X H → Starts (viewsOf out length) H
@@ -262,6 +262,13 @@ module _ (init : ℕ) (X : List Stmt) where
             ])
           ]
 
-          pub summit : (r : ℕ) → PassedOf (ringOfWord init) shorter out length r → HistoriesOf init X out (record { conflict = false; length = length; skipped = r })
+          summit : (r : ℕ) → PassedOf (ringOfWord init) shorter out length r → HistoriesOf init X out (record { conflict = false; length = length; skipped = r })
           summit r p = greatest length r out sealed holds-each pairs
               (λ u m i l q. p .bits i l ∙ ap (λ u. any (passesOver (ringOfWord init) u) shorter) q ∙ skipped-by sealed shorter shorter-sealed in-shorter u m)
+
+          pub summit-either : (steady : Bool) (r : ℕ) → SkippedOf (ringOfWord init) shorter out length steady r → (steady ≡ true → (also : Bool) × Chain (startScale W) S 17 also last)
+              → HistoriesOf init X out (record { conflict = false; length = length; skipped = r })
+          summit-either true r p d =
+              let (also, k) = d refl in
+              subst (λ r. HistoriesOf init X out (record { conflict = false; length = length; skipped = r })) (sym (p .none refl)) (summit-steady also k)
+          summit-either false r p d = summit r (p .some refl)

@@ -41,6 +41,11 @@ pub record PassedToo (R : Ring) (H : List View) (list : List ℕ) (n seen r : �
 pub record PassedOf (R : Ring) (histories : List (List View)) (list : List ℕ) (n r : ℕ) : Type 0 where
   pub bits : (i : ℕ) → i < n → bit r i ≡ any (passesOver R (viewOf (getD list i 0))) histories
 
+-- The same, but for a steady chain, which passes over nothing.
+pub record SkippedOf (R : Ring) (histories : List (List View)) (list : List ℕ) (n : ℕ) (steady : Bool) (r : ℕ) : Type 0 where
+  pub none : steady ≡ true → r ≡ 0
+  pub some : steady ≡ false → PassedOf R histories list n r
+
 -- The views that statements of X are for are of the sixteen controllers. (Those of a record in the pool are.)
 abbrev pub AllFit : List Stmt → Type 0
 AllFit X = (s : Stmt) → s ∈ X → Fits 16 (s .view)

@@ -10,7 +10,7 @@ ghost use Rattle.protocol.specs.Evidence.{passesOver};
 ghost use Rattle.pool.specs.Pool.{stmtAt};
 ghost use Rattle.views.specs.View.{viewOf, ringOfWord, viewsOf};
 ghost use Rattle.ranking.specs.Slots.{historyScale, numberIn, sealMark, occupied, Starts, Slots, Filled};
-ghost use Rattle.ranking.specs.Ranking.{FirstMarked, ChainOf, PassedToo, PassedOf, MarkedAgreements, HistoriesOf};
+ghost use Rattle.ranking.specs.Ranking.{FirstMarked, ChainOf, PassedToo, PassedOf, SkippedOf, MarkedAgreements, HistoriesOf};
 use crate::MEMO;
 use crate::Summit;
 use pool::POOL_WORDS;
@@ -228,6 +228,35 @@ fn passed(
     seen
 }
 
+// The same, where a chain that is steady passes over nothing.
+fn skipped(
+    words: &[u64; POOL_WORDS],
+    slots: &[u16; LENGTHS],
+    init: u64,
+    list: &[u64; View::LIMIT],
+    m: usize,
+    steady: bool,
+) -> u32
+    requires { ⌜ m ≤ 16 ⌝ }
+    ensures { λ r. ⌜ SkippedOf (ringOfWord init) (occupied (historyScale (now (words .entry))) (now (slots .entry)) m) (now (list .entry)) m steady r ⌝ }
+{
+    if steady {
+        return 0;
+    }
+    passed(words, slots, init, list, m)
+}
+
+// That two histories are apart.
+fn apart() -> Summit
+    ensures { λ r. ⌜ r ≡ record { conflict = true; length = 0; skipped = 0 } ⌝ }
+{
+    Summit {
+        conflict: true,
+        length: 0,
+        skipped: 0,
+    }
+}
+
 // Copies the views of statement n: how many.
 fn copy_views(words: &[u64; POOL_WORDS], n: u16, out: &mut [u64; View::LIMIT]) -> usize
     requires { ⌜ length (now out) ≡ 16 ⌝ }
@@ -267,29 +296,14 @@ pub fn climb(
     let base = entry_at(rows, a);
     let mut slots = [base; LENGTHS];
     if !fill_lengths(words, rows, memo, agreements, base, &mut slots) {
-        return Summit {
-            conflict: true,
-            length: 0,
-            skipped: 0,
-        };
+        return apart();
     }
     let links = link_lengths(words, &slots);
     if !links.whole {
-        return Summit {
-            conflict: true,
-            length: 0,
-            skipped: 0,
-        };
+        return apart();
     }
     let length = copy_views(words, links.last, out);
-    if links.steady {
-        return Summit {
-            conflict: false,
-            length,
-            skipped: 0,
-        };
-    }
-    let skipped = passed(words, &slots, init, out, length);
+    let skipped = skipped(words, &slots, init, out, length, links.steady);
     Summit {
         conflict: false,
         length,
