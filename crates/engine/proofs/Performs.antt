@@ -33,7 +33,7 @@ use Rattle.pool.specs.declared.Placed.the-variants.{At, Full}
 use Rattle.pool.specs.Pool.{recordIn, poolOf}
 use Rattle.pool.specs.Changes.{PushedTo}
 use Rattle.evidence.specs.declared.Notice.{Notice}
-use Rattle.evidence.specs.Evidence.{ringIs, reportsBelow, MergedAll}
+use Rattle.evidence.specs.Evidence.{ringIs, reportsThere, MergedAll}
 use Rattle.evidence.specs.Notices.{sendersOf, bindingHeld}
 use Rattle.evidence.proofs.Turns.{counted-turn}
 use Rattle.engine.specs.declared.Controller.{Controller}
@@ -124,7 +124,7 @@ delivering c j q p l k h = ap (λ d. controller.withDelivered d (controllerIs c)
 -- a view is entered, with what the reports tell merged
 module _ (c : Controller) (X : List Stmt) (C G P : List ℕ) (s : Situation) (k : Doing c X C G P s) where
   pub entering : (v : held.View) (h : History) (H : List Notice) → viewsIs h ≡ turn.enteredAfter (viewIs v) (viewsIs (c .entered))
-      → MergedAll (c .held) (reportsBelow (ringIs (s .ring)) (sendersOf (c .senders) (s .ring .notices)) X) H → EntersMerged c X v (changed c h H (c .delivered))
+      → MergedAll (c .held) (reportsThere (ringIs (s .ring)) (sendersOf (c .senders) (s .ring .notices)) X) H → EntersMerged c X v (changed c h H (c .delivered))
   unfolding controllerIs
   entering v h H e m =
       ap₂ (λ views b. controller.withEntered views (controller.withBinding b (controllerIs c))) e
@@ -133,8 +133,8 @@ module _ (c : Controller) (X : List Stmt) (C G P : List ℕ) (s : Situation) (k 
       senders : sendersOf (c .senders) (s .ring .notices) ≡ sendersOf (c .senders) (c .notices)
       senders = ap (sendersOf (c .senders)) (k .ring .notices)
 
-      reports : reportsBelow (ringIs (s .ring)) (sendersOf (c .senders) (s .ring .notices)) X ≡ turn.countedReports (controllerIs c) X
-      reports = ap₂ (λ r l. reportsBelow r l X) (k .ring .is) senders ∙ sym (counted-turn (controllerIs c) X)
+      reports : reportsThere (ringIs (s .ring)) (sendersOf (c .senders) (s .ring .notices)) X ≡ turn.countedReports (controllerIs c) X
+      reports = ap₂ (λ r l. reportsThere r l X) (k .ring .is) senders ∙ sym (counted-turn (controllerIs c) X)
 
 -- ---- each action
 

@@ -28,7 +28,7 @@ module _ {A : Type 0} (q : A → Bool) where
       go true e = ap (λ l. a ∷ l) e
       go false e = e
 
-  filter-one : (a : A) (b : Bool) → b ≡ q a → filter q (a ∷ []) ≡ (if b then a ∷ [] else [])
+  pub filter-one : (a : A) (b : Bool) → b ≡ q a → filter q (a ∷ []) ≡ (if b then a ∷ [] else [])
   unfolding filter
   filter-one a b e = ap (λ c. if c then a ∷ [] else []) (sym e)
 

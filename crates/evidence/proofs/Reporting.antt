@@ -15,7 +15,7 @@ use Rattle.protocol.specs.Lists.{_∈_, any, all, filter, first, when}
 use Rattle.protocol.specs.View.{View, Ring, sameView, member, within, below}
 use Rattle.protocol.specs.History.{top, holds}
 use Rattle.protocol.specs.Statement.{Group, Stmt, groupOf, isKind, reportsOn}
-use Rattle.protocol.specs.Evidence.{wished, candidate, candidates, greatest, certificates, isConflict, isCandidate, hasQuorum, signs, signedByQuorum, isCertified, isCountedFor, isCounted, isCountedOn, Certificate}
+use Rattle.protocol.specs.Evidence.{wished, candidate, candidates, greatest, certificates, isConflict, isCandidate, hasQuorum, signs, signedByQuorum, isCertified, isCountedFor, isCounted, isCountedOn, isSkipped, Certificate}
 use Rattle.protocol.proofs.Says.{from-true, says-map, says-unique, says-self, says-and, says-eqb, says-every, says-all, says-any}
 use Rattle.protocol.proofs.Found.{first-in, first-none}
 use Rattle.protocol.proofs.Histories.{sealed-short}
@@ -23,15 +23,15 @@ use Rattle.protocol.proofs.Decided.{says-same, says-in, says-shown, says-certif
 use Rattle.protocol.proofs.Asked.{says-holds, candidates-exact, certificates-in, certificates-out, one-payload, greatest-holds}
 use Rattle.views.specs.Sets.{IsSet}
 use Rattle.views.specs.View.{viewOf, ringOfWord, quorumHas, viewsOf}
-use Rattle.views.proofs.Tables.{views-count}
+use Rattle.views.proofs.Tables.{views-count, all-zero, all-more, all-miss}
 use Rattle.views.proofs.Views.{passes, fails, signed-by-set}
 use Rattle.pool.specs.Pool.{toldBound, toldBarred, toldStored, toldPayload, toldKept, toldAt, stmtAt}
 use Rattle.evidence.specs.declared.Evidence.{Evidence}
 use Rattle.evidence.specs.declared.Ring as declared
 use Rattle.evidence.specs.declared.reports.Judge.{Judge}
 use Rattle.evidence.specs.Shown.{listed, twofold, PreparedList}
-use Rattle.evidence.specs.Evidence.{Settled, reportedOn, reportedAll, countsBelow, reportsBelow}
-use Rattle.evidence.specs.Reports.{toldCount, bindingHolds, keptHolds, toldHolds, countsBy, countsAt, hasReports, countsUnder, Usable, TellsNothing, judgeOf}
+use Rattle.evidence.specs.Evidence.{Settled, remainingViews, reportedAll, countedThere, reportsThere}
+use Rattle.evidence.specs.Reports.{toldCount, bindingHolds, keptHolds, toldHolds, countsBy, countsAt, hasReports, countsAmong, RemainingOf, Usable, TellsNothing, judgeOf}
 use Rattle.evidence.proofs.Listing.{any-filter, any-same}
 use Rattle.evidence.proofs.Senders.{told-in, told-out, told-barred, told-bound, told-free, told-stored, told-unstored}
 use Rattle.evidence.proofs.Payloads.{twofold-is}
@@ -195,47 +195,48 @@ module _ (q : Judge) (C P K : List ℕ) where
   unfolding countsAt
   at-counted u s r f c = c ∙ sym (ap (λ b. b && countsBy q C P K s) f)
 
-  module _ (Y : List Stmt) (t u : ℕ) (b : Bool) (f : b ≡ below 16 (viewOf u) (viewOf t)) where
-    pub reported-above : b ≡ false → true ≡ hasReports q C P K Y (viewOf t) (viewOf u)
-    unfolding hasReports
-    reported-above g = sym (ap (λ b. not b || signedByQuorum 16 Y (viewOf u) (countsAt q C P K (viewOf u))) (sym f ∙ g))
+  pub reported-quorum : (Y : List Stmt) (u seen : ℕ) (r : Bool) → IsSet seen (signs (countsAt q C P K (viewOf u)) Y) → r ≡ quorumHas (viewOf u) (bit seen) → r ≡ hasReports q C P K Y (viewOf u)
+  unfolding hasReports
+  reported-quorum Y u seen r i h = signed-by-set Y (viewOf u) (countsAt q C P K (viewOf u)) seen r i h
 
-    pub reported-quorum : (seen : ℕ) (r : Bool) → b ≡ true → IsSet seen (signs (countsAt q C P K (viewOf u)) Y) → r ≡ quorumHas (viewOf u) (bit seen) → r ≡ hasReports q C P K Y (viewOf t) (viewOf u)
-    unfolding hasReports
-    reported-quorum seen r g i h =
-        signed-by-set Y (viewOf u) (countsAt q C P K (viewOf u)) seen r i h ∙ sym (ap (λ b. not b || signedByQuorum 16 Y (viewOf u) (countsAt q C P K (viewOf u))) (sym f ∙ g))
+  -- view by view of a list
 
-  -- the view asked after is view i of a list
-  pub has-reports-at : (Y : List Stmt) (t i u : ℕ) (L : List ℕ) (r : Bool) → u ≡ getD L i 0 → r ≡ hasReports q C P K Y (viewOf t) (viewOf u) → hasReports q C P K Y (viewOf t) (viewOf (getD L i 0)) ≡ r
-  has-reports-at Y t i u L r f g = ap (λ w. hasReports q C P K Y (viewOf t) (viewOf w)) (sym f) ∙ sym g
+  pub views-first : (Y : List Stmt) (L : List ℕ) → all (hasReports q C P K Y) (viewsOf L 0) ≡ true
+  unfolding viewsOf
+  views-first Y L = all-zero (hasReports q C P K Y) (λ i. viewOf (getD L i 0))
 
-  pub all-views : (Y : List Stmt) (t i n : ℕ) (L : List ℕ) → i ≡ n → all (hasReports q C P K Y (viewOf t)) (viewsOf L i) ≡ true → all (hasReports q C P K Y (viewOf t)) (viewsOf L n) ≡ true
-  all-views Y t i n L f g = subst (λ k. all (hasReports q C P K Y (viewOf t)) (viewsOf L k) ≡ true) f g
+  module _ (Y : List Stmt) (L : List ℕ) (i u : ℕ) (r : Bool) (is : u ≡ getD L i 0) (asked : r ≡ hasReports q C P K Y (viewOf u)) where
+    here : hasReports q C P K Y (viewOf (getD L i 0)) ≡ r
+    here = ap (λ w. hasReports q C P K Y (viewOf w)) (sym is) ∙ sym asked
 
--- ---- a report that counts on a view below the top
+    pub views-more : r ≡ true → all (hasReports q C P K Y) (viewsOf L i) ≡ true → all (hasReports q C P K Y) (viewsOf L (i + 1)) ≡ true
+    unfolding viewsOf
+    views-more e f = all-more (hasReports q C P K Y) (λ i. viewOf (getD L i 0)) i f (here ∙ e)
 
-module _ (q : Judge) (C P K : List ℕ) (H : List View) (t k u : ℕ) (s : Stmt) (kind : k ≡ s .kind) where
-  pub under-kind : (k ≡ 5 → ⊥) → false ≡ countsUnder q C P K H (viewOf t) s
-  unfolding countsUnder isKind
-  under-kind n = sym (ap (λ a. a && below 16 (s .at) (viewOf t) && any (sameView (s .at)) H && countsBy q C P K s) (ne-eqb _ 5 (λ z. n (kind ∙ z))))
+    pub views-miss : (n : ℕ) → i < n → r ≡ false → all (hasReports q C P K Y) (viewsOf L n) ≡ false
+    unfolding viewsOf
+    views-miss n l e = all-miss (hasReports q C P K Y) (λ i. viewOf (getD L i 0)) n l (here ∙ e)
 
-  module _ (five : k ≡ 5) (at : viewOf u ≡ s .at) where
-    under-parts : countsUnder q C P K H (viewOf t) s ≡ (below 16 (viewOf u) (viewOf t) && any (sameView (viewOf u)) H && countsBy q C P K s)
-    unfolding countsUnder isKind
-    under-parts = ap₂ (λ a v. a && below 16 v (viewOf t) && any (sameView v) H && countsBy q C P K s) (eq-eqb _ 5 (sym kind ∙ five)) (sym at)
+  pub views-all : (Y : List Stmt) (i n : ℕ) (L : List ℕ) → i ≡ n → all (hasReports q C P K Y) (viewsOf L i) ≡ true → all (hasReports q C P K Y) (viewsOf L n) ≡ true
+  views-all Y i n L f g = subst (λ k. all (hasReports q C P K Y) (viewsOf L k) ≡ true) f g
 
-    pub under-above : (b : Bool) → b ≡ below 16 (viewOf u) (viewOf t) → b ≡ false → false ≡ countsUnder q C P K H (viewOf t) s
-    under-above b f g = sym (under-parts ∙ ap (λ b. b && any (sameView (viewOf u)) H && countsBy q C P K s) (sym f ∙ g))
+-- ---- a report that counts on a view of a list
 
-    module _ (b i : Bool) (f : b ≡ below 16 (viewOf u) (viewOf t)) (yes : b ≡ true) (g : i ≡ any (sameView (viewOf u)) H) where
-      under-in : countsUnder q C P K H (viewOf t) s ≡ (i && countsBy q C P K s)
-      under-in = under-parts ∙ ap₂ (λ b i. b && i && countsBy q C P K s) (sym f ∙ yes) (sym g)
+module _ (q : Judge) (C P K : List ℕ) (H : List View) (k u : ℕ) (s : Stmt) (kind : k ≡ s .kind) where
+  pub among-kind : (k ≡ 5 → ⊥) → false ≡ countsAmong q C P K H s
+  unfolding countsAmong isKind
+  among-kind n = sym (ap (λ a. a && any (sameView (s .at)) H && countsBy q C P K s) (ne-eqb _ 5 (λ z. n (kind ∙ z))))
 
-      pub under-outside : i ≡ false → false ≡ countsUnder q C P K H (viewOf t) s
-      under-outside n = sym (under-in ∙ ap (λ i. i && countsBy q C P K s) n)
+  module _ (five : k ≡ 5) (at : viewOf u ≡ s .at) (i : Bool) (g : i ≡ any (sameView (viewOf u)) H) where
+    among-in : countsAmong q C P K H s ≡ (i && countsBy q C P K s)
+    unfolding countsAmong isKind
+    among-in = ap₂ (λ a v. a && any (sameView v) H && countsBy q C P K s) (eq-eqb _ 5 (sym kind ∙ five)) (sym at) ∙ ap (λ i. i && countsBy q C P K s) (sym g)
 
-      pub under-counts : (r : Bool) → i ≡ true → r ≡ countsBy q C P K s → r ≡ countsUnder q C P K H (viewOf t) s
-      under-counts r y c = c ∙ sym (under-in ∙ ap (λ i. i && countsBy q C P K s) y)
+    pub among-outside : i ≡ false → false ≡ countsAmong q C P K H s
+    among-outside n = sym (among-in ∙ ap (λ i. i && countsBy q C P K s) n)
+
+    pub among-counts : (r : Bool) → i ≡ true → r ≡ countsBy q C P K s → r ≡ countsAmong q C P K H s
+    among-counts r y c = c ∙ sym (among-in ∙ ap (λ i. i && countsBy q C P K s) y)
 
 -- ---- what the evidence tells
 
@@ -319,42 +320,31 @@ module _ (init : ℕ) (senders : List ℕ) (X : List Stmt) (C Gr P : List ℕ) (
         ∙ any-same (λ s. isKind 5 s && (eqb (s .origin) k && countsAt q C P K u s)) (λ s. eqb (s .origin) k && isCountedOn R senders X u s) X
         (λ s. swap (eqb (s .kind) 5) (eqb (s .origin) k) (sameView (s .at) u) (countsBy q C P K s) ∙ ap (λ c. eqb (s .origin) k && ((eqb (s .kind) 5 && sameView (s .at) u) && c)) (counts-is s))
 
-    module _ (t : ℕ) (topped : viewOf t ≡ top R G) where
-      is-top : viewOf t ≡ top R (greatest R X)
-      is-top = topped ∙ ap (top R) (settled .of .greatest (settled .agree))
+    -- the views that need reports, in a list
+    module _ (L : List ℕ) (n : ℕ) (needed : RemainingOf R Gr (e .length) (e .skipped) L n) where
+      remaining-is : viewsOf L n ≡ remainingViews R senders X
+      unfolding remainingViews
+      remaining-is =
+          needed .are (isSkipped R X) (settled .of .skipped (settled .agree))
+          ∙ ap (λ G. filter (λ u. below 16 u (top R G) && not (isSkipped R X u)) G) (settled .of .greatest (settled .agree))
 
-      reported-is : (u : View) → hasReports q C P K (filter (isKind 5) X) (viewOf t) u ≡ reportedOn R senders X u
-      unfolding hasReports reportedOn signedByQuorum
-      reported-is u = ap₂ (λ b z. not b || z) (ap (below 16 u) is-top) (λ i. hasQuorum 16 u (λ k. signs-is u k i))
+      reported-is : (u : View) → hasReports q C P K (filter (isKind 5) X) u ≡ signedByQuorum 16 X u (isCountedOn R senders X u)
+      unfolding hasReports signedByQuorum
+      reported-is u i = hasQuorum 16 u (λ k. signs-is u k i)
 
-      all-same : (p q : View → Bool) → ((v : View) → p v ≡ q v) → (l : List View) → all p l ≡ all q l
-      all-same p q h l i = all (λ v. h v i) l
-
-      pub reported-all : (by : Judge) → by ≡ q → (Y : List Stmt) → Y ≡ filter (isKind 5) X → (b : Bool) → all (hasReports by C P K Y (viewOf t)) G ≡ b → b ≡ reportedAll R senders X
+      pub reported-all : (by : Judge) → by ≡ q → (Y : List Stmt) → Y ≡ filter (isKind 5) X → (b : Bool) → all (hasReports by C P K Y) (viewsOf L n) ≡ b → b ≡ reportedAll R senders X
       unfolding reportedAll
       reported-all by is Y y b f =
-          sym f ∙ ap (λ q. all (hasReports q C P K Y (viewOf t)) G) is ∙ ap (λ Y. all (hasReports q C P K Y (viewOf t)) G) y ∙ all-same (hasReports q C P K (filter (isKind 5) X) (viewOf t)) (reportedOn R senders X) reported-is G
-          ∙ ap (all (reportedOn R senders X)) (settled .of .greatest (settled .agree))
+          sym f ∙ ap₂ (λ q Y. all (hasReports q C P K Y) (viewsOf L n)) is y ∙ (λ i. all (λ u. reported-is u i) (viewsOf L n)) ∙ ap (all (λ u. signedByQuorum 16 X u (isCountedOn R senders X u))) remaining-is
 
-      same : G ≡ greatest R X
-      same = settled .of .greatest (settled .agree)
+      among-is : (s : Stmt) → countsAmong q C P K (viewsOf L n) s ≡ countedThere R senders X s
+      unfolding countsAmong countedThere isCountedOn reportsOn isKind
+      among-is s =
+          ap₂ (λ H c. (eqb (s .kind) 5 && any (sameView (s .at)) H) && c) remaining-is (counts-is s)
+          ∙ says-unique (says-and (says-and (says-eqb {m = s .kind} {n = 5}) (says-in {v = s .at} {H = remainingViews R senders X})) (says-self (isCounted R senders X s)))
+          (says-map (λ (v, m, ((k, z), c)). ((k, subst (λ v. v ∈ remainingViews R senders X) (sym z) m), c)) (λ ((k, m), c). (s .at, m, ((k, refl), c)))
+          (says-any (λ v. says-and (says-and (says-eqb {m = s .kind} {n = 5}) (says-same {u = s .at} {v = v})) (says-self (isCounted R senders X s))) (remainingViews R senders X)))
 
-      under-is : (s : Stmt) → countsUnder q C P K G (viewOf t) s ≡ countsBelow R senders X s
-      unfolding countsUnder countsBelow isCountedOn reportsOn isKind
-      under-is s =
-          ap (λ c. ((eqb (s .kind) 5 && below 16 (s .at) (viewOf t)) && any (sameView (s .at)) G) && c) (counts-is s)
-          ∙ says-unique (says-and (says-and (says-and (says-eqb {m = s .kind} {n = 5}) (says-self (below 16 (s .at) (viewOf t)))) (says-in {v = s .at} {H = G})) (says-self (isCounted R senders X s)))
-          (says-map from to (says-any (λ v. says-and (says-self (below 16 v (top R (greatest R X)))) (says-and (says-and (says-eqb {m = s .kind} {n = 5}) (says-same {u = s .at} {v = v})) (says-self (isCounted R senders X s)))) (greatest R X)))
-        where
-          to : (((s .kind ≡ 5) × T (below 16 (s .at) (viewOf t))) × (s .at ∈ G)) × T (isCounted R senders X s)
-              → (v : View) × (v ∈ greatest R X) × (T (below 16 v (top R (greatest R X))) × (((s .kind ≡ 5) × (s .at ≡ v)) × T (isCounted R senders X s)))
-          to (((k, b), m), c) = (s .at, subst (λ l. s .at ∈ l) same m, (subst (λ x. T (below 16 (s .at) x)) is-top b, ((k, refl), c)))
-
-          from : (v : View) × (v ∈ greatest R X) × (T (below 16 v (top R (greatest R X))) × (((s .kind ≡ 5) × (s .at ≡ v)) × T (isCounted R senders X s)))
-              → (((s .kind ≡ 5) × T (below 16 (s .at) (viewOf t))) × (s .at ∈ G)) × T (isCounted R senders X s)
-          from (v, m, (b, ((k, z), c))) =
-              (((k, subst (λ x. T (below 16 (s .at) x)) (sym is-top) (subst (λ v. T (below 16 v (top R (greatest R X)))) (sym z) b)), subst (λ l. s .at ∈ l) (sym same) (subst (λ v. v ∈ greatest R X) (sym z) m)), c)
-
-      pub reports-below : (by : Judge) → by ≡ q → filter (countsUnder by C P K G (viewOf t)) X ≡ reportsBelow R senders X
-      unfolding reportsBelow
-      reports-below by is = ap (λ q. filter (countsUnder q C P K G (viewOf t)) X) is ∙ (λ i. filter (λ s. under-is s i) X)
+      pub reports-there : (by : Judge) → by ≡ q → filter (countsAmong by C P K (viewsOf L n)) X ≡ reportsThere R senders X
+      unfolding reportsThere
+      reports-there by is = ap (λ q. filter (countsAmong q C P K (viewsOf L n)) X) is ∙ (λ i. filter (λ s. among-is s i) X)

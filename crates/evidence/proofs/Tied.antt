@@ -137,6 +137,7 @@ pub tied : (wish : ℕ) (r : Ranked) (h : Summit) (c : Certified) (stored : ℕ)
       wished = wish;
       count = r .count;
       length = h .length;
+      skipped = h .skipped;
       certified = c .some;
       stored = stored;
     })
@@ -152,6 +153,7 @@ tied wish r h c stored b e init senders X C G P most w p q s t = record {
   certificate = λ f. s .certificate (parts f .2);
   stored = λ f i l. t .are i (omega arith);
   within = s .within;
+  skipped = λ f. q .skipped (parts f .1);
 }
   where
     is : b ≡ isConflict (ringOfWord init) senders X

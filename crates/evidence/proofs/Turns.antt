@@ -4,14 +4,14 @@ use mathlib.Core.Path.{_≡_, refl}
 use mathlib.Core.List.{List}
 use Rattle.protocol.specs.Statement.{Stmt}
 use Rattle.protocol.specs.Controller.{Controller}
-use Rattle.protocol.specs.Turn.{G, T, isReported, countedReports}
-use Rattle.evidence.specs.Evidence.{reportedOn, reportedAll, countsBelow, reportsBelow}
+use Rattle.protocol.specs.Turn.{G, T, needsReports, remaining, isReported, countedReports}
+use Rattle.evidence.specs.Evidence.{remainingViews, reportedAll, countedThere, reportsThere}
 
 module _ (c : Controller) (X : List Stmt) where
   pub reported-turn : isReported c X ≡ reportedAll (c .ring) (c .senders) X
-  unfolding isReported reportedAll reportedOn G T
+  unfolding isReported reportedAll remaining needsReports remainingViews G T
   reported-turn = refl
 
-  pub counted-turn : countedReports c X ≡ reportsBelow (c .ring) (c .senders) X
-  unfolding countedReports reportsBelow countsBelow G T
+  pub counted-turn : countedReports c X ≡ reportsThere (c .ring) (c .senders) X
+  unfolding countedReports reportsThere countedThere remaining needsReports remainingViews G T
   counted-turn = refl

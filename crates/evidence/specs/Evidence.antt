@@ -1,7 +1,7 @@
 -- What the evidence of a record is.
 -- Assumes nothing.
 use mathlib.Core.Path.{_≡_}
-use mathlib.Core.Bool.{Bool, true, false, not, _&&_, _||_}
+use mathlib.Core.Bool.{Bool, true, false, not, _&&_}
 use mathlib.Core.List.{List}
 use mathlib.Core.Option.{Option}
 use Prim.Native.Nat.{ℕ, _≤_, _<_}
@@ -12,7 +12,7 @@ use Rattle.protocol.specs.Lists.{any, all, filter, first, when}
 use Rattle.protocol.specs.View.{View, Ring, below}
 use Rattle.protocol.specs.History.{top}
 use Rattle.protocol.specs.Statement.{Stmt}
-use Rattle.protocol.specs.Evidence.{wished, candidates, greatest, certificates, isConflict, isStored, signedByQuorum, isCountedOn}
+use Rattle.protocol.specs.Evidence.{wished, candidates, greatest, certificates, isConflict, isStored, signedByQuorum, isCountedOn, isSkipped}
 use Rattle.protocol.specs.Turn.{mergeAll}
 use Rattle.views.specs.View.{viewOf, viewIn, ringOfWord, viewsOf}
 use Rattle.evidence.specs.declared.Evidence.{Evidence}
@@ -39,6 +39,7 @@ pub record EvidenceOf (R : Ring) (senders : List ℕ) (X : List Stmt) (C G P : L
   pub certificate : e .conflict ≡ false → (i : ℕ) → i < length senders → certificateAt e P i ≡ first (certificates R senders X i)
   pub stored : e .conflict ≡ false → (i : ℕ) → i < length senders → bit (e .certified) i ≡ true → bit (e .stored) i ≡ isStored R X i (getD P i 0)
   pub within : (i : ℕ) → length senders ≤ i → bit (e .certified) i ≡ false
+  pub skipped : e .conflict ≡ false → (i : ℕ) → i < e .length → bit (e .skipped) i ≡ isSkipped R X (viewOf (getD G i 0))
 
 -- e is the evidence of X, and a turn goes on: there is no conflict, and there are not too many candidates.
 pub record Settled (R : Ring) (senders : List ℕ) (X : List Stmt) (C G P : List ℕ) (e : Evidence) : Type 0 where
@@ -53,21 +54,21 @@ pub record Narrow (list : List ℕ) (n : ℕ) : Type 0 where
 -- ---- what the reports of X come to
 
 module _ (R : Ring) (senders : List ℕ) (X : List Stmt) where
-  -- The view u of the greatest history has a quorum of counted reports, if it lies below the top.
-  unfoldable pub reportedOn : View → Bool
-  reportedOn u = not (below (R .width) u (top R (greatest R X))) || signedByQuorum (R .width) X u (isCountedOn R senders X u)
+  -- Turn's `remaining`: the views of the greatest history that need reports.
+  unfoldable pub remainingViews : List View
+  remainingViews = filter (λ u. below (R .width) u (top R (greatest R X)) && not (isSkipped R X u)) (greatest R X)
 
-  -- Turn's `isReported`: each view of the greatest history below its top has one.
+  -- Turn's `isReported`: each of them has a quorum of counted reports.
   unfoldable pub reportedAll : Bool
-  reportedAll = all reportedOn (greatest R X)
+  reportedAll = all (λ u. signedByQuorum (R .width) X u (isCountedOn R senders X u)) remainingViews
 
-  -- The report s counts, on such a view.
-  unfoldable pub countsBelow : Stmt → Bool
-  countsBelow s = any (λ u. below (R .width) u (top R (greatest R X)) && isCountedOn R senders X u s) (greatest R X)
+  -- The report s counts, on one of them.
+  unfoldable pub countedThere : Stmt → Bool
+  countedThere s = any (λ u. isCountedOn R senders X u s) remainingViews
 
   -- Turn's `countedReports`.
-  unfoldable pub reportsBelow : List Stmt
-  reportsBelow = filter countsBelow X
+  unfoldable pub reportsThere : List Stmt
+  reportsThere = filter countedThere X
 
 -- The notices in H′ have the bindings of those in H, merged with what the reports Y tell of each.
 pub record MergedAll (H : List Notice) (Y : List Stmt) (H′ : List Notice) : Type 0 where

@@ -3,13 +3,14 @@
 use mathlib.Core.Path.{_≡_}
 use mathlib.Core.Bool.{Bool, false, not, cond, _&&_, _||_}
 use mathlib.Core.List.{List}
-use Prim.Native.Nat.{ℕ, _%_, _≤_, min}
+use Prim.Native.Nat.{ℕ, _%_, _≤_, _<_, min}
 use lib.Dec.{eqb}
 use lib.ListN.{getD}
 use Rattle.protocol.specs.Sets.{bit, every}
-use Rattle.protocol.specs.Lists.{_∈_, any}
+use Rattle.protocol.specs.Lists.{_∈_, any, filter}
+use Rattle.protocol.specs.View as protocol
 use Rattle.protocol.specs.View.{View, sameView, member, within, below}
-use Rattle.protocol.specs.History.{holds}
+use Rattle.protocol.specs.History.{holds, top}
 use Rattle.protocol.specs.Statement.{Group, Stmt, unbound, bindingOf, groupOf, isKind}
 use Rattle.protocol.specs.Evidence.{signedByQuorum}
 use Rattle.views.specs.View.{viewOf, viewsOf}
@@ -47,13 +48,18 @@ module _ (q : Judge) (C P K : List ℕ) where
   unfoldable pub countsAt : View → Stmt → Bool
   countsAt u s = sameView (s .at) u && countsBy s
 
-  -- u, if it lies below t, has a quorum of such among the reports Y.
-  unfoldable pub hasReports : List Stmt → View → View → Bool
-  hasReports Y t u = not (below 16 u t) || signedByQuorum 16 Y u (countsAt u)
+  -- u has a quorum of such among the reports Y.
+  unfoldable pub hasReports : List Stmt → View → Bool
+  hasReports Y u = signedByQuorum 16 Y u (countsAt u)
 
-  -- s is a report that counts, on a view of H that lies below t.
-  unfoldable pub countsUnder : List View → View → Stmt → Bool
-  countsUnder H t s = isKind 5 s && below 16 (s .at) t && any (sameView (s .at)) H && countsBy s
+  -- s is a report that counts, on a view of H.
+  unfoldable pub countsAmong : List View → Stmt → Bool
+  countsAmong H s = isKind 5 s && any (sameView (s .at)) H && countsBy s
+
+-- The first r words of L are those of the first n in G whose views lie below the last of these and are not skipped, where p tells the skipped and the set `skipped` their places.
+pub record RemainingOf (R : protocol.Ring) (G : List ℕ) (n skipped : ℕ) (L : List ℕ) (r : ℕ) : Type 0 where
+  pub most : r ≤ 16
+  pub are : (p : View → Bool) → ((i : ℕ) → i < n → bit skipped i ≡ p (viewOf (getD G i 0))) → viewsOf L r ≡ filter (λ u. below 16 u (top R (viewsOf G n)) && not (p u)) (viewsOf G n)
 
 -- What a report is judged by can be read: there are not too many candidates and notices, and the rows of what was prepared are linked.
 pub record Usable (q : Judge) (K R : List ℕ) : Type 0 where

@@ -4,6 +4,7 @@ mod certificates;
 mod merging;
 mod notices;
 mod prepares;
+mod remaining;
 mod reports;
 mod summary;
 
@@ -30,11 +31,12 @@ pub struct Notice {
 }
 
 // What a record shows, beside two lists of views as words and the payloads of the certificates: wished; whether there is a conflict; whether there are more than
-// sixteen candidates, and else how many of the list of candidates count; how many of that of the greatest history count; and, as sets of notices, which have a
-// certificate, and of which its payload is stored.
+// sixteen candidates, and else how many of the list of candidates count; how many of that of the greatest history count, and, as a set of its places, which of these views
+// are skipped; and, as sets of notices, which have a certificate, and of which its payload is stored.
 pub struct Evidence {
     pub conflict: bool,
     pub many: bool,
+    pub skipped: u32,
     pub wished: u64,
     pub count: usize,
     pub length: usize,

@@ -1,19 +1,20 @@
-// What the reports that count on views below the top bind each notice to.
+// What the reports that count on the views that need them bind each notice to.
 ghost use mathlib.Core.Path.{_≡_};
 ghost use Prim.Native.Nat.{_≤_, _<_};
 ghost use Rattle.protocol.specs.Lists.{filter};
 ghost use Rattle.protocol.specs.Turn.{mergeAll};
-ghost use Rattle.views.specs.View.{viewOf, viewsOf};
+ghost use Rattle.views.specs.View.{viewsOf};
 ghost use Rattle.pool.specs.Pool.{recordIn};
 ghost use Rattle.statements.specs.Block.{bindingIs};
-ghost use Rattle.evidence.specs.Evidence.{ringIs, Settled, reportsBelow, MergedAll};
+ghost use Rattle.evidence.specs.Evidence.{ringIs, Settled, reportsThere, MergedAll};
 ghost use Rattle.evidence.specs.Notices.{sendersOf};
-ghost use Rattle.evidence.specs.Reports.{countsUnder, Usable, Touched};
+ghost use Rattle.evidence.specs.Reports.{countsAmong, Usable, Touched};
 use crate::Evidence;
 use crate::Notice;
 use crate::Ring;
 use crate::binding;
 use crate::prepares;
+use crate::remaining;
 use crate::reports;
 use crate::reports::Judge;
 use pool::CAPACITY;
@@ -25,23 +26,22 @@ use tables::KEYS;
 use tables::ROWS;
 use views::View;
 
-// Lists the reports that count on the first n views of the greatest history below its top t.
+// Lists the reports that count on the first n views of a list.
 // Every number is written, and stays only if it is that of such a report, so that the loop has no branch.
-fn under_in(
+fn among_in(
     words: &[u64; POOL_WORDS],
     ids: &[u16; RECORD],
     q: Judge,
     candidates: &[u64; View::LIMIT],
-    greatest: &[u64; View::LIMIT],
+    needed: &[u64; View::LIMIT],
     n: usize,
     certs: &[u64; NOTICES],
     keys: &[u64; KEYS],
     rows: &[u16; ROWS],
-    t: u64,
     listed: &mut [u16; RECORD],
 )
     requires { ⌜ (n ≤ 16) × Usable q (now keys) (now rows) ⌝ }
-    ensures { λ _. ⌜ recordIn (now (words .entry)) (now (listed .exit)) ≡ filter (countsUnder q (now (candidates .entry)) (now (certs .entry)) (now (keys .entry)) (viewsOf (now (greatest .entry)) n) (viewOf t)) (recordIn (now (words .entry)) (now (ids .entry))) ⌝ }
+    ensures { λ _. ⌜ recordIn (now (words .entry)) (now (listed .exit)) ≡ filter (countsAmong q (now (candidates .entry)) (now (certs .entry)) (now (keys .entry)) (viewsOf (now (needed .entry)) n)) (recordIn (now (words .entry)) (now (ids .entry))) ⌝ }
 {
     pool::record_room(listed);
     let end = pool::record_length(ids);
@@ -49,7 +49,7 @@ fn under_in(
     let mut i = 0usize;
     while i < end {
         let s = ids[i];
-        let hit = reports::counts_below(words, q, candidates, greatest, n, certs, keys, rows, t, s);
+        let hit = reports::counts_among(words, q, candidates, needed, n, certs, keys, rows, s);
         listed[count] = s;
         count += hit as usize;
         i += 1;
@@ -57,7 +57,7 @@ fn under_in(
     listed[CAPACITY] = count as u16;
 }
 
-// Lists the reports that count on the views of the greatest history below its top.
+// Lists the reports that count on the views of the greatest history that need them.
 fn list_counted(
     words: &[u64; POOL_WORDS],
     ids: &[u16; RECORD],
@@ -70,25 +70,24 @@ fn list_counted(
     listed: &mut [u16; RECORD],
 )
     requires { ⌜ Settled (ringIs ring) (sendersOf (now senders) (ring .notices)) (recordIn (now words) (now ids)) (now candidates) (now greatest) (now certs) e ⌝ }
-    ensures { λ _. ⌜ recordIn (now (words .entry)) (now (listed .exit)) ≡ reportsBelow (ringIs ring) (sendersOf (now (senders .entry)) (ring .notices)) (recordIn (now (words .entry)) (now (ids .entry))) ⌝ }
+    ensures { λ _. ⌜ recordIn (now (words .entry)) (now (listed .exit)) ≡ reportsThere (ringIs ring) (sendersOf (now (senders .entry)) (ring .notices)) (recordIn (now (words .entry)) (now (ids .entry))) ⌝ }
 {
     let mut keys = [0u64; KEYS];
     let mut rows = [0u16; ROWS];
     let known = prepares::list(words, ids, ring.notices, senders, &mut keys, &mut rows);
     let q = reports::judge_by(ring, e, known);
-    let n = e.length;
-    let t = reports::top_of(greatest, n, ring.init);
-    under_in(
+    let mut needed = [0u64; View::LIMIT];
+    let n = remaining::list(greatest, e.length, e.skipped, ring.init, &mut needed);
+    among_in(
         words,
         ids,
         q,
         candidates,
-        greatest,
+        &needed,
         n,
         certs,
         &keys,
         &rows,
-        t,
         listed,
     );
 }
@@ -154,7 +153,7 @@ fn merge_some(
     all
 }
 
-// The notices of a controller, each merged with what is told of it by the reports that count on the views of the greatest history below its top.
+// The notices of a controller, each merged with what is told of it by the reports that count on the views of the greatest history that need them.
 pub fn merged(
     words: &[u64; POOL_WORDS],
     ids: &[u16; RECORD],
@@ -167,7 +166,7 @@ pub fn merged(
     held: [Notice; NOTICES],
 ) -> [Notice; NOTICES]
     requires { ⌜ Settled (ringIs ring) (sendersOf (now senders) (ring .notices)) (recordIn (now words) (now ids)) (now candidates) (now greatest) (now certs) e ⌝ }
-    ensures { λ r. ⌜ MergedAll held (reportsBelow (ringIs ring) (sendersOf (now (senders .entry)) (ring .notices)) (recordIn (now (words .entry)) (now (ids .entry)))) r ⌝ }
+    ensures { λ r. ⌜ MergedAll held (reportsThere (ringIs ring) (sendersOf (now (senders .entry)) (ring .notices)) (recordIn (now (words .entry)) (now (ids .entry)))) r ⌝ }
 {
     let mut listed = [0u16; RECORD];
     list_counted(

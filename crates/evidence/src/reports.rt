@@ -1,25 +1,26 @@
-// Which reports count, and whether each view below the top has a quorum of them.
+// Which reports count, and whether each view that needs them has a quorum.
 ghost use mathlib.Core.Path.{_≡_};
 ghost use mathlib.Core.Bool.{true};
 ghost use Prim.Native.Nat.{_≤_, _<_, min};
 ghost use Rattle.protocol.specs.Sets.{every};
 ghost use Rattle.protocol.specs.Lists.{any, filter};
 ghost use Rattle.protocol.specs.View.{sameView, member};
-ghost use Rattle.protocol.specs.History.{holds, top};
+ghost use Rattle.protocol.specs.History.{holds};
 ghost use Rattle.protocol.specs.Statement.{groupOf, isKind};
 ghost use Rattle.protocol.specs.Evidence.{signs};
 ghost use Rattle.protocol.proofs.Bits.{Fits};
 ghost use Rattle.views.specs.Sets.{IsSet};
-ghost use Rattle.views.specs.View.{viewOf, ringOfWord, viewsOf};
+ghost use Rattle.views.specs.View.{viewOf, viewsOf};
 ghost use Rattle.pool.specs.Pool.{toldAt, stmtAt, recordIn};
 ghost use Rattle.evidence.specs.Evidence.{ringIs, Settled, reportedAll};
 ghost use Rattle.evidence.specs.Notices.{sendersOf};
-ghost use Rattle.evidence.specs.Reports.{bindingHolds, keptHolds, toldHolds, countsBy, countsAt, hasReports, countsUnder, TellsNothing, Usable, judgeOf};
+ghost use Rattle.evidence.specs.Reports.{bindingHolds, keptHolds, toldHolds, countsBy, countsAt, hasReports, countsAmong, TellsNothing, Usable, judgeOf};
 use crate::Evidence;
 use crate::Ring;
 use crate::binding;
 use crate::notices;
 use crate::prepares;
+use crate::remaining;
 use pool::CAPACITY;
 use pool::POOL_WORDS;
 use pool::RECORD;
@@ -72,17 +73,6 @@ fn is_in_near(list: &[u64; View::LIMIT], n: usize, p: usize, v: u64) -> bool
         }
     }
     is_in(list, n, v)
-}
-
-// The last of the first n views; the initial view, if there is none.
-pub fn top_of(list: &[u64; View::LIMIT], n: usize, init: u64) -> u64
-    requires { ⌜ n ≤ 16 ⌝ }
-    ensures { λ r. ⌜ viewOf r ≡ top (ringOfWord init) (viewsOf (now (list .entry)) n) ⌝ }
-{
-    if n == 0 {
-        return init;
-    }
-    views::list_at(list, n - 1)
 }
 
 // Whether all views of statement s are among the first n.
@@ -278,7 +268,7 @@ fn reporters(
     seen
 }
 
-// Whether u, if it lies below the top t of the greatest history, has a quorum of listed reports that count.
+// Whether u has a quorum of listed reports that count.
 fn is_reported_on(
     words: &[u64; POOL_WORDS],
     q: Judge,
@@ -287,15 +277,11 @@ fn is_reported_on(
     keys: &[u64; KEYS],
     rows: &[u16; ROWS],
     listed: &[u16; RECORD],
-    t: u64,
     u: u64,
 ) -> bool
     requires { ⌜ Usable q (now keys) (now rows) ⌝ }
-    ensures { λ r. ⌜ r ≡ hasReports q (now (candidates .entry)) (now (certs .entry)) (now (keys .entry)) (recordIn (now (words .entry)) (now (listed .entry))) (viewOf t) (viewOf u) ⌝ }
+    ensures { λ r. ⌜ r ≡ hasReports q (now (candidates .entry)) (now (certs .entry)) (now (keys .entry)) (recordIn (now (words .entry)) (now (listed .entry))) (viewOf u) ⌝ }
 {
-    if !views::below_view(u, t) {
-        return true;
-    }
     let seen = reporters(words, q, candidates, certs, keys, rows, listed, u);
     views::quorum_in(u, seen)
 }
@@ -313,7 +299,7 @@ pub fn judge_by(ring: Ring, e: Evidence, known: usize) -> Judge
     }
 }
 
-// Whether each view of the greatest history below its top has a quorum of reports that count.
+// Whether each view of the greatest history that needs reports has a quorum of those that count.
 pub fn reported(
     words: &[u64; POOL_WORDS],
     ids: &[u16; RECORD],
@@ -333,12 +319,12 @@ pub fn reported(
     let q = judge_by(ring, e, known);
     let mut listed = [0u16; RECORD];
     reports_in(words, ids, &mut listed);
-    let n = e.length;
-    let t = top_of(greatest, n, ring.init);
+    let mut needed = [0u64; View::LIMIT];
+    let n = remaining::list(greatest, e.length, e.skipped, ring.init, &mut needed);
     let mut i = 0usize;
     while i < n {
-        let u = views::list_at(greatest, i);
-        if !is_reported_on(words, q, candidates, certs, &keys, &rows, &listed, t, u) {
+        let u = views::list_at(&needed, i);
+        if !is_reported_on(words, q, candidates, certs, &keys, &rows, &listed, u) {
             return false;
         }
         i += 1;
@@ -346,30 +332,25 @@ pub fn reported(
     true
 }
 
-// Whether statement s is a report that counts, on one of the first n views of the greatest history, below its top t.
-pub fn counts_below(
+// Whether statement s is a report that counts, on one of the first n views of a list.
+pub fn counts_among(
     words: &[u64; POOL_WORDS],
     q: Judge,
     candidates: &[u64; View::LIMIT],
-    greatest: &[u64; View::LIMIT],
+    needed: &[u64; View::LIMIT],
     n: usize,
     certs: &[u64; NOTICES],
     keys: &[u64; KEYS],
     rows: &[u16; ROWS],
-    t: u64,
     s: u16,
 ) -> bool
     requires { ⌜ (n ≤ 16) × Usable q (now keys) (now rows) ⌝ }
-    ensures { λ r. ⌜ r ≡ countsUnder q (now (candidates .entry)) (now (certs .entry)) (now (keys .entry)) (viewsOf (now (greatest .entry)) n) (viewOf t) (stmtAt (now (words .entry)) s) ⌝ }
+    ensures { λ r. ⌜ r ≡ countsAmong q (now (candidates .entry)) (now (certs .entry)) (now (keys .entry)) (viewsOf (now (needed .entry)) n) (stmtAt (now (words .entry)) s) ⌝ }
 {
     if pool::kind(words, s) != 5 {
         return false;
     }
-    let u = pool::at(words, s);
-    if !views::below_view(u, t) {
-        return false;
-    }
-    if !is_in(greatest, n, u) {
+    if !is_in(needed, n, pool::at(words, s)) {
         return false;
     }
     counts(words, q, candidates, certs, keys, rows, s)

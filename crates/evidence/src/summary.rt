@@ -53,6 +53,7 @@ fn tie(wish: u64, r: Ranked, h: Summit, c: Certified, stored: u64) -> Evidence
         wished: wish,
         count: r.count,
         length: h.length,
+        skipped: h.skipped,
         certified: c.some,
         stored,
     }
@@ -124,6 +125,7 @@ fn unvoted(
         wished: wish,
         count: 1,
         length: 1,
+        skipped: 0,
         certified: 0,
         stored: 0,
     }

@@ -34,6 +34,11 @@ module _ {A : Type 0} where
     abbrev pub Climbs : List A → Type 0
     Climbs l = Ordered (λ a b. f a < f b) l
 
+    -- what comes later is greater
+    pub climbs-apart : {a b : A} (k l : List A) → Climbs (k ++ l) → a ∈ k → b ∈ l → f a < f b
+    climbs-apart (c ∷ k) l p (List·Memᴰ·head e) j = omega (arith, p .0 _ (in-right k l j), ap f e)
+    climbs-apart (c ∷ k) l p (List·Memᴰ·tail i) j = climbs-apart k l (p .1) i j
+
     heads : (a b : A) (k l : List A) → Climbs (a ∷ k) → Climbs (b ∷ l) → a ∈ b ∷ l → b ∈ a ∷ k → a ≡ b
     heads a b k l p q (List·Memᴰ·head e) j = e
     heads a b k l p q (List·Memᴰ·tail i) (List·Memᴰ·head e) = sym e

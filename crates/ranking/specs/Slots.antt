@@ -30,6 +30,15 @@ viewScale = record { Thing = View; thing = viewOf; size = size 16; slots = 33; U
 abbrev pub historyScale : List ℕ → Scale
 historyScale W = record { Thing = List View; thing = λ n. stmtAt W n .views; size = length; slots = 17; Under = λ K H. Holds H K }
 
+-- The history K starts with the views of H.
+pub record Starts (K H : List View) : Type 0 where
+  pub rest : List View
+  pub is : K ≡ H ++ rest
+
+-- Histories again, of which one lies under another that starts with it.
+abbrev pub startScale : List ℕ → Scale
+startScale W = record { Thing = List View; thing = λ n. stmtAt W n .views; size = length; slots = 17; Under = λ H K. Starts K H }
+
 -- The pool number of agreement a. (The word of a choice's view is its key.)
 abbrev pub numberIn : List ℕ → ℕ → ℕ
 numberIn R a = numberAt R 1 a

@@ -1,14 +1,16 @@
-// The sealed histories, of which the greatest. Those of which one holds the other differ in length, so a slot for each length holds them.
+// The sealed histories, of which the greatest, and what they skip of it. Those of which one holds the other differ in length, so a slot for each length holds them.
 ghost use mathlib.Core.Path.{_≡_};
+ghost use mathlib.Core.Bool.{true};
 ghost use mathlib.Core.List.{List};
-ghost use Prim.Native.Nat.{_≤_, _<_};
+ghost use Prim.Native.Nat.{ℕ, _≤_, _<_};
 ghost use lib.ListN.{getD, length};
-ghost use Rattle.protocol.specs.History.{holds};
+ghost use Rattle.protocol.specs.History.{holds, top};
 ghost use Rattle.protocol.specs.Statement.{Stmt};
+ghost use Rattle.protocol.specs.Evidence.{passesOver};
 ghost use Rattle.pool.specs.Pool.{stmtAt};
-ghost use Rattle.views.specs.View.{viewsOf};
-ghost use Rattle.ranking.specs.Slots.{historyScale, numberIn, sealMark, Slots, Filled};
-ghost use Rattle.ranking.specs.Ranking.{FirstMarked, ChainOf, MarkedAgreements, HistoriesOf};
+ghost use Rattle.views.specs.View.{viewOf, ringOfWord, viewsOf};
+ghost use Rattle.ranking.specs.Slots.{historyScale, numberIn, sealMark, occupied, Starts, Slots, Filled};
+ghost use Rattle.ranking.specs.Ranking.{FirstMarked, ChainOf, PassedToo, PassedOf, SkippedOf, MarkedAgreements, HistoriesOf};
 use crate::MEMO;
 use crate::Summit;
 use pool::POOL_WORDS;
@@ -19,9 +21,10 @@ use views::View;
 // Histories have this many lengths, that of none among them.
 const LENGTHS: usize = View::LIMIT + 1;
 
-// Whether the histories in the slots are a chain, and the pool number of the last.
+// Whether the histories in the slots are a chain; whether each of it starts with all views of the one before, so that none is skipped; and the pool number of the last.
 struct Links {
     whole: bool,
+    steady: bool,
     last: u16,
 }
 
@@ -33,6 +36,24 @@ fn has_views(words: &[u64; POOL_WORDS], i: u16, j: u16) -> bool
     let mut p = 0usize;
     while p < c {
         if !pool::has_view(words, i, pool::nth(words, j, p)) {
+            return false;
+        }
+        p += 1;
+    }
+    true
+}
+
+// Whether statement i starts with the views of statement j. Most histories do with those that were sealed before them.
+fn starts_with(words: &[u64; POOL_WORDS], i: u16, j: u16) -> bool
+    ensures { λ r. ⌜ (r ≡ true → Starts (stmtAt (now (words .entry)) i .views) (stmtAt (now (words .entry)) j .views)) ⌝ }
+{
+    let c = pool::count(words, j);
+    if pool::count(words, i) < c {
+        return false;
+    }
+    let mut p = 0usize;
+    while p < c {
+        if pool::nth(words, i, p) != pool::nth(words, j, p) {
             return false;
         }
         p += 1;
@@ -107,9 +128,10 @@ fn fill_lengths(
 
 // Whether every two histories in the slots hold one the other: it is enough that each is held by the next.
 fn link_lengths(words: &[u64; POOL_WORDS], slots: &[u16; LENGTHS]) -> Links
-    ensures { λ r. ⌜ ChainOf (now (words .entry)) (now (slots .entry)) (r .whole) (r .last) ⌝ }
+    ensures { λ r. ⌜ ChainOf (now (words .entry)) (now (slots .entry)) (r .whole) (r .steady) (r .last) ⌝ }
 {
     let mut some = false;
+    let mut steady = true;
     let mut last = 0u16;
     let mut k = 0usize;
     while k < LENGTHS {
@@ -124,13 +146,115 @@ fn link_lengths(words: &[u64; POOL_WORDS], slots: &[u16; LENGTHS]) -> Links
             k += 1;
             continue;
         }
-        if !has_views(words, n, last) {
-            return Links { whole: false, last };
+        if starts_with(words, n, last) {
+            last = n;
+            k += 1;
+            continue;
         }
+        if !has_views(words, n, last) {
+            return Links {
+                whole: false,
+                steady,
+                last,
+            };
+        }
+        steady = false;
         last = n;
         k += 1;
     }
-    Links { whole: true, last }
+    Links {
+        whole: true,
+        steady,
+        last,
+    }
+}
+
+// Whether the history of statement n, whose top is t, passes over u.
+fn passes_over(words: &[u64; POOL_WORDS], n: u16, t: u64, u: u64) -> bool
+    ensures { λ r. ⌜ ((init : ℕ) → viewOf t ≡ top (ringOfWord init) (stmtAt (now (words .entry)) n .views) → r ≡ passesOver (ringOfWord init) (viewOf u) (stmtAt (now (words .entry)) n .views)) ⌝ }
+{
+    if !views::below_view(u, t) {
+        return false;
+    }
+    !pool::has_view(words, n, u)
+}
+
+// The set `seen`, and the places too, among the first m views of a list, of those that the history of statement n passes over.
+fn passed_by(
+    words: &[u64; POOL_WORDS],
+    n: u16,
+    init: u64,
+    list: &[u64; View::LIMIT],
+    m: usize,
+    seen: u32,
+) -> u32
+    requires { ⌜ m ≤ 16 ⌝ }
+    ensures { λ r. ⌜ PassedToo (ringOfWord init) (stmtAt (now (words .entry)) n .views) (now (list .entry)) m seen r ⌝ }
+{
+    let t = pool::top_view(words, n, init);
+    let mut all = seen;
+    let mut i = 0usize;
+    while i < m {
+        let hit = passes_over(words, n, t, views::list_at(list, i));
+        all = views::note(all, hit, i as u64);
+        i += 1;
+    }
+    all
+}
+
+// The places, among the first m views of a list, of those that a history in the slots passes over that has fewer views than these.
+fn passed(
+    words: &[u64; POOL_WORDS],
+    slots: &[u16; LENGTHS],
+    init: u64,
+    list: &[u64; View::LIMIT],
+    m: usize,
+) -> u32
+    requires { ⌜ m ≤ 16 ⌝ }
+    ensures { λ r. ⌜ PassedOf (ringOfWord init) (occupied (historyScale (now (words .entry))) (now (slots .entry)) m) (now (list .entry)) m r ⌝ }
+{
+    let mut seen = 0u32;
+    let mut k = 0usize;
+    while k < m {
+        let n = number_at(slots, k);
+        if pool::count(words, n) != k {
+            k += 1;
+            continue;
+        }
+        let more = passed_by(words, n, init, list, m, seen);
+        seen = more;
+        k += 1;
+    }
+    seen
+}
+
+// The same, where a chain that is steady passes over nothing.
+fn skipped(
+    words: &[u64; POOL_WORDS],
+    slots: &[u16; LENGTHS],
+    init: u64,
+    list: &[u64; View::LIMIT],
+    m: usize,
+    steady: bool,
+) -> u32
+    requires { ⌜ m ≤ 16 ⌝ }
+    ensures { λ r. ⌜ SkippedOf (ringOfWord init) (occupied (historyScale (now (words .entry))) (now (slots .entry)) m) (now (list .entry)) m steady r ⌝ }
+{
+    if steady {
+        return 0;
+    }
+    passed(words, slots, init, list, m)
+}
+
+// That two histories are apart.
+fn apart() -> Summit
+    ensures { λ r. ⌜ r ≡ record { conflict = true; length = 0; skipped = 0 } ⌝ }
+{
+    Summit {
+        conflict: true,
+        length: 0,
+        skipped: 0,
+    }
 }
 
 // Copies the views of statement n: how many.
@@ -147,7 +271,7 @@ fn copy_views(words: &[u64; POOL_WORDS], n: u16, out: &mut [u64; View::LIMIT]) -
     c
 }
 
-// The greatest sealed history of a record, of whose agreements, so many, `memo` marks those that seal theirs, into `out`.
+// The greatest sealed history of a record, of whose agreements, so many, `memo` marks those that seal theirs, into `out`, and the places in it of the views that are skipped.
 pub fn climb(
     words: &[u64; POOL_WORDS],
     rows: &[u16; ROWS],
@@ -166,26 +290,23 @@ pub fn climb(
         return Summit {
             conflict: false,
             length: 1,
+            skipped: 0,
         };
     }
     let base = entry_at(rows, a);
     let mut slots = [base; LENGTHS];
     if !fill_lengths(words, rows, memo, agreements, base, &mut slots) {
-        return Summit {
-            conflict: true,
-            length: 0,
-        };
+        return apart();
     }
     let links = link_lengths(words, &slots);
     if !links.whole {
-        return Summit {
-            conflict: true,
-            length: 0,
-        };
+        return apart();
     }
     let length = copy_views(words, links.last, out);
+    let skipped = skipped(words, &slots, init, out, length, links.steady);
     Summit {
         conflict: false,
         length,
+        skipped,
     }
 }

@@ -16,8 +16,9 @@ pub struct Ranked {
     pub count: usize,
 }
 
-// How long the greatest sealed history is, or that two of them are apart.
+// That two sealed histories are apart; or the set of the places, in the greatest, of the views that are skipped, and how long it is.
 pub struct Summit {
     pub conflict: bool,
+    pub skipped: u32,
     pub length: usize,
 }

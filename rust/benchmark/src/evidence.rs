@@ -3,7 +3,7 @@
 use std::hint::black_box;
 
 use compare::evidence::{lend, Lent};
-use compare::records::{breadth, depth, mixed, pool_of, prepares, reports, votes, Case};
+use compare::records::{breadth, depth, gaps, mixed, pool_of, prepares, reports, skipped, votes, Case};
 use pekdrav::EvidenceWords;
 use reference::Evidence;
 
@@ -50,6 +50,8 @@ fn cases(kind: &str, count: usize) -> Vec<Case> {
         "breadth" => vec![breadth(count)],
         "depth" => vec![depth(count)],
         "mixed" => vec![mixed(count)],
+        "skipped" => vec![skipped(count, 1)],
+        "gaps" => vec![gaps(count, 1)],
         "64 notices, honest" => honest("notices-64", count),
         "64 notices, reports" => vec![reports(count)],
         "64 notices, prepares" => vec![prepares(count, true)],
@@ -79,5 +81,8 @@ pub fn print() {
     for kind in ["honest", "votes", "reports", "prepares", "prepares of one"] {
         let name = format!("64 notices, {kind}");
         compared(&format!("{name}, 512"), cases(&name, 512));
+    }
+    for kind in ["skipped", "gaps"] {
+        compared(&format!("{kind}, 512"), cases(kind, 512));
     }
 }

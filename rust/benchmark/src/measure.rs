@@ -40,7 +40,12 @@ pub fn measure<T>(all: &[T], share: usize, mine: impl FnMut(&[T]), theirs: impl 
 /// The same in that many rounds, for work that takes long.
 pub fn measure_in<T>(rounds: usize, all: &[T], share: usize, mut mine: impl FnMut(&[T]), mut theirs: impl FnMut(&[T])) -> Times {
     let shares = all.chunks_exact(share).cycle().take(rounds);
-    let rounds: Vec<(f64, f64)> = shares.map(|pieces| (time(&mut mine, pieces), time(&mut theirs, pieces))).collect();
+    medians(shares.map(|pieces| (time(&mut mine, pieces), time(&mut theirs, pieces))))
+}
+
+/// The medians of rounds that took the one and the other so many nanoseconds.
+pub fn medians(rounds: impl Iterator<Item = (f64, f64)>) -> Times {
+    let rounds: Vec<(f64, f64)> = rounds.collect();
     Times {
         mine: median(rounds.iter().map(|round| round.0).collect()),
         theirs: median(rounds.iter().map(|round| round.1).collect()),

@@ -3,11 +3,11 @@
 use std::hint::black_box;
 use std::time::Instant;
 
-use compare::records::{prepares, reports, votes, Case, WAITING};
+use compare::records::{gaps, prepares, reports, skipped, votes, Case, NEWCOMER, WAITING};
 use pekdrav::{Controller, Pool};
-use reference::{Answer, Body, Record, Statement};
+use reference::{Answer, Body, Document, Evidence, Record, Statement};
 
-use crate::measure::{head, measure_in, median, row, Times};
+use crate::measure::{head, measure_in, median, medians, row, Times};
 
 const RUNS: usize = 15;
 
@@ -173,14 +173,19 @@ fn compared(size: u8, notices: usize, noise: u64) {
     row(&format!("{prefix}{size} controllers, records to {longest}, {turns} turns"), &times);
 }
 
-/// Turns of a controller that waits, over a record of the worst that liars can write, once there is nothing to do any more.
-fn waited(name: &str, case: &Case) {
-    let mut seat = Seat::new(WAITING, case.initial.joined(), case.senders.len(), Pool::new());
+/// A controller with the statements of a record.
+fn seated(number: u8, case: &Case) -> Seat {
+    let mut seat = Seat::new(number, case.initial.joined(), case.senders.len(), Pool::new());
     for statement in &case.statements {
         seat.mine.add(&mut seat.pool, &statement.write());
         seat.theirs.add(statement);
     }
-    let Seat { mut mine, mut pool, mut theirs, .. } = seat;
+    seat
+}
+
+/// Turns of a controller that waits, over a record of the worst that liars can write, once there is nothing to do any more.
+fn waited(name: &str, case: &Case) {
+    let Seat { mut mine, mut pool, mut theirs, .. } = seated(WAITING, case);
     while !matches!((mine.turn(&mut pool), theirs.turn()), (pekdrav::Answer::Quiet, Answer::Quiet)) {}
     let mine = |_: &[()]| {
         black_box(mine.turn(&mut pool));
@@ -190,6 +195,27 @@ fn waited(name: &str, case: &Case) {
     };
     let times = measure_in(ROUNDS, &[()], 1, mine, theirs);
     row(&format!("64 notices, {name}, {} statements", case.statements.len()), &times);
+}
+
+/// Turns of a newcomer that enters past skipped views. It enters once, so that every turn has a controller of its own; entering signs nothing, so that
+/// one pool serves all.
+fn entered(name: &str, case: &Case) {
+    let Seat { mine: prepared, mut pool, .. } = seated(NEWCOMER, case);
+    let mut round = || {
+        let mut mine = prepared.clone();
+        let mut theirs = reference::Controller::<Document>::new(NEWCOMER);
+        theirs.setup(case.initial.joined(), &case.senders);
+        case.statements.iter().for_each(|statement| drop(theirs.add(statement)));
+        // Both read their records before they are timed, as they do in the other rows, where they took a turn just before.
+        black_box((mine.evidence(&pool), Evidence::of(case.initial, &case.senders, theirs.record().statements())));
+        let (answer, first) = timed(|| mine.turn(&mut pool));
+        let (other, second) = timed(|| theirs.turn());
+        let both = matches!((answer, &other), (pekdrav::Answer::Entered(_), Answer::Entered(_)));
+        assert!(both, "{name}: {answer:?} and {other:?}");
+        (first, second)
+    };
+    let times = medians((0..ROUNDS).map(|_| round()));
+    row(&format!("{name}, {} statements", case.statements.len()), &times);
 }
 
 pub fn print() {
@@ -203,4 +229,8 @@ pub fn print() {
     waited("prepares and reports bound to them", &prepares(512, true));
     waited("prepares of one notice and reports bound to them", &prepares(512, false));
     waited("votes", &votes(512));
+    entered("past 14 skipped views", &skipped(512, 1));
+    entered("past 7 skipped views, 16 sealed histories", &gaps(512, 1));
+    entered("64 notices, past 14 skipped views", &skipped(512, 64));
+    entered("64 notices, past 7 skipped views, 16 sealed histories", &gaps(512, 64));
 }

@@ -107,6 +107,18 @@ impl<'a> Definition<'a> {
         distinct(initial.into_iter().chain(self.named().iter().copied().filter(|history| self.is_sealed(history))))
     }
 
+    /// The sealed history that holds every other, if there is one.
+    pub fn greatest(&self) -> Option<History> {
+        let sealed = self.sealed_histories();
+        sealed.iter().find(|history| sealed.iter().all(|other| history.holds(other))).copied()
+    }
+
+    /// Whether some sealed history lacks the view and has a top that is greater than it.
+    pub fn is_skipped(&self, view: View) -> bool {
+        let passes = |history: &History| view.strictly_within(history.top()) && !history.views().contains(&view);
+        self.sealed_histories().iter().any(passes)
+    }
+
     pub fn tops(&self) -> &[View] {
         self.tops.get_or_init(|| distinct(self.sealed_histories().iter().map(|history| history.top())))
     }
@@ -170,6 +182,21 @@ impl<'a> Definition<'a> {
             Binding::Barred => self.prepares(notice).len() >= 2,
         };
         bound && told.kept.is_none_or(|payload| self.has_certificate(notice, payload))
+    }
+
+    /// The reports on the view that count.
+    pub fn counted(&self, at: View) -> Vec<&Report> {
+        let on = |statement: &'a Statement| match &statement.body {
+            Body::Report(report) if report.at == at && self.counts(statement.origin, report) => Some(report),
+            _ => None,
+        };
+        self.statements.iter().filter_map(on).collect()
+    }
+
+    /// Whether a quorum of the view has reports on it that count.
+    pub fn is_reported(&self, at: View) -> bool {
+        let counted = self.counted(at);
+        self.quorum_signed(at, |body| matches!(body, Body::Report(report) if counted.contains(&report)))
     }
 
     pub fn counts(&self, origin: u8, report: &Report) -> bool {

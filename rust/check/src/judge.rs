@@ -1,7 +1,7 @@
 //! Whether a run is within the premises, whether demand 3 holds on it, and how deep it went.
 
 use reference::controller::Ring;
-use reference::{History, View};
+use reference::{Binding, History, Report, View};
 
 use crate::definition::{Definition, Store};
 use crate::run::{Deed, Event, Run};
@@ -48,6 +48,10 @@ pub struct Depth {
     pub late_deliveries: usize,
     /// The notices that somebody delivered.
     pub notices: usize,
+    /// The times that a rule-follower entered a view past one that was skipped and lacked a quorum of counted reports.
+    pub short_roads: usize,
+    /// The times that one entered past a skipped view, be there a quorum or not, whose counted reports would have bound it otherwise.
+    pub bound_otherwise: usize,
 }
 
 #[derive(Clone, Debug)]
@@ -83,7 +87,7 @@ pub fn judge(run: &Run) -> Verdict {
     breaches.extend(incomparable(run, ring));
     breaches.extend(not_kept(run, ring, &shown));
     let contradiction = contradiction(&shown, ring.senders.len());
-    Verdict { within_premises: tops.iter().all(bears), breaches, contradiction, depth: depth(run, ring, tops.len()) }
+    Verdict { within_premises: tops.iter().all(bears), breaches, contradiction, depth: depth(run, ring, &shown) }
 }
 
 fn contradiction(shown: &Definition, notices: usize) -> bool {
@@ -189,19 +193,53 @@ fn not_kept(run: &Run, ring: &Ring, shown: &Definition) -> Vec<Breach> {
     breaches
 }
 
-fn depth(run: &Run, ring: &Ring, tops: usize) -> Depth {
+/// Whether the counted reports on the skipped views would make another binding for some notice than those on the needed ones.
+fn binds_otherwise(held: &Definition, skipped: &[View], needed: &[View], notices: usize) -> bool {
+    let reports = |views: &[View]| views.iter().flat_map(|view| held.counted(*view)).collect::<Vec<_>>();
+    let (passed, heard) = (reports(skipped), reports(needed));
+    let join = |notice: usize, from: Binding, reports: &[&Report]| {
+        reports.iter().fold(from, |binding, report| binding.join(report.told[notice].binding))
+    };
+    (0..notices).any(|notice| {
+        let binding = join(notice, Binding::Unbound, &heard);
+        join(notice, binding, &passed) != binding
+    })
+}
+
+/// How often a rule-follower entered past a skipped view without enough reports, and past one whose reports would have bound it otherwise.
+fn short_roads(run: &Run, ring: &Ring, shown: &Definition) -> (usize, usize) {
+    let (mut short, mut otherwise) = (0, 0);
+    // What a record shows its run shows too, so most runs need no look at the records.
+    if !shown.all_candidates().iter().any(|view| shown.is_skipped(*view)) {
+        return (short, otherwise);
+    }
+    for (controller, _, event) in entered(run, ring) {
+        let Some(event) = event else { continue };
+        let held = Definition::new(ring.initial, &ring.senders, &run.records[usize::from(controller)][..event.length]);
+        let Some(greatest) = held.greatest() else { continue };
+        let (skipped, needed): (Vec<View>, Vec<View>) = greatest.below_top().iter().partition(|view| held.is_skipped(**view));
+        short += usize::from(skipped.iter().any(|view| !held.is_reported(*view)));
+        otherwise += usize::from(binds_otherwise(&held, &skipped, &needed, ring.senders.len()));
+    }
+    (short, otherwise)
+}
+
+fn depth(run: &Run, ring: &Ring, shown: &Definition) -> Depth {
     let views = entered(run, ring);
     let count = |k: u8| views.iter().filter(|(who, _, _)| *who == k).count();
     let changed = |before: usize, k: u8| {
         let moved = |event: &Event| event.controller == k && matches!(event.deed, Deed::Entered(_));
         run.events[..before].iter().any(moved)
     };
+    let (short_roads, bound_otherwise) = short_roads(run, ring, shown);
     Depth {
         statements: run.statements.len(),
-        tops,
+        tops: shown.tops().len(),
         entered: (0..16).map(count).max().unwrap_or(0),
         deliveries: deliveries(run).count(),
         late_deliveries: deliveries(run).filter(|delivery| changed(delivery.place, delivery.controller)).count(),
         notices: delivered_notices(run).len(),
+        short_roads,
+        bound_otherwise,
     }
 }

@@ -26,6 +26,10 @@ pub struct Totals {
     pub late: usize,
     /// Runs within the premises in which two notices were delivered.
     pub two_notices: usize,
+    /// Runs within the premises in which somebody entered past a skipped view that lacked a quorum of reports.
+    pub short_roads: usize,
+    /// Runs within the premises in which somebody entered past a skipped view whose reports would have bound it otherwise.
+    pub bound_otherwise: usize,
     /// The greatest of each number over the runs within the premises.
     pub most: Depth,
     /// The runs that met each refusal, by its number.
@@ -49,6 +53,8 @@ impl Totals {
         self.delivering += usize::from(depth.deliveries > 0);
         self.late += usize::from(depth.late_deliveries > 0);
         self.two_notices += usize::from(depth.notices > 1);
+        self.short_roads += usize::from(depth.short_roads > 0);
+        self.bound_otherwise += usize::from(depth.bound_otherwise > 0);
         self.most = Depth {
             statements: self.most.statements.max(depth.statements),
             tops: self.most.tops.max(depth.tops),
@@ -56,6 +62,8 @@ impl Totals {
             deliveries: self.most.deliveries.max(depth.deliveries),
             late_deliveries: self.most.late_deliveries.max(depth.late_deliveries),
             notices: self.most.notices.max(depth.notices),
+            short_roads: self.most.short_roads.max(depth.short_roads),
+            bound_otherwise: self.most.bound_otherwise.max(depth.bound_otherwise),
         };
         if !verdict.holds() {
             self.failed.push(seed);
@@ -73,7 +81,8 @@ impl std::fmt::Display for Totals {
         write!(f, "{} runs, {} within the premises, {} failed {:?}; ", self.runs, self.within_premises, self.failed.len(), self.kinds)?;
         write!(f, "{} broken outside; ", self.broken_outside)?;
         write!(f, "4 tops or more {}, 4 entered or more {}, ", self.four_tops, self.four_entered)?;
-        write!(f, "delivering {}, after a change {}, two notices {}; ", self.delivering, self.late, self.two_notices)?;
+        write!(f, "delivering {}, after a change {}, two notices {}, ", self.delivering, self.late, self.two_notices)?;
+        write!(f, "past a skipped view {}, whose reports bind otherwise {}; ", self.short_roads, self.bound_otherwise)?;
         write!(f, "most: statements {statements}, tops {tops}, entered {entered}, late deliveries {late_deliveries}, ")?;
         write!(f, "notices delivered {notices}; ")?;
         write!(f, "runs with refusals 1 to 9: {:?}", &self.refused[1..])

@@ -3,7 +3,8 @@
 use check::{soak, Definition, Run};
 use generate::{schedule, LIMITS, RANDOM};
 use reference::bench::run;
-use reference::{Body, Document, Evidence, Statement};
+use reference::controller::Ring;
+use reference::{Answer, Binding, Body, Controller, Document, Evidence, Statement, View};
 
 #[test]
 fn honest_runs_keep_the_promises_and_go_deep() {
@@ -36,9 +37,19 @@ fn attacks_within_the_premises_fail() {
 }
 
 #[test]
+fn runs_past_skipped_views_keep_the_promises_and_take_the_short_road() {
+    let totals = soak("skips", 1, 700, 600).unwrap();
+    println!("skips: {totals}");
+    assert!(totals.failed.is_empty(), "{:?}", totals.failed);
+    assert_eq!(totals.within_premises, totals.runs);
+    assert!(totals.short_roads * 5 > totals.runs * 2 && totals.bound_otherwise * 4 > totals.runs);
+    assert!(totals.late * 4 > totals.runs && totals.two_notices > 30 && totals.most.short_roads >= 10);
+}
+
+#[test]
 fn rings_of_each_number_of_notices_keep_the_promises() {
     for notices in [1, 2, 5, 64] {
-        for style in ["honest", "liars", "attack"] {
+        for style in ["honest", "liars", "attack", "skips"] {
             let totals = soak(&format!("{style}-{notices}"), 1, 40, 800).unwrap();
             println!("{style}-{notices}: {totals}");
             assert!(totals.failed.is_empty(), "{style}-{notices}: {:?}", totals.failed);
@@ -73,6 +84,8 @@ fn agrees(run: &Run, statements: &[Statement]) {
     same(&fast.tops, slow.tops());
     assert_eq!(fast.sealed.len(), slow.sealed_histories().len());
     assert!(fast.sealed.iter().all(|history| slow.is_sealed(history)));
+    assert!(fast.candidates.iter().all(|view| fast.skips(*view) == slow.is_skipped(*view)));
+    assert!(fast.conflict() || fast.greatest().copied() == slow.greatest());
     let stores = slow.stores();
     for (notice, known) in (0..).zip(&fast.notices) {
         same(&known.certificates, &slow.certificates(notice));
@@ -109,9 +122,54 @@ fn the_tables_agree_with_the_definitions() {
     }
 }
 
+/// Whether rule 2 applies to who starts anew on the record, if it has no report to sign before, and what it is bound to then.
+fn rule_2(ring: &Ring, k: u8, record: &[Statement]) -> Option<(View, bool, Vec<Binding>)> {
+    let shown = Definition::new(ring.initial, &ring.senders, record);
+    let greatest = shown.greatest()?;
+    let reported = |at: View| {
+        let on = |body: &Body| matches!(body, Body::Report(report) if report.at == at);
+        record.iter().any(|statement| statement.origin == k && on(&statement.body))
+    };
+    let top = greatest.top();
+    let owes = |view: &View| view.has_member(k) && !reported(*view);
+    if top == ring.initial || !top.has_member(k) || greatest.below_top().iter().any(owes) {
+        return None;
+    }
+    let needed: Vec<View> = greatest.below_top().iter().copied().filter(|view| !shown.is_skipped(*view)).collect();
+    let mut bindings = vec![Binding::Unbound; ring.senders.len()];
+    for report in needed.iter().flat_map(|view| shown.counted(*view)) {
+        bindings.iter_mut().zip(&*report.told).for_each(|(binding, told)| *binding = binding.join(told.binding));
+    }
+    Some((top, needed.iter().all(|view| shown.is_reported(*view)), bindings))
+}
+
+#[test]
+fn who_starts_anew_on_a_record_enters_as_defined() {
+    let (mut entered, mut waited) = (0, 0);
+    let runs = (0..40).map(|seed| ("skips", seed)).chain((0..8).flat_map(|seed| [("honest", seed), ("liars", seed), ("attack", seed)]));
+    for (style, seed) in runs {
+        let run = Run::of::<Document>(&schedule(style, 5_000 + seed, 400).unwrap());
+        let ring = run.ring.as_ref().unwrap();
+        for (k, record) in (0..).zip(&run.records) {
+            for length in [record.len() * 3 / 4, record.len() * 7 / 8, record.len()] {
+                let Some((top, due, bindings)) = rule_2(ring, k, &record[..length]) else { continue };
+                let mut anew = Controller::<Document>::new(k);
+                anew.setup(ring.initial.members(), &ring.senders);
+                record[..length].iter().for_each(|statement| assert_eq!(anew.add(statement), Answer::Taken));
+                assert_eq!(anew.turn() == Answer::Entered(top), due, "{style} {seed}, controller {k}, {length} statements");
+                let bound: Vec<Binding> = anew.notices().iter().map(|notice| notice.binding).collect();
+                assert!(!due || bound == bindings, "{style} {seed}, controller {k}, {length} statements");
+                *(if due { &mut entered } else { &mut waited }) += 1;
+            }
+        }
+    }
+    println!("entered {entered}, waited {waited}");
+    assert!(entered > 200 && waited > 50);
+}
+
 #[test]
 fn a_longer_list_shows_all_that_its_prefix_shows() {
-    for style in ["liars", "attack", "overrun"] {
+    for style in ["liars", "attack", "skips", "overrun"] {
         for seed in 0..15 {
             let run = Run::of::<Document>(&schedule(style, seed, 300).unwrap());
             let ring = run.ring.unwrap();
@@ -121,6 +179,7 @@ fn a_longer_list_shows_all_that_its_prefix_shows() {
                 assert!(last.wished.within(next.wished));
                 assert!(last.candidates.iter().all(|view| next.candidates.contains(view)));
                 assert!(last.sealed.iter().all(|history| next.sealed.contains(history)));
+                assert!(last.candidates.iter().all(|view| next.skips(*view) || !last.skips(*view)));
                 for (earlier, later) in last.notices.iter().zip(&next.notices) {
                     assert!(earlier.certificates.iter().all(|payload| later.certificates.contains(payload)));
                 }
@@ -171,6 +230,8 @@ fn each_limit_is_met() {
             ("leave-waits", ",delivered,30", true),
             ("leave-waits", ",delivered,31", true),
             ("notices-64", ",signed,511", true),
+            ("skipped-14", ",15,entered,ffff0000", true),
+            ("skipped-14", ",0,entered,ffff0000", true),
         ] {
             assert_eq!(rows(style, seed).contains(needle), expected, "{style} {seed} {needle}");
         }

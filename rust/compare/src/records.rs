@@ -271,3 +271,57 @@ pub fn votes(count: usize) -> Case {
     statements.truncate(count);
     Case { initial: at, senders: (0..NOTICES).map(|notice| notice as u8 % 3).collect(), statements }
 }
+
+/// Who enters past the views of `skipped` and `gaps`: a member of the last view alone, so that it owes no reports.
+pub const NEWCOMER: u8 = 15;
+
+/// Sixteen views that the liar of the first one chose, and the histories of them, by their places, that it sealed.
+fn sealed(histories: &[Vec<usize>]) -> (Vec<View>, Vec<Statement>) {
+    let chain: Vec<View> = (1..=16).map(rising).collect();
+    let at = chain[0];
+    let mut statements = wishes();
+    chain[1..].iter().for_each(|&view| liar(&mut statements, Body::AgreeView { at, view }));
+    for places in histories {
+        let views: Vec<View> = places.iter().map(|&place| chain[place]).collect();
+        if let Some(history) = History::new(&views) {
+            liar(&mut statements, Body::AgreeHistory { at, history });
+        }
+    }
+    (chain, statements)
+}
+
+/// Those histories, and reports of every member on every view below the last, again and again until there are `count` statements. The reports on the
+/// views that `skips` names by place are bound to one payload of each notice, the others to another; the sender prepared both.
+fn told_apart(histories: &[Vec<usize>], count: usize, notices: usize, skips: impl Fn(usize) -> bool) -> Case {
+    let (chain, mut statements) = sealed(histories);
+    for notice in 0..notices as u8 {
+        [1, 2].into_iter().for_each(|payload| liar(&mut statements, Body::Prepare { notice, payload }));
+    }
+    let members = |place: usize| (0..=place as u8).map(move |origin| (place, origin));
+    let reporters: Vec<(usize, u8)> = (0..15).flat_map(members).collect();
+    // Each time round the reports have another history, so that no two are alike.
+    for history in (0..16).filter_map(|last| History::new(&chain[..=last])) {
+        for &(place, origin) in &reporters {
+            let binding = Binding::Bound(if skips(place) { 2 } else { 1 });
+            let told = vec![Told { binding, kept: None }; notices].into();
+            put(&mut statements, Statement::new(origin, Body::Report(Report { at: chain[place], view: chain[15], told, history })));
+        }
+    }
+    statements.truncate(count);
+    Case { initial: chain[0], senders: vec![0; notices], statements }
+}
+
+/// A history of sixteen views, and one of its first and last alone: fourteen views are skipped.
+pub fn skipped(count: usize, notices: usize) -> Case {
+    told_apart(&[vec![0, 15], (0..16).collect()], count, notices, |place| place > 0)
+}
+
+/// Sixteen sealed histories, each with one view more than the one before: first those of every second view and the last, then one by one those between.
+/// Eight views are topped and seven are skipped.
+pub fn gaps(count: usize, notices: usize) -> Case {
+    let topped: Vec<usize> = (0..15).step_by(2).chain([15]).collect();
+    let rising = (1..topped.len()).map(|length| topped[..=length].to_vec());
+    let filled = (1..=13).step_by(2).map(|least| (0..16).filter(|place| place % 2 == 0 || *place == 15 || *place >= 14 - least).collect());
+    let histories: Vec<Vec<usize>> = rising.chain(filled).collect();
+    told_apart(&histories, count, notices, |place| place % 2 == 1)
+}

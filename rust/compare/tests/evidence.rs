@@ -1,7 +1,7 @@
 //! What records show, by the proved code and by the reference.
 
 use compare::evidence::{compare, lend, mine, theirs, words, Tally};
-use compare::records::{breadth, changed, deepest, depth, mixed, pool_of, prepares, quorums, reports, votes, Case};
+use compare::records::{breadth, changed, deepest, depth, gaps, mixed, pool_of, prepares, quorums, reports, skipped, votes, Case};
 use compare::schedules;
 use generate::Rng;
 use pekdrav::{AppendError, Pool, POOL_WORDS};
@@ -38,7 +38,9 @@ fn worst_records() {
     let sizes = [16, 17, 64, 256, 511, 512];
     let many = |count| [reports(count), prepares(count, true), prepares(count, false), votes(count)];
     let made = sizes.into_iter().flat_map(|count| [breadth(count), depth(count), mixed(count)]);
+    let past = |count| [skipped(count, 1), gaps(count, 1), skipped(count, 64), gaps(count, 64)];
     let made = made.chain([140, 256, 511, 512].into_iter().flat_map(many)).chain([quorums()]);
+    let made = made.chain([40, 160, 512].into_iter().flat_map(past));
     let mut rng = Rng::new(19);
     let cases: Vec<Case> = made.collect();
     let shuffled: Vec<Case> = cases.iter().flat_map(|case| (0..8).map(|_| changed(&mut rng, case)).collect::<Vec<_>>()).collect();

@@ -1,8 +1,9 @@
 //! The proved controller and the reference's in lock step.
 
 use compare::lockstep::{compare_all, Ring, Tally};
-use compare::records::{prepares, reports, votes, WAITING};
+use compare::records::{changed, gaps, prepares, reports, skipped, votes, Case, NEWCOMER, WAITING};
 use compare::schedules;
+use generate::Rng;
 use pekdrav::{Answer, Binding, Certificate, Controller, Kind, Notice, Pool, Refusal, View};
 
 fn agree(name: &str, schedules: impl Iterator<Item = Vec<u8>>) -> Tally {
@@ -45,6 +46,24 @@ fn turns_over_the_worst_records() {
         }
     }
     println!("turns over the worst records: {:?}", ring.tally);
+}
+
+/// Turns over records with skipped views: the newcomer enters past them, and with statements missing or signed by others it does or does not; the members
+/// report.
+#[test]
+fn turns_past_skipped_views() {
+    let mut rng = Rng::new(23);
+    let mut ring = Ring::new();
+    let mut turn_on = |k: u8, case: &Case| ring.turn_on(k, case).unwrap_or_else(|difference| panic!("they differ, {difference}"));
+    for count in [40, 64, 160, 200, 300, 512] {
+        for case in [skipped(count, 1), gaps(count, 1), skipped(count, 5), gaps(count, 64)] {
+            [NEWCOMER, 0, 7, 14].into_iter().for_each(|k| turn_on(k, &case));
+            (0..8).for_each(|_| turn_on(NEWCOMER, &changed(&mut rng, &case)));
+        }
+    }
+    println!("turns past skipped views: {:?}", ring.tally);
+    let least = [("entered", 50), ("quiet", 50), ("signed", 20)];
+    assert!(least.iter().all(|&(answer, count)| ring.tally.get(answer).is_some_and(|&met| met > count)), "too few of a kind");
 }
 
 /// Every memory means a controller: a call on any answers, and a refusal leaves the pool as it was.

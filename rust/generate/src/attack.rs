@@ -8,20 +8,32 @@ use reference::{Binding, Body, Evidence, History, Notice, Outcome, Report, Rules
 use crate::maker::Maker;
 use crate::rng::Rng;
 
-struct Attack<'a, R> {
-    maker: &'a mut Maker<R>,
+/// What `skips` has for the waves in which members ask to join; nothing in an attack.
+#[derive(Default)]
+pub struct Waves {
+    /// The newcomers that asked to join and then do nothing.
+    pub crated: Set,
+    /// The views whose votes are kept from everybody.
+    pub hidden: Vec<View>,
+    /// The views on which reports are heard at once.
+    pub passed: Vec<View>,
+}
+
+pub struct Attack<'a, R> {
+    pub maker: &'a mut Maker<R>,
     members: Set,
-    faulty: Set,
+    pub faulty: Set,
     /// By the number of the notice.
-    senders: Vec<u8>,
+    pub senders: Vec<u8>,
     /// The notices below this are attacked, and the others are left alone.
     attacked: usize,
     /// The followers that are led towards the first payload.
-    first_group: Set,
+    pub first_group: Set,
     /// Of notice 0; every second notice has them the other way round.
     payloads: [u64; 2],
     active: Set,
     leaving: Set,
+    pub waves: Waves,
     /// Percent of the draws in which a follower hears what the attack would keep from it.
     leak: usize,
 }
@@ -29,46 +41,57 @@ struct Attack<'a, R> {
 /// An attack within the premises: as many liars as the initial view bears, and more that never join.
 pub fn attack<R: Rules>(mut maker: Maker<R>) -> Vec<u8> {
     let notices = maker.notices();
-    let rng = &mut maker.rng;
-    let size = [4, 4, 4, 5, 7][rng.below(5)];
-    let members = rng.subset(!0, size);
-    let inside = rng.subset(members, (size - 1) / 3);
-    let outsiders = rng.below(5);
-    let faulty = inside | rng.subset(!members, outsiders);
-    let mut sender = || {
-        let lying = rng.chance(75);
-        rng.member(if lying { inside } else { members & !inside }).unwrap_or(0)
-    };
-    let senders: Vec<u8> = (0..notices).map(|_| sender()).collect();
-    let attacked = rng.between(1, notices.min(3));
-    // With the liars inside, this many followers are just a quorum.
-    let enough = size - 2 * ((size - 1) / 3);
-    let led = if rng.chance(70) { enough } else { rng.between(1, size - 1) };
-    let first_group = rng.subset(members & !faulty, led);
-    let payload = rng.draw() >> rng.below(64);
-    let leak = [0, 1, 3, 10][rng.below(4)];
-    maker.setup(members, &senders, faulty);
-    let payloads = [payload, payload ^ 1];
-    let (active, leaving) = (members, 0);
-    let mut attack = Attack { maker: &mut maker, members, faulty, senders, attacked, first_group, payloads, active, leaving, leak };
-    attack.open();
+    let size = [4, 4, 4, 5, 7][maker.rng.below(5)];
+    let mut attack = Attack::start(&mut maker, notices, size, (size - 1) / 3);
     while !attack.maker.is_done() {
         attack.step();
     }
     maker.finish()
 }
 
-impl<R: Rules> Attack<'_, R> {
+impl<'a, R: Rules> Attack<'a, R> {
+    /// Sets up a ring of `size` members, of which `liars` lie and most notices are sent by these, and has the attacked notices sent.
+    pub fn start(maker: &'a mut Maker<R>, notices: usize, size: usize, liars: usize) -> Attack<'a, R> {
+        let rng = &mut maker.rng;
+        let members = rng.subset(!0, size);
+        let inside = rng.subset(members, liars);
+        let outsiders = rng.below(5);
+        let faulty = inside | rng.subset(!members, outsiders);
+        let mut sender = || {
+            let lying = rng.chance(75) && inside != 0;
+            rng.member(if lying { inside } else { members & !inside }).unwrap_or(0)
+        };
+        let senders: Vec<u8> = (0..notices).map(|_| sender()).collect();
+        let attacked = rng.between(1, notices.min(3));
+        // With the liars inside, this many followers are just a quorum.
+        let enough = size - 2 * ((size - 1) / 3);
+        let led = if rng.chance(70) { enough } else { rng.between(1, size - 1) };
+        let first_group = rng.subset(members & !faulty, led);
+        let payload = rng.draw() >> rng.below(64);
+        let leak = [0, 1, 3, 10][rng.below(4)];
+        maker.setup(members, &senders, faulty);
+        let payloads = [payload, payload ^ 1];
+        let (active, leaving, waves) = (members, 0, Waves::default());
+        let mut attack = Attack { maker, members, faulty, senders, attacked, first_group, payloads, active, leaving, waves, leak };
+        attack.open();
+        attack
+    }
+
     fn open(&mut self) {
         for notice in 0..self.attacked as u8 {
-            let sender = self.senders[usize::from(notice)];
-            if self.faulty >> sender & 1 == 1 {
-                for payload in self.payloads {
-                    self.maker.lie(&Statement::new(sender, Body::Prepare { notice, payload }));
-                }
-            } else if self.maker.rng.chance(60) {
-                self.maker.send(sender, notice, self.payloads[0]);
+            self.send(notice, 60);
+        }
+    }
+
+    /// A liar prepares both payloads of its notice; a follower is asked to send the first in `percent` of a hundred draws.
+    pub fn send(&mut self, notice: u8, percent: usize) {
+        let sender = self.senders[usize::from(notice)];
+        if self.faulty >> sender & 1 == 1 {
+            for payload in self.payloads {
+                self.maker.lie(&Statement::new(sender, Body::Prepare { notice, payload }));
             }
+        } else if self.maker.rng.chance(percent) {
+            self.maker.send(sender, notice, self.payloads[0]);
         }
     }
 
@@ -96,27 +119,40 @@ impl<R: Rules> Attack<'_, R> {
         self.payloads[usize::from(second ^ (notice % 2 == 1))]
     }
 
-    fn followers(&self) -> Set {
-        self.active & !self.faulty
+    /// The rule-followers that are in the ring, or asked to be and do their part.
+    pub fn followers(&self) -> Set {
+        self.active & !self.faulty & !self.waves.crated
     }
 
     /// One to four followers ask to join or to leave at once.
     fn change(&mut self) {
         for _ in 0..self.maker.rng.between(1, 4) {
-            let staying = self.followers() & !self.leaving;
-            let joins = self.maker.rng.chance(if staying.count_ones() > 5 { 20 } else { 90 });
-            if joins {
-                let Some(k) = self.maker.rng.member(!self.active & !self.faulty) else { continue };
-                if self.maker.join(k) == Outcome::Taken(0) {
-                    self.active |= 1 << k;
-                    self.maker.turns(k, 1);
-                }
-            } else if let Some(k) = self.leaver(staying) {
-                if self.maker.leave(k) == Outcome::Taken(0) {
-                    self.leaving |= 1 << k;
-                    self.maker.turns(k, 2);
-                }
+            let many = (self.followers() & !self.leaving).count_ones() > 5;
+            if self.maker.rng.chance(if many { 20 } else { 90 }) {
+                self.join();
+            } else {
+                self.leave();
             }
+        }
+    }
+
+    /// A follower asks to join.
+    pub fn join(&mut self) -> Option<u8> {
+        let k = self.maker.rng.member(!self.active & !self.faulty)?;
+        let taken = self.maker.join(k) == Outcome::Taken(0);
+        if taken {
+            self.active |= 1 << k;
+            self.maker.turns(k, 1);
+        }
+        taken.then_some(k)
+    }
+
+    /// A follower asks to leave.
+    pub fn leave(&mut self) {
+        let Some(k) = self.leaver(self.followers() & !self.leaving) else { return };
+        if self.maker.leave(k) == Outcome::Taken(0) {
+            self.leaving |= 1 << k;
+            self.maker.turns(k, 2);
         }
     }
 
@@ -131,7 +167,7 @@ impl<R: Rules> Attack<'_, R> {
     }
 
     /// The liars sign what a follower signed lately.
-    fn echo(&mut self) {
+    pub fn echo(&mut self) {
         let Some(first) = self.maker.rng.member(self.members & self.faulty) else { return };
         let pool = self.maker.bench.pool();
         let is_vote = |statement: &&Statement| matches!(statement.kind(), 3 | 4 | 7 | 8);
@@ -187,7 +223,7 @@ impl<R: Rules> Attack<'_, R> {
     }
 
     /// One follower hears what serves the attack, the most useful first, and takes turns.
-    fn hear(&mut self) {
+    pub fn hear(&mut self) {
         // Once somebody delivered, the attack is about the second group.
         let delivers = |notice: &Notice| notice.delivered;
         let delivered = self.maker.bench.controllers().any(|controller| controller.notices().iter().any(delivers));
@@ -215,7 +251,9 @@ impl<R: Rules> Attack<'_, R> {
         let other_binding = |(notice, told): (u8, &Told)| matches!(told.binding, Binding::Bound(other) if !own(notice, other));
         let worth = match &self.maker.bench.pool().statements()[number].body {
             Body::Join | Body::Leave => 20,
+            Body::AgreeView { view, .. } if self.waves.hidden.contains(view) => 0,
             Body::AgreeView { .. } | Body::AgreeHistory { .. } => 25,
+            Body::Report(report) if self.waves.passed.contains(&report.at) => 60,
             Body::Report(report) if (0..).zip(&*report.told).any(other_binding) => 9,
             Body::Report(_) => 25,
             Body::Prepare { notice, payload } if own(*notice, *payload) => 50,

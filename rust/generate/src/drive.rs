@@ -79,19 +79,9 @@ impl<R: Rules> Drive<'_, R> {
             draw if draw < 7 + lies + rounds => self.round(),
             _ => self.advance(),
         }
-        if self.maker.rng.chance(30) && self.is_settled() {
+        if self.maker.rng.chance(30) && self.maker.is_settled(!self.plan.faulty) {
             self.ask();
         }
-    }
-
-    /// Whether every follower that is a member of the pool's greatest top has entered it, and no change is due.
-    fn is_settled(&self) -> bool {
-        let evidence = self.maker.evidence();
-        let Some(greatest) = evidence.greatest() else { return false };
-        let top = greatest.top();
-        let entered = |k: u8| self.maker.bench.controller(k).is_some_and(|c| c.entered().contains(&top));
-        let followers = top.members() & !self.plan.faulty;
-        top == evidence.wished && (0..16).all(|k| followers >> k & 1 == 0 || entered(k))
     }
 
     /// Asks for a join or a leave, or has a faulty controller sign one.

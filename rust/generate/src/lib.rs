@@ -7,6 +7,7 @@ mod limits;
 mod maker;
 mod notices;
 mod rng;
+mod skips;
 mod styles;
 
 pub use limits::LIMITS;
@@ -16,7 +17,7 @@ pub use rng::Rng;
 use reference::{Document, Rules, NOTICES};
 
 /// The styles that are made at random; the limits are styles too.
-pub const RANDOM: &[&str] = &["honest", "liars", "attack", "overrun", "damaged"];
+pub const RANDOM: &[&str] = &["honest", "liars", "attack", "skips", "overrun", "damaged"];
 
 /// A schedule of the style, or `None` if there is no such style.
 ///
@@ -34,6 +35,7 @@ pub fn schedule_for<R: Rules>(style: &str, seed: u64, lines: usize) -> Option<Ve
         "honest" => Some(styles::honest(maker)),
         "liars" => Some(styles::liars(maker)),
         "attack" => Some(attack::attack(maker)),
+        "skips" => Some(skips::skips(maker)),
         "overrun" => Some(styles::overrun(maker)),
         "damaged" => Some(styles::damaged(maker)),
         name => limits::limit(name, seed),

@@ -12,7 +12,7 @@ pub const LIMITS: &[&str] = &[
     "pool-512", "pool-513", "record-512", "record-513", "ring-512", "candidates-15", "candidates-16", "candidates-17", "candidates-20",
     "incomparable", "two-sealed", "two-certificates", "seven-before-six", "bytes-65536", "bytes-65537", "empty-lines", "no-newline",
     "everyone-leaves", "count-0", "count-64", "count-65", "count-255", "unknown-notice", "groups", "one-sender", "mixed-notices",
-    "certificates-apart", "leave-waits", "notices-64",
+    "certificates-apart", "leave-waits", "notices-64", "skipped-14",
 ];
 
 /// More lines than any schedule has.
@@ -50,6 +50,7 @@ pub fn limit(name: &str, seed: u64) -> Option<Vec<u8>> {
         "certificates-apart" => notices::certificates_apart(&mut maker),
         "leave-waits" => notices::leave_waits(&mut maker),
         "notices-64" => notices::all(&mut maker),
+        "skipped-14" => skipped(&mut maker),
         _ => return None,
     }
     Some(maker.finish())
@@ -165,6 +166,16 @@ fn two_sealed(maker: &mut Maker) {
         maker.lie(&Statement::new(0, Body::AgreeHistory { at: views[0], history }));
         settle(maker, 1);
     }
+}
+
+/// A history of sixteen views, of which a shorter one has the first and the last alone; who is a member of the last alone enters at once.
+fn skipped(maker: &mut Maker) {
+    let views = chain(maker, 16);
+    for listed in [vec![views[0], views[15]], views.clone()] {
+        let history = History::new(&listed).expect("a part of a chain");
+        maker.lie(&Statement::new(0, Body::AgreeHistory { at: views[0], history }));
+    }
+    settle(maker, 7);
 }
 
 fn two_certificates(maker: &mut Maker) {

@@ -29,7 +29,7 @@ fn main() -> ExitCode {
     let Some(schedule) = made else {
         eprintln!("usage: ring-generate [--seed N] [--lines N] [--style NAME]");
         eprintln!("styles: {} {}", generate::RANDOM.join(" "), generate::LIMITS.join(" "));
-        eprintln!("honest-64 is honest with 64 notices, and so for each of the first five");
+        eprintln!("honest-64 is honest with 64 notices, and so for each of the first {}", generate::RANDOM.len());
         return ExitCode::FAILURE;
     };
     match io::stdout().lock().write_all(&schedule) {

@@ -119,6 +119,16 @@ impl<R: Rules> Maker<R> {
         Evidence::of(initial, senders, self.bench.pool().statements())
     }
 
+    /// Whether each of the followers that is a member of the pool's greatest top has entered it, and no change is due.
+    pub fn is_settled(&self, followers: Set) -> bool {
+        let evidence = self.evidence();
+        let Some(greatest) = evidence.greatest() else { return false };
+        let top = greatest.top();
+        let entered = |k: u8| self.bench.controller(k).is_some_and(|controller| controller.entered().contains(&top));
+        let followers = top.members() & followers;
+        top == evidence.wished && (0..16).all(|k| followers >> k & 1 == 0 || entered(k))
+    }
+
     /// The numbers of the pool's statements that `k` lacks, of the origins in `from`.
     pub fn missing(&self, k: u8, from: Set) -> Vec<usize> {
         let Some(controller) = self.bench.controller(k) else {

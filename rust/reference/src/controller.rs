@@ -348,21 +348,41 @@ impl<R: Rules> Situation<'_, R> {
         if !self.top.has_member(self.controller.number) || self.controller.entered.contains(&self.top) {
             return None;
         }
+        let needed = self.needed();
         let older = self.greatest.below_top();
-        let older = if R::EVERY_OLDER_VIEW { older } else { &older[older.len().saturating_sub(1)..] };
+        let heard = if R::SKIPPED_UNHEARD { &needed } else { older };
+        let carried = R::BINDING_CARRIED && (R::SHORT_ROAD_BINDS || needed == older);
         let mut reporters = [0 as Set; History::LIMIT];
         let mut bindings: Vec<Binding> = self.controller.notices.iter().map(|notice| notice.binding).collect();
         for Statement { origin, body } in self.controller.record.statements() {
             let Some(report) = report_of(body) else { continue };
-            let Some(place) = older.iter().position(|view| *view == report.at) else { continue };
+            let Some(place) = heard.iter().position(|view| *view == report.at) else { continue };
             if self.evidence.counts_by::<R>(*origin, report) {
                 reporters[place] |= alone(*origin);
-                let told = report.told.iter().filter(|_| R::BINDING_CARRIED);
+                let told = report.told.iter().filter(|_| carried);
                 bindings.iter_mut().zip(told).for_each(|(binding, told)| *binding = binding.join(told.binding));
             }
         }
-        let quorum = |(view, reporters): (&View, &Set)| is_quorum::<R>(*view, *reporters);
-        older.iter().zip(&reporters).all(quorum).then_some(Step::Enter(self.top, bindings))
+        let quorum =
+            |(view, reporters): (&View, &Set)| is_quorum::<R>(*view, *reporters) || (!R::SKIPPED_UNHEARD && !needed.contains(view));
+        heard.iter().zip(&reporters).all(quorum).then_some(Step::Enter(self.top, bindings))
+    }
+
+    /// The views below the top that need reports, since no sealed history skips them.
+    fn needed(&self) -> Vec<View> {
+        let older = self.greatest.below_top();
+        let mut skipped = [false; History::LIMIT];
+        // The greatest history has all its own views, so only the others can lack one; it is the last of the sealed.
+        let others = self.evidence.sealed.split_last().map_or(&[][..], |(_, others)| others);
+        others.iter().for_each(|history| skip::<R>(&mut skipped, self.greatest, history));
+        if !R::SKIPPED_BY_SEALED {
+            let named = self.controller.record.statements().iter().filter_map(|statement| history_of(&statement.body));
+            named.for_each(|history| skip::<R>(&mut skipped, self.greatest, history));
+        }
+        let from = if R::EVERY_OLDER_VIEW { 0 } else { older.len().saturating_sub(1) };
+        let mut needed = Vec::with_capacity(older.len());
+        needed.extend((from..older.len()).filter(|place| !(R::VIEWS_SKIPPED && skipped[*place])).map(|place| older[place]));
+        needed
     }
 
     /// Rule 3.
@@ -472,5 +492,25 @@ fn report_of(body: &Body) -> Option<&Report> {
     match body {
         Body::Report(report) => Some(report),
         _ => None,
+    }
+}
+
+fn history_of(body: &Body) -> Option<&History> {
+    match body {
+        Body::AgreeHistory { history, .. } => Some(history),
+        _ => None,
+    }
+}
+
+/// Marks the views of the greatest history that the history lacks and that lie strictly within its top.
+fn skip<R: Rules>(skipped: &mut [bool], greatest: &History, history: &History) {
+    let same_place = || greatest.views().get(history.below_top().len()) == Some(&history.top());
+    // The greatest holds every sealed history, and one whose top stands at the same place in both is its beginning, which lacks nothing below.
+    if R::SKIPPED_BY_SEALED && R::SKIPPED_BY_GREATER && R::SKIPPED_BY_LACK && same_place() {
+        return;
+    }
+    for (skipped, view) in skipped.iter_mut().zip(greatest.views()) {
+        let passed = view.strictly_within(history.top()) || !R::SKIPPED_BY_GREATER;
+        *skipped |= passed && !(R::SKIPPED_BY_LACK && history.views().contains(view));
     }
 }

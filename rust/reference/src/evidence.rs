@@ -74,6 +74,12 @@ impl Evidence {
         self.sealed.last().filter(|_| chain)
     }
 
+    /// Whether some sealed history lacks the view and has a greater top, so that entering needs no reports on the view.
+    pub fn skips(&self, view: View) -> bool {
+        let passes = |history: &History| view.strictly_within(history.top()) && !history.views().contains(&view);
+        self.sealed.iter().any(passes)
+    }
+
     /// Whether a report by `origin` counts.
     pub fn counts(&self, origin: u8, report: &Report) -> bool {
         self.counts_by::<Document>(origin, report)

@@ -12,8 +12,20 @@ pub trait Rules {
     const PREPARED_ONLY: bool = true;
     /// Entering needs reports on each older view, not on the newest alone.
     const EVERY_OLDER_VIEW: bool = true;
+    /// Entering needs no reports on a skipped view.
+    const VIEWS_SKIPPED: bool = true;
+    /// Only a sealed history makes a view skipped, not every one that somebody agrees to.
+    const SKIPPED_BY_SEALED: bool = true;
+    /// A history makes a view skipped only if its top is greater than the view.
+    const SKIPPED_BY_GREATER: bool = true;
+    /// A history makes a view skipped only if it lacks the view.
+    const SKIPPED_BY_LACK: bool = true;
+    /// Reports on a skipped view do not bind.
+    const SKIPPED_UNHEARD: bool = true;
     /// Entering takes over the bindings of the counted reports.
     const BINDING_CARRIED: bool = true;
+    /// Entering past a skipped view takes over the bindings of the reports on the others.
+    const SHORT_ROAD_BINDS: bool = true;
     /// A report names the payload of the certificate.
     const CERTIFICATE_REPORTED: bool = true;
     /// A controller that is bound acknowledges nothing else, and one that is barred nothing.

@@ -10,6 +10,6 @@ list-counted-spec =
     tie.close
     (tie.spec
     (λ c κs. search needs) (λ c κs. search needs)
-    (λ c κs. laws.length-most _ _ _ _ _ _ _ (c .before .before .before .before .pre))
-    (λ c κs. (laws.length-most _ _ _ _ _ _ _ (c .before .before .before .before .before .before .before .before .pre), laws.usable _ _ _ _ _ _ _ (c .before .before .before .before .before .before .before .before .pre) (c .before .before .before .before .before .before .before .before .args .ring) (sym (senders-count _ _)) _ _ _ (c .before .before .before .before .before .list .ensures) _ (c .before .before .before .before .judge-by .ensures)))
-    (λ c. c .under-in .ensures ∙ laws.reports-below _ _ _ _ _ _ _ (c .before .before .before .before .before .before .before .before .before .pre) (c .before .before .before .before .before .before .before .before .before .args .ring) (sym (senders-count _ _)) _ _ _ (c .before .before .before .before .before .before .list .ensures) _ (c .before .before .before .before .top-of .ensures) _ (c .before .before .before .before .before .judge-by .ensures)))
+    (λ c κs. laws.length-most _ _ _ _ _ _ _ (c .before .before .before .before .before .pre))
+    (λ c κs. (c .before .before .before .before .list2 .ensures .most, laws.usable _ _ _ _ _ _ _ (c .before .before .before .before .before .before .before .before .before .before .pre) (c .before .before .before .before .before .before .before .before .before .before .args .ring) (sym (senders-count _ _)) _ _ _ (c .before .before .before .before .before .before .before .list .ensures) _ (c .before .before .before .before .before .before .judge-by .ensures)))
+    (λ c. c .among-in .ensures ∙ laws.reports-there _ _ _ _ _ _ _ (c .before .before .before .before .before .before .before .before .before .before .before .pre) (c .before .before .before .before .before .before .before .before .before .before .before .args .ring) (sym (senders-count _ _)) _ _ _ (c .before .before .before .before .before .before .before .before .list .ensures) _ _ (c .before .before .before .before .before .list2 .ensures) _ (c .before .before .before .before .before .before .before .judge-by .ensures)))

@@ -2,8 +2,8 @@ use mathlib.Core.Path.{ap, _∙_}
 use Rattle.views.specs.View.{viewOf, ringOfWord, viewsOf}
 use Rattle.views.proofs.Histories.{top-none, top-some}
 use borrow.Author.Needs.{needs}
-use Rattle.evidence.proofs.reports.top_of.Statement.{statement}
-use Rattle.evidence.proofs.reports.top_of.Tie as tie
+use Rattle.evidence.proofs.remaining.top_of.Statement.{statement}
+use Rattle.evidence.proofs.remaining.top_of.Tie as tie
 
 returns : tie.Need-returns
 unfolding viewsOf
