@@ -72,7 +72,7 @@ static void check_turns(void) {
 }
 
 static void check_record(void) {
-    static const char screen[] = "wished,000a0000\ncandidates,1,00080000\ngreatest,1,00080000\ncertificate,1,7,stored\n";
+    static const char screen[] = "wished,000a0000\ncandidates,1,00080000\ngreatest,1,00080000\ncertificate,1,7,stored,2\n";
     struct pekdrav_evidence told;
     uint8_t text[PEKDRAV_SCREEN_MAX];
     struct pekdrav_value value;
@@ -86,6 +86,78 @@ static void check_record(void) {
     CHECK(pekdrav_controller_signers(&controller, &pool, PEKDRAV_KIND_ACK, initial) == 8);
     CHECK(pekdrav_controller_signers(&controller, &pool, PEKDRAV_KIND_REPORT, initial) == 0);
     CHECK(pekdrav_controller_screen(&controller, &pool, text, sizeof text) == strlen(screen) && memcmp(text, screen, strlen(screen)) == 0);
+}
+
+static int is_count(struct pekdrav_count count, uint64_t reached, uint64_t read) { return count.reached == reached && count.read == read; }
+
+/* The controller's record: its prepare, ack and store of notice 1, and the join of 1. */
+static void check_counts(void) {
+    static const uint64_t views[17] = {8};
+    struct pekdrav_count out = {5, 6};
+    uint64_t initial = pekdrav_view(8, 0), wider = pekdrav_view(10, 0);
+    CHECK(is_count(pekdrav_controller_count_acks(&controller, &pool, initial, 1, 7), 1, 2));
+    CHECK(is_count(pekdrav_controller_count_stores(&controller, &pool, initial, 1, 7), 1, 3));
+    CHECK(is_count(pekdrav_controller_count_acks(&controller, &pool, initial, 0, 7), 0, 4));
+    CHECK(is_count(pekdrav_controller_count_acks(&controller, &pool, initial, 1, 8), 0, 4));
+    CHECK(is_count(pekdrav_controller_count_stores(&controller, &pool, wider, 1, 7), 0, 4));
+    CHECK(is_count(pekdrav_controller_count_agree_view(&controller, &pool, initial, wider), 0, 4));
+    CHECK(is_count(pekdrav_controller_count_agree_history(&controller, &pool, initial, views, 1), 0, 4));
+    CHECK(is_count(pekdrav_controller_count_agree_history(&controller, &pool, initial, views, 17), 0, 4));
+    CHECK(pekdrav_controller_count_reports(&controller, &pool, initial, &out) && is_count(out, 0, 4));
+    for (int kind = 0; kind < 256; kind++) {
+        pekdrav_raw_record_count(&controller.record, &pool, (uint8_t)kind, 1, initial, 7, views, 1, &out);
+        CHECK(kind == PEKDRAV_KIND_ACK ? is_count(out, 1, 2) : kind == PEKDRAV_KIND_STORE ? is_count(out, 1, 3) : is_count(out, 0, 4));
+    }
+}
+
+/* Votes of controller 3, who is a quorum of its view by itself: for two views, of which the second is then not comparable, and for a history. */
+static void check_votes(void) {
+    static const char *const lines[] = {
+        "1,0,00000000,00000000,0,0,0,0,0,0",
+        "1,1,00000000,00000000,0,0,0,0,0,0",
+        "3,3,00080000,000a0000,0,0,0,0,0,0",
+        "4,3,00080000,00000000,0,0,0,0,0,2,00080000,000a0000",
+        "5,3,00080000,00080000,0,0,0,0,0,1,00080000",
+        "3,3,00080000,00090000,0,0,0,0,0,0",
+    };
+    static struct pekdrav_pool votes;
+    struct pekdrav_record record = {{0, 1, 2, 3, 4, 5}, 5};
+    struct pekdrav_count out;
+    uint64_t initial = pekdrav_view(8, 0), wider = pekdrav_view(10, 0);
+    uint64_t views[17] = {initial, wider};
+    pekdrav_pool_clear(&votes);
+    for (int i = 0; i < 6; i++) {
+        CHECK(pekdrav_pool_append(&votes, bytes(lines[i]), strlen(lines[i]), 1) == i);
+    }
+    CHECK(is_count(pekdrav_record_count_agree_view(&record, &votes, initial, wider), 1, 3));
+    CHECK(is_count(pekdrav_record_count_agree_history(&record, &votes, initial, views, 2), 1, 4));
+    CHECK(is_count(pekdrav_record_count_agree_history(&record, &votes, initial, views, 1), 0, 5));
+    CHECK(is_count(pekdrav_record_count_agree_history(&record, &votes, initial, views, 17), 0, 5));
+    CHECK(is_count(pekdrav_record_count_agree_view(&record, &votes, initial | (uint64_t)1 << 20, wider), 0, 5));
+    CHECK(pekdrav_record_count_reports(&record, &votes, initial, 1, senders, initial, &out) && is_count(out, 1, 5));
+    CHECK(pekdrav_record_count_reports(&record, &votes, initial, 1, senders, wider, &out) && is_count(out, 0, 5));
+    record.count = 6;
+    CHECK(!pekdrav_record_count_reports(&record, &votes, initial, 1, senders, initial, &out) && is_count(out, 0, 5));
+}
+
+/* A vote for a history of sixteen views, the most there are: one view more or less is another that nobody voted for. */
+static void check_longest(void) {
+    static struct pekdrav_pool votes;
+    struct pekdrav_record record = {{0}, 1};
+    uint64_t views[PEKDRAV_VIEWS + 1] = {pekdrav_view(8, 0)};
+    char line[256];
+    int length = snprintf(line, sizeof line, "4,3,00080000,00000000,0,0,0,0,0,16,00080000");
+    uint32_t joined = 8;
+    for (int i = 1; i < PEKDRAV_VIEWS; i++) {
+        joined |= joined + 1;
+        views[i] = pekdrav_view(joined, 0);
+        length += snprintf(line + length, sizeof line - (size_t)length, ",%04x0000", (unsigned)joined);
+    }
+    pekdrav_pool_clear(&votes);
+    CHECK(pekdrav_pool_append(&votes, bytes(line), (size_t)length, 1) == 0);
+    CHECK(is_count(pekdrav_record_count_agree_history(&record, &votes, views[0], views, 16), 1, 1));
+    CHECK(is_count(pekdrav_record_count_agree_history(&record, &votes, views[0], views, 17), 0, 1));
+    CHECK(is_count(pekdrav_record_count_agree_history(&record, &votes, views[0], views, 15), 0, 1));
 }
 
 static void check_pool(void) {
@@ -114,6 +186,7 @@ static void check_workspace(void) {
     } lent;
     static struct pekdrav_record all;
     struct pekdrav_evidence told, again;
+    struct pekdrav_count reports;
     uint64_t initial = pekdrav_view(8, 0);
     memset(&lent, 0xa5, sizeof lent);
     for (uint16_t number = 0; number < PEKDRAV_STATEMENTS; number++) {
@@ -123,6 +196,8 @@ static void check_workspace(void) {
     pekdrav_raw_record_evidence(&all, &pool, initial, 2, senders, lent.work.keys, lent.work.groups, &told);
     pekdrav_record_evidence(&all, &pool, initial, 2, senders, &again);
     CHECK(told.certified == 2 && told.payloads[1] == 7 && memcmp(&told, &again, sizeof told) == 0);
+    CHECK(pekdrav_raw_record_count_reports(&all, &pool, initial, 2, senders, lent.work.keys, lent.work.groups, initial, &reports));
+    CHECK(is_count(reports, 1, 5));
     for (int i = 0; i < 8; i++) {
         CHECK(lent.before[i] == 0xa5a5a5a5a5a5a5a5 && lent.after[i] == 0xa5a5a5a5a5a5a5a5);
     }
@@ -133,6 +208,9 @@ int main(void) {
     check_requests();
     check_turns();
     check_record();
+    check_counts();
+    check_votes();
+    check_longest();
     check_pool();
     check_workspace();
     return failed;

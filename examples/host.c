@@ -26,6 +26,14 @@ static void pass_on(int from, uint64_t number) {
     pekdrav_controller_add(&to->controller, &to->pool, text, length, &value);
 }
 
+/* What was delivered, and after how many statements of its record the controller had the stores of a quorum. */
+static void tell(int k, const struct pekdrav_value *value) {
+    const struct pekdrav_controller *controller = &ring[k].controller;
+    struct pekdrav_count stores =
+        pekdrav_controller_count_stores(controller, &ring[k].pool, controller->fields.initial, (uint8_t)value->notice, value->number);
+    printf("%d delivered %" PRIu64 ", notice %" PRIu64 ", stored after %" PRIu64 " statements\n", k, value->number, value->notice, stores.read);
+}
+
 /* One turn. Answers 0 where there was nothing to do. */
 static int turn(int k) {
     struct pekdrav_value value;
@@ -37,7 +45,7 @@ static int turn(int k) {
         printf("%d entered %04" PRIx32 "%04" PRIx32 "\n", k, pekdrav_view_joined(value.number), pekdrav_view_left(value.number));
         return 1;
     case PEKDRAV_ANSWER_DELIVERED:
-        printf("%d delivered %" PRIu64 ", notice %" PRIu64 "\n", k, value.number, value.notice);
+        tell(k, &value);
         return 1;
     case PEKDRAV_ANSWER_REFUSED:
         printf("%d refused %" PRIu64 "\n", k, value.number);
@@ -60,5 +68,9 @@ int main(void) {
     pekdrav_controller_send(&ring[1].controller, 1, 8, &value);
     while (turn(0) | turn(1)) {
     }
+    /* A certificate's last field: after how many statements its acks were complete. */
+    uint8_t screen[PEKDRAV_SCREEN_MAX];
+    size_t length = pekdrav_controller_screen(&ring[0].controller, &ring[0].pool, screen, sizeof screen);
+    printf("%.*s", (int)length, (const char *)screen);
     return 0;
 }

@@ -3,7 +3,7 @@
 //!     rt staticlib pekdrav
 //!     cargo run --release --offline --manifest-path rust/Cargo.toml -p pekdrav --example host
 
-use pekdrav::{Answer, Controller, Pool};
+use pekdrav::{Answer, Controller, Pool, Question};
 
 /// A controller with a pool of its own.
 #[derive(Default)]
@@ -20,13 +20,19 @@ fn pass_on(ring: &mut [Seat; 2], from: usize, number: u16) {
     to.controller.add(&mut to.pool, &text);
 }
 
+/// What was delivered, and after how many statements of its record the controller had the stores of a quorum.
+fn tell(Seat { controller, pool }: &Seat, k: usize, notice: u8, payload: u64) {
+    let stores = controller.count(pool, &Question::Store { at: controller.initial(), notice, payload });
+    println!("{k} delivered {payload}, notice {notice}, stored after {} statements", stores.read);
+}
+
 /// One turn. Answers false where there was nothing to do.
 fn turn(ring: &mut [Seat; 2], k: usize) -> bool {
     let Seat { controller, pool } = &mut ring[k];
     match controller.turn(pool) {
         Answer::Signed(number) => pass_on(ring, k, number),
         Answer::Entered(view) => println!("{k} entered {view}"),
-        Answer::Delivered { notice, payload } => println!("{k} delivered {payload}, notice {notice}"),
+        Answer::Delivered { notice, payload } => tell(&ring[k], k, notice, payload),
         Answer::Refused(refusal) => {
             println!("{k} refused {}", refusal.number());
             return false;
@@ -45,4 +51,6 @@ fn main() {
     ring[0].controller.send(0, 7);
     ring[1].controller.send(1, 8);
     while turn(&mut ring, 0) | turn(&mut ring, 1) {}
+    // A certificate's last field: after how many statements its acks were complete.
+    print!("{}", ring[0].controller.screen(&ring[0].pool));
 }

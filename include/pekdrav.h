@@ -145,11 +145,18 @@ struct pekdrav_evidence {
     uint64_t payloads[PEKDRAV_NOTICES]; /* of the certificates, by the number of the notice */
 };
 
+/* Whether a quorum signed, and how many statements of the record were read: all of them without a quorum, else those up to the one that completed it. */
+struct pekdrav_count {
+    uint64_t reached;
+    uint64_t read;
+};
+
 /* Compiles only where the structs lie in memory as the library has them. */
 typedef char pekdrav_layout[sizeof(struct pekdrav_pool) == PEKDRAV_POOL_WORDS * sizeof(uint64_t) &&
                                     sizeof(struct pekdrav_record) == (PEKDRAV_STATEMENTS + 1) * sizeof(uint16_t) &&
                                     sizeof(struct pekdrav_fields) == 224 * sizeof(uint64_t) &&
-                                    sizeof(struct pekdrav_evidence) == 104 * sizeof(uint64_t)
+                                    sizeof(struct pekdrav_evidence) == 104 * sizeof(uint64_t) &&
+                                    sizeof(struct pekdrav_count) == 2 * sizeof(uint64_t)
                                 ? 1
                                 : -1];
 
@@ -169,15 +176,16 @@ size_t pekdrav_statement_rewrite(const uint8_t *line, size_t line_len, size_t no
  * run once, with fewer it is run twice. */
 size_t pekdrav_schedule_rows(const uint8_t *schedule, size_t schedule_len, uint8_t *rows, size_t rows_len);
 
-/* What any record shows in a ring of this initial view and of `count` notices with these senders; pekdrav_controller_signers, _evidence and _screen ask it
- * of a controller. A count above 64 counts as 64. */
+/* What any record shows in a ring of this initial view and of `count` notices with these senders; pekdrav_controller_signers, _count_.., _evidence and
+ * _screen ask it of a controller. A count above 64 counts as 64. */
 
 /* Who signed a statement of this kind, an enum pekdrav_kind, at this view: bit k for controller k. */
 uint32_t pekdrav_record_signers(const struct pekdrav_record *record, const struct pekdrav_pool *pool, uint8_t kind, uint64_t at);
 /* Writes what the record shows in lines, for a service screen, and answers the text's length; 0, with `out` as it was, if `out` has fewer than
  * PEKDRAV_SCREEN_MAX bytes. The lines: `wished,VIEW`; then `conflict` and nothing more, or `candidates,COUNT,VIEW,..` (`candidates,many` for more than
- * sixteen), `greatest,COUNT,VIEW,..` and for each notice that has a certificate `certificate,NOTICE,PAYLOAD,stored` (without the notice in a ring of one;
- * `kept` if it is not stored; `certificate,none` if no notice has one). */
+ * sixteen), `greatest,COUNT,VIEW,..` and for each notice that has a certificate `certificate,NOTICE,PAYLOAD,stored,READ` (without the notice in a ring of
+ * one; `kept` if it is not stored; `certificate,none` if no notice has one). After READ statements of the record the certificate's acks were complete: the
+ * least that pekdrav_record_count_acks reads, over the sealed tops at which it says yes. */
 size_t pekdrav_record_screen(const struct pekdrav_record *record, const struct pekdrav_pool *pool, uint64_t initial, uint8_t count,
                              const uint8_t senders[PEKDRAV_NOTICES], uint8_t *out, size_t out_len);
 
@@ -200,6 +208,14 @@ uint8_t pekdrav_raw_controller_turn(struct pekdrav_fields *fields, struct pekdra
 void pekdrav_raw_record_evidence(const struct pekdrav_record *record, const struct pekdrav_pool *pool, uint64_t initial, uint8_t count,
                                  const uint8_t senders[PEKDRAV_NOTICES], uint64_t keys[2 * PEKDRAV_STATEMENTS], uint64_t groups[PEKDRAV_STATEMENTS],
                                  struct pekdrav_evidence *out);
+/* Of kind 3 those count who agreed at `at` to the view `what`; of 4 to the first `len` of `views`, and nobody to more than sixteen; of 7 and 8 who signed ack
+ * and store at `at` of the notice for the payload `what`. Of any other kind nobody does. Writes all of `out`. */
+void pekdrav_raw_record_count(const struct pekdrav_record *record, const struct pekdrav_pool *pool, uint8_t kind, uint8_t notice, uint64_t at,
+                              uint64_t what, const uint64_t views[PEKDRAV_VIEWS], size_t len, struct pekdrav_count *out);
+/* Answers 1; or 0, with `out` as it was, where no report is judged. */
+uint8_t pekdrav_raw_record_count_reports(const struct pekdrav_record *record, const struct pekdrav_pool *pool, uint64_t initial, uint8_t count,
+                                         const uint8_t senders[PEKDRAV_NOTICES], uint64_t keys[2 * PEKDRAV_STATEMENTS],
+                                         uint64_t groups[PEKDRAV_STATEMENTS], uint64_t view, struct pekdrav_count *out);
 
 #ifdef __cplusplus
 }
@@ -215,6 +231,56 @@ static inline void pekdrav_record_evidence(const struct pekdrav_record *record, 
                                            const uint8_t senders[PEKDRAV_NOTICES], struct pekdrav_evidence *out) {
     struct pekdrav_workspace work;
     pekdrav_raw_record_evidence(record, pool, initial, count, senders, work.keys, work.groups, out);
+}
+
+/* A count that is about no history. */
+static inline struct pekdrav_count pekdrav_raw_record_count_of(const struct pekdrav_record *record, const struct pekdrav_pool *pool, uint8_t kind,
+                                                               uint8_t notice, uint64_t at, uint64_t what) {
+    static const uint64_t none[PEKDRAV_VIEWS] = {0};
+    struct pekdrav_count out;
+    pekdrav_raw_record_count(record, pool, kind, notice, at, what, none, 0, &out);
+    return out;
+}
+
+/* Whether a quorum of `at` signed, and after how many statements of the record: the count ends with the signer who completes it. Only members of `at` count,
+ * each once, and a view without members has no quorum. Views are compared as whole words. */
+
+/* Who agreed to this view. */
+static inline struct pekdrav_count pekdrav_record_count_agree_view(const struct pekdrav_record *record, const struct pekdrav_pool *pool, uint64_t at,
+                                                                   uint64_t view) {
+    return pekdrav_raw_record_count_of(record, pool, PEKDRAV_KIND_AGREE_VIEW, 0, at, view);
+}
+
+/* Who agreed to the history of these `n` views; nobody agreed to more than sixteen. */
+static inline struct pekdrav_count pekdrav_record_count_agree_history(const struct pekdrav_record *record, const struct pekdrav_pool *pool, uint64_t at,
+                                                                      const uint64_t *views, size_t n) {
+    uint64_t listed[PEKDRAV_VIEWS] = {0};
+    struct pekdrav_count out;
+    for (size_t i = 0; i < n && i < PEKDRAV_VIEWS; i++) {
+        listed[i] = views[i];
+    }
+    pekdrav_raw_record_count(record, pool, PEKDRAV_KIND_AGREE_HISTORY, 0, at, 0, listed, n, &out);
+    return out;
+}
+
+/* Who acknowledged this payload of the notice. */
+static inline struct pekdrav_count pekdrav_record_count_acks(const struct pekdrav_record *record, const struct pekdrav_pool *pool, uint64_t at,
+                                                             uint8_t notice, uint64_t payload) {
+    return pekdrav_raw_record_count_of(record, pool, PEKDRAV_KIND_ACK, notice, at, payload);
+}
+
+/* Who stored it. */
+static inline struct pekdrav_count pekdrav_record_count_stores(const struct pekdrav_record *record, const struct pekdrav_pool *pool, uint64_t at,
+                                                               uint8_t notice, uint64_t payload) {
+    return pekdrav_raw_record_count_of(record, pool, PEKDRAV_KIND_STORE, notice, at, payload);
+}
+
+/* Who has counted reports on `view`, in a ring of this initial view and of `count` notices with these senders. Answers whether it was told: not, with `out` as
+ * it was, where a turn would be refused with PEKDRAV_REFUSAL_CONFLICT or _MANY_CANDIDATES, since no report is judged then. */
+static inline int pekdrav_record_count_reports(const struct pekdrav_record *record, const struct pekdrav_pool *pool, uint64_t initial, uint8_t count,
+                                               const uint8_t senders[PEKDRAV_NOTICES], uint64_t view, struct pekdrav_count *out) {
+    struct pekdrav_workspace work;
+    return pekdrav_raw_record_count_reports(record, pool, initial, count, senders, work.keys, work.groups, view, out);
 }
 
 /* A controller before its setup. */
@@ -280,12 +346,39 @@ static inline uint32_t pekdrav_controller_signers(const struct pekdrav_controlle
     return pekdrav_record_signers(&controller->record, pool, (uint8_t)kind, at);
 }
 
+static inline struct pekdrav_count pekdrav_controller_count_agree_view(const struct pekdrav_controller *controller, const struct pekdrav_pool *pool,
+                                                                       uint64_t at, uint64_t view) {
+    return pekdrav_record_count_agree_view(&controller->record, pool, at, view);
+}
+
+static inline struct pekdrav_count pekdrav_controller_count_agree_history(const struct pekdrav_controller *controller, const struct pekdrav_pool *pool,
+                                                                          uint64_t at, const uint64_t *views, size_t n) {
+    return pekdrav_record_count_agree_history(&controller->record, pool, at, views, n);
+}
+
+static inline struct pekdrav_count pekdrav_controller_count_acks(const struct pekdrav_controller *controller, const struct pekdrav_pool *pool, uint64_t at,
+                                                                 uint8_t notice, uint64_t payload) {
+    return pekdrav_record_count_acks(&controller->record, pool, at, notice, payload);
+}
+
+static inline struct pekdrav_count pekdrav_controller_count_stores(const struct pekdrav_controller *controller, const struct pekdrav_pool *pool, uint64_t at,
+                                                                   uint8_t notice, uint64_t payload) {
+    return pekdrav_record_count_stores(&controller->record, pool, at, notice, payload);
+}
+
 /* The senders of the controller's notices, and how many they are. */
 static inline uint8_t pekdrav_controller_senders(const struct pekdrav_controller *controller, uint8_t senders[PEKDRAV_NOTICES]) {
     for (int j = 0; j < PEKDRAV_NOTICES; j++) {
         senders[j] = (uint8_t)controller->fields.senders[j];
     }
     return controller->fields.notice_count < PEKDRAV_NOTICES ? (uint8_t)controller->fields.notice_count : PEKDRAV_NOTICES;
+}
+
+static inline int pekdrav_controller_count_reports(const struct pekdrav_controller *controller, const struct pekdrav_pool *pool, uint64_t view,
+                                                   struct pekdrav_count *out) {
+    uint8_t senders[PEKDRAV_NOTICES];
+    uint8_t count = pekdrav_controller_senders(controller, senders);
+    return pekdrav_record_count_reports(&controller->record, pool, controller->fields.initial, count, senders, view, out);
 }
 
 static inline void pekdrav_controller_evidence(const struct pekdrav_controller *controller, const struct pekdrav_pool *pool,

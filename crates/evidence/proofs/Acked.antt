@@ -28,14 +28,15 @@ use Rattle.views.specs.View.{ringOfWord}
 use Rattle.views.proofs.Sets.{bit-far}
 use Rattle.views.proofs.Views.{passes, fails}
 use Rattle.pool.specs.Pool.{stmtAt, recordUpTo}
-use Rattle.votes.specs.Votes.{entry, placeOf, voteAt}
+use Rattle.views.specs.Tally.{placeIn}
+use Rattle.votes.specs.Votes.{entry, voteAt}
 use Rattle.votes.proofs.Alike.{Alike, says-alike}
 use Rattle.statements.specs.Sets.{PutBit}
 use Rattle.evidence.specs.Shown.{isBacked, Backed, AckedOf, PreparedList, listed, certifiesBy, storesOne, OneCertificate, CertificatesOf, StoredOf}
 use Rattle.evidence.proofs.Backing.{Late, Cast, cast-of, signed-map, cast-quorum, quorum-cast}
 
 -- a statement of a record, by its place
-placed : (W ids : List ℕ) (len : ℕ) {s : Stmt} → s ∈ recordUpTo W ids len → (i : ℕ) × (i < min len 512) × (entry W ids i ≡ s)
+pub placed : (W ids : List ℕ) (len : ℕ) {s : Stmt} → s ∈ recordUpTo W ids len → (i : ℕ) × (i < min len 512) × (entry W ids i ≡ s)
 unfolding recordUpTo
 placed W ids len m = let (i, l, e) = listOf-out (min len 512) (λ i. stmtAt W (getD ids i 0)) m in (i, l, sym e)
 
@@ -139,7 +140,7 @@ module _ (W ids G : List ℕ) (n : ℕ) where
   }
 
   -- the first vote of group g stands at f
-  module _ {g notice payload : ℕ} {some : Bool} (c : AckedTo g some notice payload) (f : ℕ) (p : f ≡ placeOf (getD G g 0)) (k : ℕ) (kind : k ≡ entry W ids f .kind) where
+  module _ {g notice payload : ℕ} {some : Bool} (c : AckedTo g some notice payload) (f : ℕ) (p : f ≡ placeIn (getD G g 0)) (k : ℕ) (kind : k ≡ entry W ids f .kind) where
     kind-here : k ≡ vote g .kind
     kind-here = kind ∙ ap (λ i. entry W ids i .kind) p
 
@@ -237,7 +238,7 @@ module _ (W ids : List ℕ) (len init : ℕ) (G : List ℕ) (n : ℕ) (backed : 
 
     -- the first vote of group g stands at f, and r is whether it acks one of the rows in K, which are what the senders prepared
     module _ {K R : List ℕ} {known : ℕ} (prepared : PreparedList senders X K R known) (most : length senders ≤ 64) {g some : ℕ} {P : List ℕ} (c : Certs g some P)
-        (f : ℕ) (p : f ≡ placeOf (getD G g 0)) (notices : ℕ) (count : notices ≡ length senders) (r : Bool) (asked : r ≡ certifiesBy notices K known (entry W ids f)) where
+        (f : ℕ) (p : f ≡ placeIn (getD G g 0)) (notices : ℕ) (count : notices ≡ length senders) (r : Bool) (asked : r ≡ certifiesBy notices K known (entry W ids f)) where
       abbrev here : Stmt
       here = vote W ids G n g
 
@@ -384,7 +385,7 @@ module _ (W ids : List ℕ) (len init : ℕ) (G : List ℕ) (n : ℕ) (backed : 
     pub stored-first : StoredTo W ids G n some P 0 0
     stored-first = record { sound = λ i h t. absurd (zero-bit i t); complete = λ i k h l. absurd (omega arith) }
 
-    module _ {g seen : ℕ} (c : StoredTo W ids G n some P g seen) (f : ℕ) (p : f ≡ placeOf (getD G g 0)) (r : Bool) (asked : r ≡ storesOne some P (entry W ids f)) where
+    module _ {g seen : ℕ} (c : StoredTo W ids G n some P g seen) (f : ℕ) (p : f ≡ placeIn (getD G g 0)) (r : Bool) (asked : r ≡ storesOne some P (entry W ids f)) where
       stores-here : r ≡ storesOne some P (vote W ids G n g)
       stores-here = asked ∙ ap (λ i. storesOne some P (entry W ids i)) p
 

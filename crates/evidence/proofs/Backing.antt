@@ -4,7 +4,7 @@ use mathlib.Core.Path.{_≡_, refl, sym, ap, ap₂, subst, _∙_}
 use mathlib.Core.Logic.{_⊎_, inl, inr}
 use mathlib.Core.Bool.{Bool, true, false, _&&_, _||_}
 use mathlib.Core.List.{List}
-use Prim.Native.Nat.{ℕ, _%_, _≤_, _<_}
+use Prim.Native.Nat.{ℕ, _+_, _%_, _≤_, _<_}
 use native.Mathlib.Decide.{ℕ-discrete}
 use native.Mathlib.Omega.{arith}
 use lib.Dec.{T, eqb, ltb, ltb→lt}
@@ -13,19 +13,20 @@ use borrow.Author.Tests.{eq-eqb, ne-eqb, lt-ltb, le-ltb}
 use Rattle.protocol.specs.View.{View}
 use Rattle.protocol.specs.History.{top}
 use Rattle.protocol.specs.Statement.{Stmt, isKind, payloadOf, Signed}
-use Rattle.protocol.specs.Evidence.{signs, signedByQuorum, Quorum, sealed, Shown}
+use Rattle.protocol.specs.Evidence.{signedByQuorum, Quorum, sealed, Shown}
 use Rattle.protocol.specs.Grounds.{isTop}
-use Rattle.protocol.proofs.Says.{Says, from-true, says-map, says-unique, says-self, says-and, says-or}
+use Rattle.protocol.proofs.Says.{Says, from-true, says-self, says-and, says-or, says-eqb}
 use Rattle.protocol.proofs.Monotone.{quorum-map}
 use Rattle.protocol.proofs.Decided.{says-kind, says-backed}
 use Rattle.protocol.proofs.Grounds.{Top, says-top}
-use Rattle.views.specs.Sets.{IsSet}
-use Rattle.views.specs.View.{viewOf, ringOfWord, quorumHas}
 use Rattle.protocol.specs.Sets.{bit}
-use Rattle.views.proofs.Views.{signed-by-set}
+use Rattle.protocol.specs.Count.{countQuorum}
+use Rattle.views.specs.View.{viewOf, ringOfWord}
+use Rattle.views.specs.Tally.{placeIn, missingIn}
+use Rattle.views.proofs.Tallies.{tally-says}
 use Rattle.pool.specs.Pool.{stmtAt}
-use Rattle.votes.specs.Votes.{alike, entry, tagBy}
-use Rattle.votes.proofs.Alike.{Alike, says-alike, alike-both, alike-turned}
+use Rattle.votes.specs.Votes.{alike, entry, tagBy, GroupCounts}
+use Rattle.votes.proofs.Alike.{Alike, says-alike, alike-same}
 use Rattle.evidence.specs.Shown.{isBacked, listed, certifiesBy, storesOne}
 
 -- ---- tests of one statement
@@ -95,28 +96,29 @@ module _ (init : ℕ) (X : List Stmt) where
   seven-or-eight : (k : ℕ) → 7 ≤ k → k ≤ 8 → (eqb k 7 || eqb k 8) ≡ true
   seven-or-eight k l h = elim (ℕ-discrete k 7) [ yes e ↦ ap (λ b. b || eqb k 8) (eq-eqb k 7 e) | no n ↦ ap₂ _||_ (ne-eqb k 7 n) (eq-eqb k 8 (omega arith)) ]
 
-  module _ (k t seen : ℕ) (s : Stmt) (q : Bool) (e : k ≡ s .kind) (l : 7 ≤ k) (h : k ≤ 8) (at : viewOf t ≡ s .at) (signers : IsSet seen (signs (alike s) X)) (asked : q ≡ quorumHas (viewOf t) (bit seen)) where
-    quorum : q ≡ signedByQuorum 16 X (s .at) (alike s)
-    quorum = signed-by-set X (s .at) (alike s) seen q signers (asked ∙ ap (λ v. quorumHas v (bit seen)) at)
-
+  module _ (k x : ℕ) (s : Stmt) (q : Bool) (e : k ≡ s .kind) (l : 7 ≤ k) (h : k ≤ 8) (counts : GroupCounts x s X) (asked : q ≡ eqb (missingIn x) 0) where
     by-kind : isBacked init X s ≡ (q && isTop (ringOfWord init) X (s .at))
-    by-kind = backed-by s ∙ ap₂ (λ a b. a && b && isTop (ringOfWord init) X (s .at)) (seven-or-eight (s .kind) (omega arith) (omega arith)) (sym quorum)
+    by-kind = backed-by s ∙ ap₂ (λ a b. a && b && isTop (ringOfWord init) X (s .at)) (seven-or-eight (s .kind) (omega arith) (omega arith)) (tally-says (s .at) (alike s) X x counts ∙ sym asked)
 
     pub backed-few : q ≡ false → false ≡ isBacked init X s
     backed-few f = sym (by-kind ∙ ap (λ b. b && isTop (ringOfWord init) X (s .at)) f)
 
-    pub backed-top : (r : Bool) → q ≡ true → r ≡ isTop (ringOfWord init) X (viewOf t) → r ≡ isBacked init X s
-    backed-top r f g = g ∙ ap (isTop (ringOfWord init) X) at ∙ sym (by-kind ∙ ap (λ b. b && isTop (ringOfWord init) X (s .at)) f)
+    pub backed-top : (t : ℕ) (r : Bool) → viewOf t ≡ s .at → q ≡ true → r ≡ isTop (ringOfWord init) X (viewOf t) → r ≡ isBacked init X s
+    backed-top t r at f g = g ∙ ap (isTop (ringOfWord init) X) at ∙ sym (by-kind ∙ ap (λ b. b && isTop (ringOfWord init) X (s .at)) f)
+
+  -- the group of what is backed has a quorum, and tells after how many statements
+  pub backed-read : (s : Stmt) (x : ℕ) → T (isBacked init X s) → GroupCounts x s X → countQuorum 16 (s .at) (alike s) X ≡ record { reached = true; read = placeIn x + 1 }
+  unfolding isBacked
+  backed-read s x b c =
+      let ((_, q), _) = says-and (says-and (says-self (isKind 7 s || isKind 8 s)) (says-self (signedByQuorum 16 X (s .at) (alike s)))) (says-self (isTop (ringOfWord init) X (s .at))) .sound b in
+      c .done (says-eqb .sound (subst T (tally-says (s .at) (alike s) X x c) q))
 
   -- those that say the same are backed alike
   pub backed-alike : {a s : Stmt} → Alike a s → isBacked init X a ≡ isBacked init X s
   backed-alike {a} {s} al =
       let k = sym (al .kind) in
       let t = sym (al .at) in
-      backed-by a ∙ (λ i. backing (k i) (t i) (λ x. same x i)) ∙ sym (backed-by s)
-    where
-      same : (x : Stmt) → alike a x ≡ alike s x
-      same x = says-unique (says-alike a x) (says-map (λ p. alike-both (alike-turned al) p) (λ p. alike-both al p) (says-alike s x))
+      backed-by a ∙ (λ i. backing (k i) (t i) (alike-same al i)) ∙ sym (backed-by s)
 
   pub says-backed-by : (s : Stmt) → Says (isBacked init X s) ((((s .kind ≡ 7) ⊎ (s .kind ≡ 8)) × Quorum 16 (s .at) (Signed X (Alike s))) × Top (ringOfWord init) X (s .at))
   unfolding isBacked
@@ -175,9 +177,6 @@ module _ (init : ℕ) (X : List Stmt) where
   )
 
 -- ---- the parts of a group's word, as they were read
-
-pub signers-are : {a b : ℕ} {p : ℕ → Bool} → a ≡ b → IsSet b p → IsSet a p
-signers-are {p = p} e s = subst (λ (x : ℕ). IsSet x p) (sym e) s
 
 pub at-place : (W ids : List ℕ) (t : ℕ) {f i : ℕ} → f ≡ i → viewOf t ≡ entry W ids f .at → viewOf t ≡ entry W ids i .at
 at-place W ids t e a = a ∙ ap (λ i. entry W ids i .at) e

@@ -4,22 +4,24 @@ use mathlib.Core.Path.{_≡_, refl, sym, ap, subst, _∙_}
 use mathlib.Core.Logic.{inl, inr}
 use mathlib.Core.Bool.{Bool, true, false}
 use mathlib.Core.List.{List}
-use Prim.Native.Nat.{ℕ, _+_, _/_, _%_, _≤_, _<_, min}
+use Prim.Native.Nat.{ℕ, _+_, _/_, _≤_, _<_, min}
 use native.Mathlib.Decide.{ℕ-discrete, decLt}
 use native.Mathlib.Omega.{arith}
 use lib.Dec.{T}
 use lib.ListN.{length, getD, set, length-set}
 use lib.Seq.{getD-set-same, getD-set-other}
 use Rattle.protocol.specs.Statement.{Stmt}
-use Rattle.protocol.specs.Evidence.{signs}
-use Rattle.views.specs.Sets.{IsSet}
+use Rattle.protocol.specs.Lists.{any}
+use Rattle.protocol.specs.Count.{countQuorum}
+use Rattle.views.specs.Tally.{placeIn, ownIn}
 use Rattle.pool.specs.Pool.{recordUpTo, recordLen, recordIn}
-use Rattle.votes.specs.Votes.{isVote, alike, entry, placeOf, tagOf, signersOf, voteAt, tagBy, Groups, GroupsIn}
+use Rattle.pool.proofs.Records.{found}
+use Rattle.votes.specs.Votes.{isVote, alike, entry, voteAt, tagBy, GroupCounts, Groups, GroupsIn}
 use Rattle.votes.specs.Chosen.{Picked}
 use Rattle.votes.proofs.Alike.{Vote, says-vote, says-alike}
 use Rattle.votes.proofs.Picked.{picked-first, picked-skip, picked-take}
 use Rattle.evidence.specs.Shown.{isBacked, Ended, BackedIn}
-use Rattle.evidence.proofs.Backing.{backed-alike, says-backed-by}
+use Rattle.evidence.proofs.Backing.{backed-alike, backed-read, says-backed-by}
 
 -- ---- the end of the groups
 
@@ -27,22 +29,22 @@ module _ (W ids : List ℕ) (len n : ℕ) (G G′ : List ℕ) (same : (g : ℕ) 
   groups-same : Groups W ids len G n → Groups W ids len G′ n
   groups-same r = record {
     most = r .most;
-    place = λ g l. subst (λ x. placeOf x < min len 512) (sym (same g l)) (r .place g l);
-    vote = λ g l. subst (λ x. T (isVote (entry W ids (placeOf x)))) (sym (same g l)) (r .vote g l);
-    tag = λ g l. subst (λ x. tagOf x ≡ tagBy (entry W ids (placeOf x))) (sym (same g l)) (r .tag g l);
-    signers = λ g l. subst (λ x. IsSet (signersOf x) (signs (alike (entry W ids (placeOf x))) (recordUpTo W ids len))) (sym (same g l)) (r .signers g l);
-    covers = λ i l v. let (g, k, a) = r .covers i l v in (g, k, subst (λ x. T (alike (entry W ids (placeOf x)) (entry W ids i))) (sym (same g k)) a);
+    place = λ g l. subst (λ x. placeIn x < min len 512) (sym (same g l)) (r .place g l);
+    vote = λ g l. subst (λ x. T (isVote (entry W ids (placeIn x)))) (sym (same g l)) (r .vote g l);
+    tag = λ g l. subst (λ x. ownIn x ≡ tagBy (entry W ids (placeIn x))) (sym (same g l)) (r .tag g l);
+    counts = λ g l. subst (λ x. GroupCounts x (entry W ids (placeIn x)) (recordUpTo W ids len)) (sym (same g l)) (r .counts g l);
+    covers = λ i l v. let (g, k, a) = r .covers i l v in (g, k, subst (λ x. T (alike (entry W ids (placeIn x)) (entry W ids i))) (sym (same g k)) a);
   }
 
 pub ended-full : (W ids G : List ℕ) (n : ℕ) → 512 ≤ n → GroupsIn W ids G n → Ended W ids G
 ended-full W ids G n l r = record { count = n; groups = r; end = λ k. absurd (omega arith) }
 
 pub ended-room : (W ids G : List ℕ) (n : ℕ) → length G ≡ 512 → n < 512 → GroupsIn W ids G n → Ended W ids (set G n 0)
-unfolding tagOf
+unfolding ownIn
 ended-room W ids G n h l r = record {
   count = n;
   groups = groups-same W ids (getD ids 512 0) n G (set G n 0) (λ g k. getD-set-other G n g 0 0 (λ e. omega arith)) r;
-  end = λ k. ap (λ x. x / 65536 % 65536) (getD-set-same G n 0 0 (omega arith));
+  end = λ k. ap (λ x. x / 281474976710656) (getD-set-same G n 0 0 (omega arith));
 }
 
 -- ---- those of acks and stores by a quorum of a sealed top go to the front
@@ -60,30 +62,43 @@ vote-tagged s v e = go (says-vote s .sound v)
     go (inl (inr k)) = omega arith
     go (inr k) = omega arith
 
+-- where there are no votes, none is
+pub backed-none : (W ids : List ℕ) (init : ℕ) (G : List ℕ) → any isVote (recordIn W ids) ≡ false → BackedIn W ids init G 0
+backed-none W ids init G e = record {
+  most = omega arith;
+  place = λ g l. absurd (omega arith);
+  sound = λ g l. absurd (omega arith);
+  read = λ g l. absurd (omega arith);
+  covers = λ i l b. absurd (subst T (sym (found W ids isVote (getD ids 512 0) i l (is-true (vote-of init (recordIn W ids) (entry W ids i) b))) ∙ e) tt);
+}
+  where
+    is-true : {b : Bool} → T b → b ≡ true
+    is-true {b = true} t = refl
+
 module _ (W ids : List ℕ) (init : ℕ) (G₀ : List ℕ) where
   abbrev backs : ℕ → Bool
-  backs x = isBacked init (recordIn W ids) (entry W ids (placeOf x))
+  backs x = isBacked init (recordIn W ids) (entry W ids (placeIn x))
 
   -- of the groups before g, which have tags, those that are backed are the first n of G, and the others are as they were
   pub record KeptTo (G : List ℕ) (n g : ℕ) : Type 0 where
     pub long : length G ≡ 512
     pub rest : (h : ℕ) → g ≤ h → getD G h 0 ≡ getD G₀ h 0
-    pub tagged : (h : ℕ) → h < g → tagOf (getD G₀ h 0) ≡ 0 → ⊥
+    pub tagged : (h : ℕ) → h < g → ownIn (getD G₀ h 0) ≡ 0 → ⊥
     pub kept : Picked (λ h. backs (getD G₀ h 0)) (λ c h. getD G c 0 ≡ getD G₀ h 0) g n
 
   pub kept-first : length G₀ ≡ 512 → KeptTo G₀ 0 0
   kept-first l = record { long = l; rest = λ h k. refl; tagged = λ h k. absurd (omega arith); kept = picked-first (λ h. backs (getD G₀ h 0)) _ }
 
-  module _ {G : List ℕ} {n g : ℕ} (w : KeptTo G n g) (k : ℕ) (is : k ≡ tagOf (getD G g 0)) where
+  module _ {G : List ℕ} {n g : ℕ} (w : KeptTo G n g) (k : ℕ) (is : k ≡ ownIn (getD G g 0)) where
     here : getD G g 0 ≡ getD G₀ g 0
     here = w .rest g (omega arith)
 
-    tag-here : k ≡ tagOf (getD G₀ g 0)
-    tag-here = is ∙ ap tagOf here
+    tag-here : k ≡ ownIn (getD G₀ g 0)
+    tag-here = is ∙ ap ownIn here
 
-    tagged-more : (k ≡ 0 → ⊥) → (h : ℕ) → h < g + 1 → tagOf (getD G₀ h 0) ≡ 0 → ⊥
+    tagged-more : (k ≡ 0 → ⊥) → (h : ℕ) → h < g + 1 → ownIn (getD G₀ h 0) ≡ 0 → ⊥
     tagged-more d h l z = elim (ℕ-discrete h g) [
-      | yes e ↦ d (tag-here ∙ ap (λ h. tagOf (getD G₀ h 0)) (sym e) ∙ z)
+      | yes e ↦ d (tag-here ∙ ap (λ h. ownIn (getD G₀ h 0)) (sym e) ∙ z)
       | no m ↦ w .tagged h (omega arith) z
     ]
 
@@ -117,12 +132,12 @@ module _ (W ids : List ℕ) (init : ℕ) (G₀ : List ℕ) where
 
       -- what is asked of a group
       pub group-here : (k ≡ 0 → ⊥)
-          → (placeOf (getD G g 0) < recordLen ids) × (tagOf (getD G g 0) ≡ tagBy (entry W ids (placeOf (getD G g 0))))
-          × IsSet (signersOf (getD G g 0)) (signs (alike (entry W ids (placeOf (getD G g 0)))) (recordIn W ids))
+          → (placeIn (getD G g 0) < recordLen ids) × (ownIn (getD G g 0) ≡ tagBy (entry W ids (placeIn (getD G g 0))))
+          × GroupCounts (getD G g 0) (entry W ids (placeIn (getD G g 0))) (recordIn W ids)
       group-here d =
           let l = before-end d in
-          subst (λ x. (placeOf x < recordLen ids) × (tagOf x ≡ tagBy (entry W ids (placeOf x))) × IsSet (signersOf x) (signs (alike (entry W ids (placeOf x))) (recordIn W ids))) (sym here)
-          (ended .groups .place g l, ended .groups .tag g l, ended .groups .signers g l)
+          subst (λ x. (placeIn x < recordLen ids) × (ownIn x ≡ tagBy (entry W ids (placeIn x))) × GroupCounts x (entry W ids (placeIn x)) (recordIn W ids)) (sym here)
+          (ended .groups .place g l, ended .groups .tag g l, ended .groups .counts g l)
 
       at-end : k ≡ 0 → g ≡ ended .count
       at-end z = elim (decLt g (ended .count)) [
@@ -137,16 +152,20 @@ module _ (W ids : List ℕ) (init : ℕ) (G₀ : List ℕ) where
     kept-whole : g ≡ ended .count → BackedIn W ids init G n
     kept-whole q = record {
       most = omega (arith, w .kept .fewer, ended .groups .most);
-      place = λ c l. let (h, k, _, e) = w .kept .sound c l in subst (λ x. placeOf x < recordLen ids) (sym e) (ended .groups .place h (omega arith));
+      place = λ c l. let (h, k, _, e) = w .kept .sound c l in subst (λ x. placeIn x < recordLen ids) (sym e) (ended .groups .place h (omega arith));
       sound = λ c l. let (h, k, t, e) = w .kept .sound c l in subst (λ x. T (backs x)) (sym e) t;
+      read = λ c l.
+          let (h, k, t, e) = w .kept .sound c l in
+          subst (λ x. countQuorum 16 (entry W ids (placeIn x) .at) (alike (entry W ids (placeIn x))) (recordIn W ids) ≡ record { reached = true; read = placeIn x + 1 }) (sym e)
+          (backed-read init (recordIn W ids) (voteAt W ids G₀ h) (getD G₀ h 0) t (ended .groups .counts h (omega arith)));
       covers = λ i l b.
           let (h, k, al) = ended .groups .covers i l (vote-of init (recordIn W ids) (entry W ids i) b) in
           let t = subst T (sym (backed-alike init (recordIn W ids) (says-alike _ _ .sound al))) b in
           let (c, m, e) = w .kept .complete h (omega arith) t in
-          (c, m, subst (λ x. T (alike (entry W ids (placeOf x)) (entry W ids i))) (sym e) al);
+          (c, m, subst (λ x. T (alike (entry W ids (placeIn x)) (entry W ids i))) (sym e) al);
     }
 
-    pub kept-tagless : (k : ℕ) → k ≡ tagOf (getD G g 0) → g < 512 → k ≡ 0 → BackedIn W ids init G n
+    pub kept-tagless : (k : ℕ) → k ≡ ownIn (getD G g 0) → g < 512 → k ≡ 0 → BackedIn W ids init G n
     kept-tagless k is l z = kept-whole (at-end w k is ended l z)
 
     pub kept-all : g ≡ 512 → BackedIn W ids init G n

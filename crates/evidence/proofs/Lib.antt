@@ -4,6 +4,7 @@ pub mod Payloads
 pub mod Backing
 pub mod Kept
 pub mod Acked
+pub mod Completed
 pub mod Needed
 pub mod Reporting
 pub mod Merges

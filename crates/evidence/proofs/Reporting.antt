@@ -1,7 +1,7 @@
 -- Laws of reports: each is what one step of a function of reports needs.
 -- Assumes nothing.
 use mathlib.Core.Path.{_≡_, refl, sym, ap, ap₂, subst, _∙_}
-use mathlib.Core.Bool.{Bool, true, false, not, _&&_, _||_, and-true, and-false}
+use mathlib.Core.Bool.{Bool, true, false, not, _&&_, _||_, and-true, and-comm}
 use mathlib.Core.List.{List}
 use Prim.Native.Nat.{ℕ, zero, suc, _+_, _≤_, _<_, min}
 use native.Mathlib.Decide.{decLt}
@@ -21,17 +21,18 @@ use Rattle.protocol.proofs.Found.{first-in, first-none}
 use Rattle.protocol.proofs.Histories.{sealed-short}
 use Rattle.protocol.proofs.Decided.{says-same, says-in, says-shown, says-certified}
 use Rattle.protocol.proofs.Asked.{says-holds, candidates-exact, certificates-in, certificates-out, one-payload, greatest-holds}
-use Rattle.views.specs.Sets.{IsSet}
-use Rattle.views.specs.View.{viewOf, ringOfWord, quorumHas, viewsOf}
+use Rattle.protocol.specs.Count.{Count, countQuorum}
+use Rattle.protocol.proofs.Count.{stops}
+use Rattle.views.specs.View.{viewOf, ringOfWord, viewsOf}
 use Rattle.views.proofs.Tables.{views-count, all-zero, all-more, all-miss}
-use Rattle.views.proofs.Views.{passes, fails, signed-by-set}
+use Rattle.views.proofs.Views.{passes, fails}
 use Rattle.pool.specs.Pool.{toldBound, toldBarred, toldStored, toldPayload, toldKept, toldAt, stmtAt}
 use Rattle.evidence.specs.declared.Evidence.{Evidence}
 use Rattle.evidence.specs.declared.Ring as declared
 use Rattle.evidence.specs.declared.reports.Judge.{Judge}
 use Rattle.evidence.specs.Shown.{listed, twofold, PreparedList}
-use Rattle.evidence.specs.Evidence.{Settled, remainingViews, reportedAll, countedThere, reportsThere}
-use Rattle.evidence.specs.Reports.{toldCount, bindingHolds, keptHolds, toldHolds, countsBy, countsAt, hasReports, countsAmong, RemainingOf, Usable, TellsNothing, judgeOf}
+use Rattle.evidence.specs.Evidence.{Settled, remainingViews, reportedAll, reportsCount, countedThere, reportsThere}
+use Rattle.evidence.specs.Reports.{toldCount, bindingHolds, keptHolds, toldHolds, countsBy, countsOn, hasReports, countsAmong, RemainingOf, Usable, TellsNothing, judgeOf}
 use Rattle.evidence.proofs.Listing.{any-filter, any-same}
 use Rattle.evidence.proofs.Senders.{told-in, told-out, told-barred, told-bound, told-free, told-stored, told-unstored}
 use Rattle.evidence.proofs.Payloads.{twofold-is}
@@ -187,17 +188,23 @@ unfolding isKind
 kind-is k s e = ap (λ x. eqb x 5) e
 
 module _ (q : Judge) (C P K : List ℕ) where
-  pub at-other : (u : View) (s : Stmt) → sameView (s .at) u ≡ false → countsAt q C P K u s ≡ false
-  unfolding countsAt
-  at-other u s f = ap (λ b. b && countsBy q C P K s) f
+  module _ (u : View) (s : Stmt) where
+    pub on-other : sameView (s .at) u ≡ false → false ≡ countsOn q C P K u s
+    unfolding countsOn
+    on-other f = sym (ap (λ b. (b && isKind 5 s) && countsBy q C P K s) f)
 
-  pub at-counted : (u : View) (s : Stmt) (r : Bool) → sameView (s .at) u ≡ true → r ≡ countsBy q C P K s → r ≡ countsAt q C P K u s
-  unfolding countsAt
-  at-counted u s r f c = c ∙ sym (ap (λ b. b && countsBy q C P K s) f)
+    module _ (at : sameView (s .at) u ≡ true) (k : ℕ) (kind : k ≡ s .kind) where
+      pub on-kind : (k ≡ 5 → ⊥) → false ≡ countsOn q C P K u s
+      unfolding countsOn isKind
+      on-kind n = sym (ap₂ (λ b k. (b && k) && countsBy q C P K s) at (ne-eqb (s .kind) 5 (λ z. n (kind ∙ z))))
 
-  pub reported-quorum : (Y : List Stmt) (u seen : ℕ) (r : Bool) → IsSet seen (signs (countsAt q C P K (viewOf u)) Y) → r ≡ quorumHas (viewOf u) (bit seen) → r ≡ hasReports q C P K Y (viewOf u)
+      pub on-counted : (r : Bool) → k ≡ 5 → r ≡ countsBy q C P K s → r ≡ countsOn q C P K u s
+      unfolding countsOn isKind
+      on-counted r five c = c ∙ sym (ap₂ (λ b k. (b && k) && countsBy q C P K s) at (eq-eqb (s .kind) 5 (sym kind ∙ five)))
+
+  pub reported-quorum : (Y : List Stmt) (u : View) (c : Count) → c ≡ countQuorum 16 u (countsOn q C P K u) Y → c .reached ≡ hasReports q C P K Y u
   unfolding hasReports
-  reported-quorum Y u seen r i h = signed-by-set Y (viewOf u) (countsAt q C P K (viewOf u)) seen r i h
+  reported-quorum Y u c e = ap (λ c. c .reached) e ∙ stops 16 u (countsOn q C P K u) Y .says
 
   -- view by view of a list
 
@@ -308,16 +315,26 @@ module _ (init : ℕ) (senders : List ℕ) (X : List Stmt) (C Gr P : List ℕ) (
         ∙ ap (λ n. every n (λ i. toldHolds q P K i (groupOf s i))) (sym notices))
         )
 
-    swap : (k o a c : Bool) → (k && (o && (a && c))) ≡ (o && ((k && a) && c))
-    swap true o a c = refl
-    swap false o a c = sym (and-false o)
+    swap : (k o a c : Bool) → (k && (o && ((a && k) && c))) ≡ (o && ((k && a) && c))
+    swap true o true c = refl
+    swap true o false c = refl
+    swap false true a c = refl
+    swap false false a c = refl
 
-    -- who signed one of the reports alone that counts on u
-    signs-is : (u : View) (k : ℕ) → signs (countsAt q C P K u) (filter (isKind 5) X) k ≡ signs (isCountedOn R senders X u) X k
-    unfolding signs countsAt isCountedOn reportsOn isKind
+    -- a report on u counts
+    on-is : (u : View) (s : Stmt) → countsOn q C P K u s ≡ isCountedOn R senders X u s
+    unfolding countsOn isCountedOn reportsOn isKind
+    on-is u s = ap₂ _&&_ (and-comm (sameView (s .at) u) (eqb (s .kind) 5)) (counts-is s)
+
+    pub reports-count : (by : Judge) → by ≡ q → (u : View) → countQuorum 16 u (countsOn by C P K u) X ≡ reportsCount R senders X u
+    unfolding reportsCount
+    reports-count by is u = ap (λ q. countQuorum 16 u (countsOn q C P K u) X) is ∙ ap (λ p. countQuorum 16 u p X) (λ i s. on-is u s i)
+
+    signs-is : (u : View) (k : ℕ) → signs (countsOn q C P K u) (filter (isKind 5) X) k ≡ signs (isCountedOn R senders X u) X k
+    unfolding signs countsOn isCountedOn reportsOn isKind
     signs-is u k =
-        any-filter (isKind 5) (λ s. eqb (s .origin) k && countsAt q C P K u s) X
-        ∙ any-same (λ s. isKind 5 s && (eqb (s .origin) k && countsAt q C P K u s)) (λ s. eqb (s .origin) k && isCountedOn R senders X u s) X
+        any-filter (isKind 5) (λ s. eqb (s .origin) k && countsOn q C P K u s) X
+        ∙ any-same (λ s. isKind 5 s && (eqb (s .origin) k && countsOn q C P K u s)) (λ s. eqb (s .origin) k && isCountedOn R senders X u s) X
         (λ s. swap (eqb (s .kind) 5) (eqb (s .origin) k) (sameView (s .at) u) (countsBy q C P K s) ∙ ap (λ c. eqb (s .origin) k && ((eqb (s .kind) 5 && sameView (s .at) u) && c)) (counts-is s))
 
     -- the views that need reports, in a list

@@ -128,12 +128,13 @@ conflict-of : (init : ℕ) (senders : List ℕ) (X : List Stmt) {a b c : Bool} �
 unfolding isConflict
 conflict-of init senders X e f g = ap₂ (λ x y. x || y) (ap₂ _||_ e f) g
 
-pub tied : (wish : ℕ) (r : Ranked) (h : Summit) (c : Certified) (stored : ℕ) (b : Bool) → b ≡ (r .conflict || h .conflict || c .conflict)
+pub tied : (wish : ℕ) (r : Ranked) (h : Summit) (c : Certified) (stored backed : ℕ) (b : Bool) → b ≡ (r .conflict || h .conflict || c .conflict)
     → (init : ℕ) (senders : List ℕ) (X : List Stmt) (C G P : List ℕ) → length senders ≤ 64 → viewOf wish ≡ wished (ringOfWord init) X → CandidatesOf init X C r → HistoriesOf init X G h
     → CertificatesOf init senders X P c → StoredOf init X (c .some) P stored
     → EvidenceOf (ringOfWord init) senders X C G P (record {
       conflict = b;
       many = r .many;
+      backed = backed;
       wished = wish;
       count = r .count;
       length = h .length;
@@ -141,7 +142,7 @@ pub tied : (wish : ℕ) (r : Ranked) (h : Summit) (c : Certified) (stored : ℕ)
       certified = c .some;
       stored = stored;
     })
-tied wish r h c stored b e init senders X C G P most w p q s t = record {
+tied wish r h c stored backed b e init senders X C G P most w p q s t = record {
   wished = w;
   conflict = is;
   many = λ f. p .many (parts f .0);

@@ -86,8 +86,8 @@ module _ (init : ℕ) (X : List Stmt) (voteless : any isVote X ≡ false) where
   stored-of P = record { are = λ i l y. absurd (subst T (sym y ∙ bit-zero i) tt) }
 
   pub unvoted : (wish : ℕ) (senders C G P : List ℕ) {C′ G′ : List ℕ} → length senders ≤ 64 → (length C ≡ 16) × (C′ ≡ set C 0 init) → (length G ≡ 16) × (G′ ≡ set G 0 init) → viewOf wish ≡ wished (ringOfWord init) X
-      → EvidenceOf (ringOfWord init) senders X C′ G′ P (record { conflict = false; many = false; wished = wish; count = 1; length = 1; skipped = 0; certified = 0; stored = 0 })
+      → EvidenceOf (ringOfWord init) senders X C′ G′ P (record { conflict = false; many = false; backed = 0; wished = wish; count = 1; length = 1; skipped = 0; certified = 0; stored = 0 })
   unvoted wish senders C G P {C′} {G′} most (c, d) (g, h) w =
-      tied wish (record { conflict = false; many = false; count = 1 }) (record { conflict = false; length = 1; skipped = 0 }) (record { conflict = false; some = 0 }) 0 false refl init senders X C′ G′ P most w
+      tied wish (record { conflict = false; many = false; count = 1 }) (record { conflict = false; length = 1; skipped = 0 }) (record { conflict = false; some = 0 }) 0 0 false refl init senders X C′ G′ P most w
       (subst (λ C. CandidatesOf init X C (record { conflict = false; many = false; count = 1 })) (sym d) (candidates-of C c))
       (subst (λ G. HistoriesOf init X G (record { conflict = false; length = 1; skipped = 0 })) (sym h) (histories-of G g)) (certificates-of senders P) (stored-of P)

@@ -13,6 +13,7 @@ use Rattle.protocol.specs.View.{View, Ring, below}
 use Rattle.protocol.specs.History.{top}
 use Rattle.protocol.specs.Statement.{Stmt}
 use Rattle.protocol.specs.Evidence.{wished, candidates, greatest, certificates, isConflict, isStored, signedByQuorum, isCountedOn, isSkipped}
+use Rattle.protocol.specs.Count.{Count, countQuorum}
 use Rattle.protocol.specs.Turn.{mergeAll}
 use Rattle.views.specs.View.{viewOf, viewIn, ringOfWord, viewsOf}
 use Rattle.evidence.specs.declared.Evidence.{Evidence}
@@ -61,6 +62,10 @@ module _ (R : Ring) (senders : List ℕ) (X : List Stmt) where
   -- Turn's `isReported`: each of them has a quorum of counted reports.
   unfoldable pub reportedAll : Bool
   reportedAll = all (λ u. signedByQuorum (R .width) X u (isCountedOn R senders X u)) remainingViews
+
+  -- The count of the reports on u that count.
+  unfoldable pub reportsCount : View → Count
+  reportsCount u = countQuorum (R .width) u (isCountedOn R senders X u) X
 
   -- The report s counts, on one of them.
   unfoldable pub countedThere : Stmt → Bool

@@ -44,13 +44,13 @@ module _ (q : Judge) (C P K : List ℕ) where
       member (s .at) (s .origin) && within 16 (s .view) (viewOf (q .wished)) && holds (viewsOf C (q .count)) (s .views)
       && every (q .notices) (λ i. toldHolds q P K i (groupOf s i))
 
-  -- It counts, and is on u.
-  unfoldable pub countsAt : View → Stmt → Bool
-  countsAt u s = sameView (s .at) u && countsBy s
+  -- It is a report on u that counts.
+  unfoldable pub countsOn : View → Stmt → Bool
+  countsOn u s = sameView (s .at) u && isKind 5 s && countsBy s
 
   -- u has a quorum of such among the reports Y.
   unfoldable pub hasReports : List Stmt → View → Bool
-  hasReports Y u = signedByQuorum 16 Y u (countsAt u)
+  hasReports Y u = signedByQuorum 16 Y u (countsOn u)
 
   -- s is a report that counts, on a view of H.
   unfoldable pub countsAmong : List View → Stmt → Bool

@@ -1,20 +1,22 @@
 -- What the certificates are of, and the groups and lists that they are found by.
 -- Assumes nothing.
 use mathlib.Core.Path.{_≡_}
-use mathlib.Core.Bool.{Bool, true, false, not, _&&_, _||_}
+use mathlib.Core.Bool.{Bool, true, false, not, cond, _&&_, _||_}
 use mathlib.Core.List.{List}
-use Prim.Native.Nat.{ℕ, zero, suc, _≤_, _<_, min}
+use Prim.Native.Nat.{ℕ, zero, suc, _+_, _≤_, _<_, min}
 use lib.Dec.{T, eqb, ltb}
 use lib.ListN.{getD, length}
 use Rattle.protocol.specs.Sets.{bit, every}
 use Rattle.protocol.specs.Lists.{pairwise, first, when}
 use Rattle.protocol.specs.Statement.{Stmt, isKind, payloadOf}
 use Rattle.protocol.specs.Evidence.{signedByQuorum, prepares, isPrepared, certificates, isStored}
+use Rattle.protocol.specs.Count.{countQuorum}
 use Rattle.protocol.specs.Grounds.{isTop}
 use Rattle.views.specs.View.{ringOfWord}
 use Rattle.pool.specs.Pool.{recordUpTo}
 use Rattle.tables.specs.Index.{keyAt, RowLinked, Chained}
-use Rattle.votes.specs.Votes.{alike, entry, placeOf, tagOf, voteAt, GroupsIn}
+use Rattle.views.specs.Tally.{placeIn, ownIn}
+use Rattle.votes.specs.Votes.{alike, entry, voteAt, GroupsIn}
 use Rattle.evidence.specs.declared.certificates.Certified.{Certified}
 
 module _ (init : ℕ) (X : List Stmt) where
@@ -26,14 +28,15 @@ module _ (init : ℕ) (X : List Stmt) where
 pub record Ended (W ids G : List ℕ) : Type 0 where
   pub count : ℕ
   pub groups : GroupsIn W ids G count
-  pub end : count < 512 → tagOf (getD G count 0) ≡ 0
+  pub end : count < 512 → ownIn (getD G count 0) ≡ 0
 
--- The n groups of G are those of acks and of stores by a quorum of a sealed top.
+-- The n groups of G are those of acks and of stores by a quorum of a sealed top. Each stands at the place of the statement that completed it.
 module _ (W ids : List ℕ) (len init : ℕ) where
   pub record Backed (G : List ℕ) (n : ℕ) : Type 0 where
     pub most : n ≤ 512
-    pub place : (g : ℕ) → g < n → placeOf (getD G g 0) < min len 512
+    pub place : (g : ℕ) → g < n → placeIn (getD G g 0) < min len 512
     pub sound : (g : ℕ) → g < n → T (isBacked init (recordUpTo W ids len) (voteAt W ids G g))
+    pub read : (g : ℕ) → g < n → countQuorum 16 (voteAt W ids G g .at) (alike (voteAt W ids G g)) (recordUpTo W ids len) ≡ record { reached = true; read = placeIn (getD G g 0) + 1 }
     pub covers : (i : ℕ) → i < min len 512 → T (isBacked init (recordUpTo W ids len) (entry W ids i)) → (g : ℕ) × (g < n) × T (alike (voteAt W ids G g) (entry W ids i))
 
 -- The same of a record in memory.
@@ -113,3 +116,13 @@ pub record OneCertificate (senders : List ℕ) (X : List Stmt) (i m : ℕ) (P : 
 -- r is the set of those of the certified notices whose payload is stored.
 pub record StoredOf (init : ℕ) (X : List Stmt) (some : ℕ) (P : List ℕ) (r : ℕ) : Type 0 where
   pub are : (i : ℕ) → i < 64 → bit some i ≡ true → bit r i ≡ isStored (ringOfWord init) X i (getD P i 0)
+
+-- ---- after how many statements a certificate was complete
+
+-- An ack of notice i for m.
+unfoldable pub acksIt : ℕ → ℕ → Stmt → Bool
+acksIt i m s = isKind 7 s && eqb (s .notice) i && eqb (payloadOf s) m
+
+-- The lesser of two numbers, where 0 stands for none.
+unfoldable pub lesserSome : ℕ → ℕ → ℕ
+lesserSome a b = cond (eqb a 0) b (min a b)

@@ -2,15 +2,16 @@
 ghost use mathlib.Core.Path.{_≡_};
 ghost use mathlib.Core.Bool.{_&&_};
 ghost use mathlib.Core.List.{List};
-ghost use Prim.Native.Nat.{ℕ, _<_, min};
+ghost use Prim.Native.Nat.{ℕ, _≤_, _<_, min};
 ghost use lib.Dec.{eqb};
-ghost use Rattle.protocol.specs.Evidence.{signs};
-ghost use Rattle.views.specs.Sets.{IsSet};
+ghost use Rattle.protocol.specs.Count.{completeAfter};
+ghost use Rattle.views.specs.View.{ringOfWord};
+ghost use Rattle.views.specs.Tally.{placeIn, ownIn};
 ghost use Rattle.pool.specs.Pool.{stmtAt, recordLen, recordIn};
-ghost use Rattle.votes.specs.Votes.{alike, entry, placeOf, tagOf, tagBy, signersOf, GroupsIn};
+ghost use Rattle.votes.specs.Votes.{entry, tagBy, GroupCounts, GroupsIn};
 ghost use Rattle.sealing.specs.Memos.{VerdictsHeld};
 ghost use Rattle.evidence.specs.Notices.{sendersOf};
-ghost use Rattle.evidence.specs.Shown.{isBacked, Ended, BackedIn, AckedOf, Linked, PreparedList, certifiesBy, storesOne, OneCertificate, CertificatesOf, StoredOf};
+ghost use Rattle.evidence.specs.Shown.{isBacked, Ended, BackedIn, AckedOf, Linked, PreparedList, certifiesBy, storesOne, OneCertificate, CertificatesOf, StoredOf, acksIt, lesserSome};
 use crate::notices;
 use crate::prepares;
 use pool::POOL_WORDS;
@@ -59,21 +60,21 @@ fn is_backed(
     memo: &[u8; MEMO],
     x: u64,
 ) -> bool
-    requires { ⌜ VerdictsHeld (now words) (recordIn (now words) (now ids)) init (now keys) (now rows) (now memo) × (placeOf x < recordLen (now ids)) × (tagOf x ≡ tagBy (entry (now words) (now ids) (placeOf x))) × IsSet (signersOf x) (signs (alike (entry (now words) (now ids) (placeOf x))) (recordIn (now words) (now ids))) ⌝ }
-    ensures { λ r. ⌜ r ≡ isBacked init (recordIn (now (words .entry)) (now (ids .entry))) (entry (now (words .entry)) (now (ids .entry)) (placeOf x)) ⌝ }
+    requires { ⌜ VerdictsHeld (now words) (recordIn (now words) (now ids)) init (now keys) (now rows) (now memo) × (placeIn x < recordLen (now ids)) × (ownIn x ≡ tagBy (entry (now words) (now ids) (placeIn x))) × GroupCounts x (entry (now words) (now ids) (placeIn x)) (recordIn (now words) (now ids)) ⌝ }
+    ensures { λ r. ⌜ r ≡ isBacked init (recordIn (now (words .entry)) (now (ids .entry))) (entry (now (words .entry)) (now (ids .entry)) (placeIn x)) ⌝ }
 {
-    let k = votes::tag_of(x) % KIND;
+    let k = views::own_of(x) % KIND;
     if k < 7 {
         return false;
     }
     if 8 < k {
         return false;
     }
-    let f = votes::place_of(x);
-    let t = pool::at(words, ids[f]);
-    if !views::quorum_in(t, votes::signers_of(x)) {
+    if !views::is_complete(x) {
         return false;
     }
+    let f = views::place_of(x);
+    let t = pool::at(words, ids[f]);
     sealing::is_sealed_top(words, ids, init, keys, rows, memo, t)
 }
 
@@ -95,7 +96,7 @@ pub fn keep_backed(
     let mut g = 0usize;
     while g < GROUPS {
         let x = groups[g];
-        if votes::tag_of(x) == 0 {
+        if views::own_of(x) == 0 {
             return n;
         }
         if !is_backed(words, ids, init, keys, rows, memo, x) {
@@ -152,7 +153,7 @@ fn certify(
     let mut some = 0u64;
     let mut g = 0usize;
     while g < n {
-        let f = votes::place_of(groups[g]);
+        let f = views::place_of(groups[g]);
         let s = ids[f];
         if !is_certifying(words, count, keys, rows, known, s) {
             g += 1;
@@ -206,7 +207,7 @@ fn only_acked(
     let mut payload = 0u64;
     let mut g = 0usize;
     while g < n {
-        let f = votes::place_of(groups[g]);
+        let f = views::place_of(groups[g]);
         let s = ids[f];
         if pool::kind(words, s) != 7 {
             g += 1;
@@ -339,7 +340,7 @@ pub fn stored(
     let mut seen = 0u64;
     let mut g = 0usize;
     while g < n {
-        let f = votes::place_of(groups[g]);
+        let f = views::place_of(groups[g]);
         let s = ids[f];
         if !stores_one(words, s, some, certs) {
             g += 1;
@@ -349,4 +350,55 @@ pub fn stored(
         g += 1;
     }
     seen
+}
+
+// Whether statement s is an ack of notice j for m.
+fn acks_it(words: &[u64; POOL_WORDS], s: u16, j: usize, m: u64) -> bool
+    ensures { λ r. ⌜ r ≡ acksIt j m (stmtAt (now (words .entry)) s) ⌝ }
+{
+    if pool::kind(words, s) != 7 {
+        return false;
+    }
+    is_same(notices::notice_of(words, s), pool::payload(words, s), j, m)
+}
+
+// The lesser of two numbers, where 0 stands for none.
+fn lesser_some(a: usize, b: usize) -> usize
+    ensures { λ r. ⌜ r ≡ lesserSome a b ⌝ }
+{
+    if a == 0 {
+        return b;
+    }
+    if a < b {
+        return a;
+    }
+    b
+}
+
+// After how many statements the certificate for m of notice j was complete: of its acks by quorums of sealed tops, those that were complete first tell it.
+pub fn complete_after(
+    words: &[u64; POOL_WORDS],
+    ids: &[u16; RECORD],
+    init: u64,
+    groups: &[u64; GROUPS],
+    n: usize,
+    j: usize,
+    m: u64,
+) -> usize
+    requires { ⌜ BackedIn (now words) (now ids) init (now groups) n ⌝ }
+    ensures { λ r. ⌜ (r ≡ completeAfter (ringOfWord init) (recordIn (now (words .entry)) (now (ids .entry))) j m) × (r ≤ 512) ⌝ }
+{
+    let mut least = 0usize;
+    let mut g = 0usize;
+    while g < n {
+        let x = groups[g];
+        let f = views::place_of(x);
+        if !acks_it(words, ids[f], j, m) {
+            g += 1;
+            continue;
+        }
+        least = lesser_some(least, f + 1);
+        g += 1;
+    }
+    least
 }

@@ -8,8 +8,10 @@ mod remaining;
 mod reports;
 mod summary;
 
+pub use certificates::complete_after;
 pub use merging::merged;
 pub use notices::word_of;
+pub use reports::count_reports;
 pub use reports::reported;
 use statements::Binding;
 pub use summary::of_record;
@@ -32,10 +34,12 @@ pub struct Notice {
 
 // What a record shows, beside two lists of views as words and the payloads of the certificates: wished; whether there is a conflict; whether there are more than
 // sixteen candidates, and else how many of the list of candidates count; how many of that of the greatest history count, and, as a set of its places, which of these views
-// are skipped; and, as sets of notices, which have a certificate, and of which its payload is stored.
+// are skipped; as sets of notices, which have a certificate, and of which its payload is stored; and how many groups of acks and stores by quorums of sealed tops are left
+// in the memory in which the votes were gathered.
 pub struct Evidence {
     pub conflict: bool,
     pub many: bool,
+    pub backed: u16,
     pub skipped: u32,
     pub wished: u64,
     pub count: usize,

@@ -7,14 +7,14 @@ ghost use Rattle.protocol.specs.Lists.{any, filter};
 ghost use Rattle.protocol.specs.View.{sameView, member};
 ghost use Rattle.protocol.specs.History.{holds};
 ghost use Rattle.protocol.specs.Statement.{groupOf, isKind};
-ghost use Rattle.protocol.specs.Evidence.{signs};
+ghost use Rattle.protocol.specs.Count.{countQuorum};
 ghost use Rattle.protocol.proofs.Bits.{Fits};
-ghost use Rattle.views.specs.Sets.{IsSet};
 ghost use Rattle.views.specs.View.{viewOf, viewsOf};
+ghost use Rattle.views.specs.Tally.{countIs};
 ghost use Rattle.pool.specs.Pool.{toldAt, stmtAt, recordIn};
-ghost use Rattle.evidence.specs.Evidence.{ringIs, Settled, reportedAll};
+ghost use Rattle.evidence.specs.Evidence.{ringIs, Settled, reportedAll, reportsCount};
 ghost use Rattle.evidence.specs.Notices.{sendersOf};
-ghost use Rattle.evidence.specs.Reports.{bindingHolds, keptHolds, toldHolds, countsBy, countsAt, hasReports, countsAmong, TellsNothing, Usable, judgeOf};
+ghost use Rattle.evidence.specs.Reports.{bindingHolds, keptHolds, toldHolds, countsBy, countsOn, hasReports, countsAmong, TellsNothing, Usable, judgeOf};
 use crate::Evidence;
 use crate::Ring;
 use crate::binding;
@@ -27,6 +27,7 @@ use pool::RECORD;
 use statements::NOTICES;
 use tables::KEYS;
 use tables::ROWS;
+use views::Count;
 use views::View;
 
 // What a report is judged by, beside the lists that are lent: wished; how many of the list of candidates count; the notices that have a certificate; how many
@@ -238,34 +239,65 @@ fn reports_in(words: &[u64; POOL_WORDS], ids: &[u16; RECORD], listed: &mut [u16;
     listed[CAPACITY] = count as u16;
 }
 
-// Who signed a report on u that counts, of those listed.
-fn reporters(
+// Whether statement s is a report on u that counts.
+fn counts_on(
     words: &[u64; POOL_WORDS],
     q: Judge,
     candidates: &[u64; View::LIMIT],
     certs: &[u64; NOTICES],
     keys: &[u64; KEYS],
     rows: &[u16; ROWS],
-    listed: &[u16; RECORD],
     u: u64,
-) -> u32
+    s: u16,
+) -> bool
     requires { ⌜ Usable q (now keys) (now rows) ⌝ }
-    ensures { λ r. ⌜ IsSet r (signs (countsAt q (now (candidates .entry)) (now (certs .entry)) (now (keys .entry)) (viewOf u)) (recordIn (now (words .entry)) (now (listed .entry)))) ⌝ }
+    ensures { λ r. ⌜ r ≡ countsOn q (now (candidates .entry)) (now (certs .entry)) (now (keys .entry)) (viewOf u) (stmtAt (now (words .entry)) s) ⌝ }
 {
-    let end = pool::record_length(listed);
-    let mut seen: u32 = 0;
+    if pool::at(words, s) != u {
+        return false;
+    }
+    if pool::kind(words, s) != 5 {
+        return false;
+    }
+    counts(words, q, candidates, certs, keys, rows, s)
+}
+
+// Whether u has a quorum of reports that count, and how many statements were read. It ends with the signer who completes the quorum.
+fn count_on(
+    words: &[u64; POOL_WORDS],
+    ids: &[u16; RECORD],
+    q: Judge,
+    candidates: &[u64; View::LIMIT],
+    certs: &[u64; NOTICES],
+    keys: &[u64; KEYS],
+    rows: &[u16; ROWS],
+    u: u64,
+) -> Count
+    requires { ⌜ Usable q (now keys) (now rows) ⌝ }
+    ensures { λ r. ⌜ countIs r ≡ countQuorum 16 (viewOf u) (countsOn q (now (candidates .entry)) (now (certs .entry)) (now (keys .entry)) (viewOf u)) (recordIn (now (words .entry)) (now (ids .entry))) ⌝ }
+{
+    let end = pool::record_length(ids);
+    let mut a = views::unsigned(u, 0, 0);
     let mut i = 0usize;
     while i < end {
-        let s = listed[i];
-        if pool::at(words, s) != u {
+        let s = ids[i];
+        if !counts_on(words, q, candidates, certs, keys, rows, u, s) {
             i += 1;
             continue;
         }
-        let hit = counts(words, q, candidates, certs, keys, rows, s);
-        seen = views::note(seen, hit, pool::origin(words, s));
+        a = views::sign(a, pool::origin(words, s), i);
         i += 1;
+        if views::is_complete(a) {
+            return Count {
+                reached: true,
+                read: i,
+            };
+        }
     }
-    seen
+    Count {
+        reached: false,
+        read: end,
+    }
 }
 
 // Whether u has a quorum of listed reports that count.
@@ -282,8 +314,8 @@ fn is_reported_on(
     requires { ⌜ Usable q (now keys) (now rows) ⌝ }
     ensures { λ r. ⌜ r ≡ hasReports q (now (candidates .entry)) (now (certs .entry)) (now (keys .entry)) (recordIn (now (words .entry)) (now (listed .entry))) (viewOf u) ⌝ }
 {
-    let seen = reporters(words, q, candidates, certs, keys, rows, listed, u);
-    views::quorum_in(u, seen)
+    let c = count_on(words, listed, q, candidates, certs, keys, rows, u);
+    c.reached
 }
 
 // What reports are judged by in a ring, with the evidence e and the rows of what was prepared that are known.
@@ -330,6 +362,28 @@ pub fn reported(
         i += 1;
     }
     true
+}
+
+// Whether u has a quorum of reports that count, and how many statements of the record were read.
+pub fn count_reports(
+    words: &[u64; POOL_WORDS],
+    ids: &[u16; RECORD],
+    ring: Ring,
+    senders: &[u8; NOTICES],
+    e: Evidence,
+    candidates: &[u64; View::LIMIT],
+    greatest: &[u64; View::LIMIT],
+    certs: &[u64; NOTICES],
+    u: u64,
+) -> Count
+    requires { ⌜ Settled (ringIs ring) (sendersOf (now senders) (ring .notices)) (recordIn (now words) (now ids)) (now candidates) (now greatest) (now certs) e ⌝ }
+    ensures { λ r. ⌜ countIs r ≡ reportsCount (ringIs ring) (sendersOf (now (senders .entry)) (ring .notices)) (recordIn (now (words .entry)) (now (ids .entry))) (viewOf u) ⌝ }
+{
+    let mut keys = [0u64; KEYS];
+    let mut rows = [0u16; ROWS];
+    let known = prepares::list(words, ids, ring.notices, senders, &mut keys, &mut rows);
+    let q = judge_by(ring, e, known);
+    count_on(words, ids, q, candidates, certs, &keys, &rows, u)
 }
 
 // Whether statement s is a report that counts, on one of the first n views of a list.

@@ -11,7 +11,7 @@ ghost use Rattle.views.specs.View.{viewOf, ringOfWord};
 ghost use Rattle.pool.specs.Pool.{recordIn};
 ghost use Rattle.votes.specs.Votes.{isVote};
 ghost use Rattle.ranking.specs.Ranking.{CandidatesOf, HistoriesOf};
-ghost use Rattle.evidence.specs.Shown.{CertificatesOf, StoredOf};
+ghost use Rattle.evidence.specs.Shown.{BackedIn, CertificatesOf, StoredOf};
 ghost use Rattle.evidence.specs.Evidence.{ringIs, EvidenceOf};
 ghost use Rattle.evidence.specs.Notices.{sendersOf};
 use crate::Evidence;
@@ -43,13 +43,15 @@ fn one_of(a: bool, b: bool, c: bool) -> bool
 }
 
 // The evidence, put together from its parts.
-fn tie(wish: u64, r: Ranked, h: Summit, c: Certified, stored: u64) -> Evidence
-    ensures { λ e. ⌜ ((init : ℕ) (senders : List ℕ) (X : List Stmt) (C G P : List ℕ) → length senders ≤ 64 → viewOf wish ≡ wished (ringOfWord init) X → CandidatesOf init X C r → HistoriesOf init X G h → CertificatesOf init senders X P c → StoredOf init X (c .some) P stored → EvidenceOf (ringOfWord init) senders X C G P e) ⌝ }
+fn tie(wish: u64, r: Ranked, h: Summit, c: Certified, stored: u64, backed: usize) -> Evidence
+    requires { ⌜ backed ≤ 512 ⌝ }
+    ensures { λ e. ⌜ ((init : ℕ) (senders : List ℕ) (X : List Stmt) (C G P : List ℕ) → length senders ≤ 64 → viewOf wish ≡ wished (ringOfWord init) X → CandidatesOf init X C r → HistoriesOf init X G h → CertificatesOf init senders X P c → StoredOf init X (c .some) P stored → EvidenceOf (ringOfWord init) senders X C G P e) × (e .backed ≡ backed) ⌝ }
 {
     let conflict = one_of(r.conflict, h.conflict, c.conflict);
     Evidence {
         conflict,
         many: r.many,
+        backed: backed as u16,
         wished: wish,
         count: r.count,
         length: h.length,
@@ -72,7 +74,7 @@ fn of_votes(
     greatest: &mut [u64; View::LIMIT],
     certs: &mut [u64; NOTICES],
 ) -> Evidence
-    ensures { λ e. ⌜ EvidenceOf (ringIs ring) (sendersOf (now (senders .entry)) (ring .notices)) (recordIn (now (words .entry)) (now (ids .entry))) (now (candidates .exit)) (now (greatest .exit)) (now (certs .exit)) e ⌝ }
+    ensures { λ e. ⌜ EvidenceOf (ringIs ring) (sendersOf (now (senders .entry)) (ring .notices)) (recordIn (now (words .entry)) (now (ids .entry))) (now (candidates .exit)) (now (greatest .exit)) (now (certs .exit)) e × BackedIn (now (words .entry)) (now (ids .entry)) (ring .init) (now (groups .exit)) (e .backed) ⌝ }
 {
     let init = ring.init;
     let mut rows = [0u16; ROWS];
@@ -97,7 +99,7 @@ fn of_votes(
         certs,
     );
     let stored = certificates::stored(words, ids, init, groups, n, c.some, certs);
-    tie(found.wished, r, h, c, stored)
+    tie(found.wished, r, h, c, stored, n)
 }
 
 // Puts the initial view at the front of a list.
@@ -115,13 +117,14 @@ fn unvoted(
     candidates: &mut [u64; View::LIMIT],
     greatest: &mut [u64; View::LIMIT],
 ) -> Evidence
-    ensures { λ e. ⌜ ((senders : List ℕ) (X : List Stmt) (P : List ℕ) → length senders ≤ 64 → any isVote X ≡ false → viewOf wish ≡ wished (ringOfWord init) X → EvidenceOf (ringOfWord init) senders X (now (candidates .exit)) (now (greatest .exit)) P e) ⌝ }
+    ensures { λ e. ⌜ ((senders : List ℕ) (X : List Stmt) (P : List ℕ) → length senders ≤ 64 → any isVote X ≡ false → viewOf wish ≡ wished (ringOfWord init) X → EvidenceOf (ringOfWord init) senders X (now (candidates .exit)) (now (greatest .exit)) P e) × (e .backed ≡ 0) ⌝ }
 {
     start(candidates, init);
     start(greatest, init);
     Evidence {
         conflict: false,
         many: false,
+        backed: 0,
         wished: wish,
         count: 1,
         length: 1,
@@ -144,7 +147,7 @@ pub fn of_record(
     greatest: &mut [u64; View::LIMIT],
     certs: &mut [u64; NOTICES],
 ) -> Evidence
-    ensures { λ e. ⌜ EvidenceOf (ringIs ring) (sendersOf (now (senders .entry)) (ring .notices)) (recordIn (now (words .entry)) (now (ids .entry))) (now (candidates .exit)) (now (greatest .exit)) (now (certs .exit)) e ⌝ }
+    ensures { λ e. ⌜ EvidenceOf (ringIs ring) (sendersOf (now (senders .entry)) (ring .notices)) (recordIn (now (words .entry)) (now (ids .entry))) (now (candidates .exit)) (now (greatest .exit)) (now (certs .exit)) e × BackedIn (now (words .entry)) (now (ids .entry)) (ring .init) (now (groups .exit)) (e .backed) ⌝ }
 {
     if votes::has_votes(words, ids) {
         return of_votes(

@@ -2,3 +2,4 @@ pub mod Keys
 pub mod Told
 pub mod Placing
 pub mod Calling
+pub mod Counting

@@ -137,7 +137,7 @@ payload-when : (b : Bool) (m : ℕ) (o : Option ℕ) → when b m ≡ o → (if 
 payload-when true m o e = ap (λ o. otherwise o 0) e
 payload-when false m o e = ap (λ o. otherwise o 0) e
 
-flag-is : (b : Bool) → boolByte b ≡ flag b
+pub flag-is : (b : Bool) → boolByte b ≡ flag b
 flag-is true = refl
 flag-is false = refl
 
@@ -191,17 +191,17 @@ module _ (R : Ring) (senders : List ℕ) (X : List Stmt) where
   unfolding payloadsIn listOf
   no-payloads P = listOf-cong 64 (λ i. if bit 0 i then getD P i 0 else 0) (λ i. 0) (λ i l. ap (λ b. if b then getD P i 0 else 0) (bit-zero i))
 
-  all-told : (conflict many : Bool) (w n m skipped certified stored : ℕ) (C G P : List ℕ) (v s : ℕ)
-      → EvidenceOf R senders X C G P (record { conflict = conflict; many = many; wished = w; count = n; length = m; skipped = skipped; certified = certified; stored = stored })
+  all-told : (conflict many : Bool) (backed w n m skipped certified stored : ℕ) (C G P : List ℕ) (v s : ℕ)
+      → EvidenceOf R senders X C G P (record { conflict = conflict; many = many; backed = backed; wished = w; count = n; length = m; skipped = skipped; certified = certified; stored = stored })
       → length senders ≤ 64 → v ≡ cond (not conflict) certified 0 → Common v stored s → v < 18446744073709551616 → s < 18446744073709551616
       → parts (boolByte conflict) (boolByte (not conflict && many)) (viewOf w) (cond (not conflict && not many) n 0) (viewsOf C (cond (not conflict && not many) n 0)) (cond (not conflict) m 0)
       (viewsOf G (cond (not conflict) m 0)) v s (payloadsIn v P)
       ≡ (if conflict then conflictWords R X else agreedWords R senders X)
   unfolding conflictWords agreedWords viewsOf listOf sixteen
-  all-told true many w n m skipped certified stored C G P v s of short e both p q =
+  all-told true many backed w n m skipped certified stored C G P v s of short e both p q =
       let z : s ≡ 0 = none-told s q (λ i. both .bits i ∙ ap (λ x. bit x i && bit stored i) e ∙ ap (λ b. b && bit stored i) (bit-zero i)) in
       rw (e, z) (ap₂ (λ x P. 1 ∷ 0 ∷ wordOf x ∷ 0 ∷ 0 ∷ 0 ∷ 0 ∷ 0 ∷ (sixteen [] ++ (sixteen [] ++ P))) (of .wished) (no-payloads P))
-  all-told false many w n m skipped certified stored C G P v s of short e both p q =
+  all-told false many backed w n m skipped certified stored C G P v s of short e both p q =
       let c : viewsOf C (cond (not many) n 0) ≡ few (candidates R X) = few-told many C n (of .many refl) (of .candidates refl) in
       let is : (i : ℕ) → i < length senders → when (bit v i) (getD P i 0) ≡ first (certificates R senders X i) = λ i l. ap (λ x. when (bit x i) (getD P i 0)) e ∙ of .certificate refl i l in
       let within : (i : ℕ) → length senders ≤ i → bit v i ≡ false = λ i l. ap (λ x. bit x i) e ∙ of .within i l in
@@ -222,5 +222,5 @@ module _ (R : Ring) (senders : List ℕ) (X : List Stmt) where
       (over l (boolByte (e .conflict) ∷ boolByte (not (e .conflict) && e .many) ∷ wordOf (viewOf (e .wished)) ∷ cond (not (e .conflict) && not (e .many)) (e .count) 0 ∷ cond (not (e .conflict)) (e .length) 0 ∷ v ∷ s ∷ 0 ∷ [])
       (sixteen (viewsOf C (cond (not (e .conflict) && not (e .many)) (e .count) 0))) (sixteen (viewsOf G (cond (not (e .conflict)) (e .length) 0))) (payloadsIn v P) long refl
       (sixteen-long (viewsOf C (cond (not (e .conflict) && not (e .many)) (e .count) 0))) (sixteen-long (viewsOf G (cond (not (e .conflict)) (e .length) 0))) (payloads-long v P)
-      ∙ all-told (e .conflict) (e .many) (e .wished) (e .count) (e .length) (e .skipped) (e .certified) (e .stored) C G P v s of short d both p q
+      ∙ all-told (e .conflict) (e .many) (e .backed) (e .wished) (e .count) (e .length) (e .skipped) (e .certified) (e .stored) C G P v s of short d both p q
       ∙ ap (λ x. if x then conflictWords R X else agreedWords R senders X) (of .conflict))

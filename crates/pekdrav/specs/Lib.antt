@@ -3,3 +3,4 @@
 pub mod Scan
 pub mod Pooled
 pub mod Evidence
+pub mod Counted

@@ -20,6 +20,7 @@ use Rattle.protocol.specs.Lists.{if_then_else_, first, when, listOf}
 use Rattle.protocol.specs.View.{View, Ring}
 use Rattle.protocol.specs.Statement.{Stmt}
 use Rattle.protocol.specs.Evidence.{wished, candidates, greatest, certificates, isConflict, isStored}
+use Rattle.protocol.specs.Count.{completeAfter}
 use Rattle.protocol.proofs.Found.{none≢some, some-injective}
 use Rattle.protocol.proofs.Histories.{sealed-short}
 use Rattle.protocol.proofs.Asked.{greatest-holds}
@@ -82,13 +83,20 @@ views-runs name l =
 held-runs : (name ws : List ℕ) (n : ℕ) → viewsLine name (viewsOf ws n) ≡ name ++ ((44 ∷ decText n) ++ (tailText (viewsOf ws n) ++ (10 ∷ [])))
 held-runs name ws n = views-runs name (viewsOf ws n) ∙ ap (λ (k : ℕ). name ++ ((44 ∷ decText k) ++ (tailText (viewsOf ws n) ++ (10 ∷ [])))) (views-count ws n)
 
+-- the end of a certificate's line, from its payload on
+paid-runs : (m : ℕ) (stored : Bool) (after : ℕ) → (decText m ++ 44 ∷ (keptOrStored stored ++ 44 ∷ decText after)) ++ (10 ∷ []) ≡ decText m ++ ((44 ∷ keptOrStored stored) ++ ((44 ∷ decText after) ++ (10 ∷ [])))
+paid-runs m stored after =
+    append-assoc (decText m) (44 ∷ (keptOrStored stored ++ 44 ∷ decText after)) (10 ∷ [])
+    ∙ ap (λ (t : List ℕ). decText m ++ 44 ∷ t) (append-assoc (keptOrStored stored) (44 ∷ decText after) (10 ∷ []))
+
 -- a certificate's line, with its notice's number or without
-certified-runs : (one : Bool) (i m : ℕ) (stored : Bool) → certificateLine one i m stored ≡ certificateWord ++ (noticeText one i ++ ((44 ∷ decText m) ++ ((44 ∷ keptOrStored stored) ++ (10 ∷ []))))
+certified-runs : (one : Bool) (i m : ℕ) (stored : Bool) (after : ℕ)
+    → certificateLine one i m stored after ≡ certificateWord ++ (noticeText one i ++ ((44 ∷ decText m) ++ ((44 ∷ keptOrStored stored) ++ ((44 ∷ decText after) ++ (10 ∷ [])))))
 unfolding certificateLine noticeText lineText parted
-certified-runs true i m stored = ap (λ (t : List ℕ). certificateWord ++ 44 ∷ t) (append-assoc (decText m) (44 ∷ keptOrStored stored) (10 ∷ []))
-certified-runs false i m stored =
+certified-runs true i m stored after = ap (λ (t : List ℕ). certificateWord ++ 44 ∷ t) (paid-runs m stored after)
+certified-runs false i m stored after =
     ap (λ (t : List ℕ). certificateWord ++ 44 ∷ t)
-    (append-assoc (decText i) (44 ∷ (decText m ++ 44 ∷ keptOrStored stored)) (10 ∷ []) ∙ ap (λ (t : List ℕ). decText i ++ 44 ∷ t) (append-assoc (decText m) (44 ∷ keptOrStored stored) (10 ∷ [])))
+    (append-assoc (decText i) (44 ∷ (decText m ++ 44 ∷ (keptOrStored stored ++ 44 ∷ decText after))) (10 ∷ []) ∙ ap (λ (t : List ℕ). decText i ++ 44 ∷ t) (paid-runs m stored after))
 
 -- ---- each line, as its parts wrote it
 module _ {out₀ out₁ out₂ out₃ : List ℕ} {at a b c : ℕ} where
@@ -135,20 +143,26 @@ unfolding noticeText
 notice-size true i h = omega arith
 notice-size false i h = omega (arith, notice-most i h)
 
-standing-size : (stored : Bool) → length ((44 ∷ keptOrStored stored) ++ (10 ∷ [])) ≤ 8
+standing-size : (stored : Bool) → length (44 ∷ keptOrStored stored) ≤ 7
 standing-size true = omega arith
 standing-size false = omega arith
 
-certified-most : (one : Bool) (i m : ℕ) (stored : Bool) → i < 64 → m < 18446744073709551616 → length (certificateLine one i m stored) ≤ 43
-certified-most one i m stored l h =
+pub after-most : (n : ℕ) → n ≤ 512 → length (decText n) ≤ 3
+after-most n h = long-below 2 n (omega arith)
+
+certified-most : (one : Bool) (i m : ℕ) (stored : Bool) (after : ℕ) → i < 64 → m < 18446744073709551616 → after ≤ 512 → length (certificateLine one i m stored after) ≤ 47
+certified-most one i m stored after l h few =
     omega (
       arith,
-      ap length (certified-runs one i m stored),
-      length-append (noticeText one i) ((44 ∷ decText m) ++ ((44 ∷ keptOrStored stored) ++ (10 ∷ []))),
-      length-append (decText m) ((44 ∷ keptOrStored stored) ++ (10 ∷ [])),
+      ap length (certified-runs one i m stored after),
+      length-append (noticeText one i) ((44 ∷ decText m) ++ ((44 ∷ keptOrStored stored) ++ ((44 ∷ decText after) ++ (10 ∷ [])))),
+      length-append (decText m) ((44 ∷ keptOrStored stored) ++ ((44 ∷ decText after) ++ (10 ∷ []))),
+      length-append (keptOrStored stored) ((44 ∷ decText after) ++ (10 ∷ [])),
+      length-append (decText after) (10 ∷ []),
       notice-size one i l,
       most-long m h,
       standing-size stored,
+      after-most after few,
     )
 
 -- ---- a certificate's line, as its parts wrote it
@@ -167,45 +181,52 @@ notice-end one i l w = omega (arith, w .next, notice-size one i l)
 pub number-end : {out after : List ℕ} {at n : ℕ} (m : ℕ) → m < 18446744073709551616 → Wrote out at (44 ∷ decText m) n after → n ≤ at + 21
 number-end m h w = omega (arith, w .next, most-long m h)
 
-pub certified-wrote : {out₀ out₁ out₂ out₃ out₄ : List ℕ} {at a b c d : ℕ} (one : Bool) (i m : ℕ) (stored : Bool) → i < 64 → m < 18446744073709551616
-    → Wrote out₀ at certificateWord a out₁ → Wrote out₁ a (noticeText one i) b out₂ → Wrote out₂ b (44 ∷ decText m) c out₃ → Wrote out₃ c ((44 ∷ keptOrStored stored) ++ (10 ∷ [])) d out₄
-    → Wrote out₀ at (certificateLine one i m stored) d out₄ × (d ≤ at + 43)
-certified-wrote {out₀} {out₁} {out₂} {out₃} {out₄} {at} {a} {b} {c} {d} one i m stored l h x y z w = (whole, omega (arith, whole .next, certified-most one i m stored l h))
+pub standing-end : {out after : List ℕ} {at n : ℕ} (stored : Bool) → Wrote out at (44 ∷ keptOrStored stored) n after → n ≤ at + 7
+standing-end stored w = omega (arith, w .next, standing-size stored)
+
+pub after-end : {out after : List ℕ} {at n : ℕ} (m : ℕ) → m ≤ 512 → Wrote out at (44 ∷ decText m) n after → n ≤ at + 4
+after-end m h w = omega (arith, w .next, after-most m h)
+
+pub certified-wrote : {out₀ out₁ out₂ out₃ out₄ out₅ out₆ : List ℕ} {at a b c d e f : ℕ} (one : Bool) (i m : ℕ) (stored : Bool) (after : ℕ) → i < 64 → m < 18446744073709551616 → after ≤ 512
+    → Wrote out₀ at certificateWord a out₁ → Wrote out₁ a (noticeText one i) b out₂ → Wrote out₂ b (44 ∷ decText m) c out₃ → Wrote out₃ c (44 ∷ keptOrStored stored) d out₄
+    → Wrote out₄ d (44 ∷ decText after) e out₅ → Wrote out₅ e (10 ∷ []) f out₆
+    → Wrote out₀ at (certificateLine one i m stored after) f out₆ × (f ≤ at + 47)
+certified-wrote {out₀} {out₆ = out₆} {at} {f = f} one i m stored after l h few x y z w u v = (whole, omega (arith, whole .next, certified-most one i m stored after l h few))
   where
-    whole : Wrote out₀ at (certificateLine one i m stored) d out₄
-    whole = wrote-as (sym (certified-runs one i m stored)) (both x (both y (both z w)))
+    whole : Wrote out₀ at (certificateLine one i m stored after) f out₆
+    whole = wrote-as (sym (certified-runs one i m stored after)) (both x (both y (both z (both w (both u v)))))
 
 -- ---- one notice after the other
 
-module _ (one : Bool) (certified : ℕ) (P : List ℕ) (stored : ℕ) where
-  pub lines-first : (out : List ℕ) (from : ℕ) → Wrote out from (linesTo one certified P stored 0) from out
+module _ (one : Bool) (certified : ℕ) (P : List ℕ) (stored : ℕ) (after : ℕ → ℕ → ℕ) where
+  pub lines-first : (out : List ℕ) (from : ℕ) → Wrote out from (linesTo one certified P stored after 0) from out
   unfolding linesTo linesBelow
   lines-first out from = record { next = omega arith; is = refl }
 
-  lines-more : (j : ℕ) → linesTo one certified P stored (j + 1) ≡ linesTo one certified P stored j ++ lineFor one (λ i. when (bit certified i) (getD P i 0)) (λ i m. bit stored i) j (when (bit certified j) (getD P j 0))
+  lines-more : (j : ℕ) → linesTo one certified P stored after (j + 1) ≡ linesTo one certified P stored after j ++ lineFor one (λ i. when (bit certified i) (getD P i 0)) (λ i m. bit stored i) after j (when (bit certified j) (getD P j 0))
   unfolding linesTo linesBelow
   lines-more j = rw add-one
 
-  module _ {out₀ out₁ : List ℕ} {from at : ℕ} (j : ℕ) (w : Wrote out₀ from (linesTo one certified P stored j) at out₁) (r : Bool) (asked : r ≡ bit certified j) where
-    pub lines-skip : r ≡ false → Wrote out₀ from (linesTo one certified P stored (j + 1)) at out₁
+  module _ {out₀ out₁ : List ℕ} {from at : ℕ} (j : ℕ) (w : Wrote out₀ from (linesTo one certified P stored after j) at out₁) (r : Bool) (asked : r ≡ bit certified j) where
+    pub lines-skip : r ≡ false → Wrote out₀ from (linesTo one certified P stored after (j + 1)) at out₁
     unfolding lineFor
     lines-skip f =
-        wrote-as (sym (lines-more j ∙ ap (λ b. linesTo one certified P stored j ++ lineFor one (λ i. when (bit certified i) (getD P i 0)) (λ i m. bit stored i) j (when b (getD P j 0))) (sym asked ∙ f) ∙ append-nil (linesTo one certified P stored j))) w
+        wrote-as (sym (lines-more j ∙ ap (λ b. linesTo one certified P stored after j ++ lineFor one (λ i. when (bit certified i) (getD P i 0)) (λ i m. bit stored i) after j (when b (getD P j 0))) (sym asked ∙ f) ∙ append-nil (linesTo one certified P stored after j))) w
 
-    pub lines-next : {out₂ : List ℕ} {n : ℕ} (m : ℕ) (k : Bool) → r ≡ true → m ≡ getD P j 0 → k ≡ bit stored j → Wrote out₁ at (certificateLine one j m k) n out₂ → Wrote out₀ from (linesTo one certified P stored (j + 1)) n out₂
+    pub lines-next : {out₂ : List ℕ} {n : ℕ} (m : ℕ) (k : Bool) (a : ℕ) → r ≡ true → m ≡ getD P j 0 → k ≡ bit stored j → a ≡ after j m → Wrote out₁ at (certificateLine one j m k a) n out₂ → Wrote out₀ from (linesTo one certified P stored after (j + 1)) n out₂
     unfolding lineFor
-    lines-next m k f e g x =
-        wrote-as (sym (lines-more j ∙ ap (λ b. linesTo one certified P stored j ++ lineFor one (λ i. when (bit certified i) (getD P i 0)) (λ i m. bit stored i) j (when b (getD P j 0))) (sym asked ∙ f)
-        ∙ ap₂ (λ m k. linesTo one certified P stored j ++ certificateLine one j m k) (sym e) (sym g))) (both w x)
+    lines-next m k a f e g q x =
+        wrote-as (sym (lines-more j ∙ ap (λ b. linesTo one certified P stored after j ++ lineFor one (λ i. when (bit certified i) (getD P i 0)) (λ i m. bit stored i) after j (when b (getD P j 0))) (sym asked ∙ f)
+        ∙ ap₂ (λ m k. linesTo one certified P stored after j ++ certificateLine one j m k (after j m)) (sym e) (sym g) ∙ ap (λ a. linesTo one certified P stored after j ++ certificateLine one j m k a) (sym q))) (both w x)
 
-  pub lines-all : {out₀ out₁ : List ℕ} {from at : ℕ} (j n : ℕ) → j ≡ n → Wrote out₀ from (linesTo one certified P stored j) at out₁ → Wrote out₀ from (linesTo one certified P stored n) at out₁
-  lines-all j n e w = wrote-as (ap (linesTo one certified P stored) e) w
+  pub lines-all : {out₀ out₁ : List ℕ} {from at : ℕ} (j n : ℕ) → j ≡ n → Wrote out₀ from (linesTo one certified P stored after j) at out₁ → Wrote out₀ from (linesTo one certified P stored after n) at out₁
+  lines-all j n e w = wrote-as (ap (linesTo one certified P stored after) e) w
 
 -- ---- or none
 
-module _ {out₀ out₁ : List ℕ} {from at : ℕ} (n certified : ℕ) (P : List ℕ) (stored : ℕ) (w : Wrote out₀ from (linesTo (eqb n 1) certified P stored n) at out₁) where
+module _ {out₀ out₁ : List ℕ} {from at : ℕ} (n certified : ℕ) (P : List ℕ) (stored : ℕ) (after : ℕ → ℕ → ℕ) (w : Wrote out₀ from (linesTo (eqb n 1) certified P stored after n) at out₁) where
   abbrev lines : List ℕ
-  lines = linesTo (eqb n 1) certified P stored n
+  lines = linesTo (eqb n 1) certified P stored after n
 
   some-lines : (t : List ℕ) → (length t ≡ 0 → ⊥) → orNone t ≡ t
   unfolding orNone
@@ -216,11 +237,11 @@ module _ {out₀ out₁ : List ℕ} {from at : ℕ} (n certified : ℕ) (P : Lis
   no-lines [] e = refl
   no-lines (b ∷ t) e = absurd (omega arith)
 
-  pub lines-some : (at ≡ from → ⊥) → Wrote out₀ from (certifiedText n certified P stored) at out₁
+  pub lines-some : (at ≡ from → ⊥) → Wrote out₀ from (certifiedText n certified P stored after) at out₁
   unfolding certifiedText
   lines-some d = wrote-as (sym (some-lines lines (λ e. d (omega (arith, w .next))))) w
 
-  pub lines-none : {out₂ : List ℕ} {r : ℕ} → at ≡ from → Wrote out₁ at uncertifiedLine r out₂ → Wrote out₀ from (certifiedText n certified P stored) r out₂ × (r ≤ from + 2769)
+  pub lines-none : {out₂ : List ℕ} {r : ℕ} → at ≡ from → Wrote out₁ at uncertifiedLine r out₂ → Wrote out₀ from (certifiedText n certified P stored after) r out₂ × (r ≤ from + 3025)
   unfolding certifiedText orNone
   lines-none {out₂} {r} e x = (
     wrote-as (sym (ap orNone empty)) (both (wrote-as empty w) x),
@@ -235,14 +256,14 @@ unfolding conflictLine lineText parted
 conflict-size = refl
 
 -- ---- the lines one after the other
-module _ {out₀ out₁ out₂ : List ℕ} {a b : ℕ} (n : ℕ) (e : Evidence) (C G P : List ℕ) (w : Wrote out₀ 0 (wishedLine (viewOf (e .wished))) a out₁) where
-  pub conflict-wrote : e .conflict ≡ true → Wrote out₁ a conflictLine b out₂ → Wrote out₀ 0 (linesOf n e C G P) b out₂ × (b ≤ 4096)
+module _ {out₀ out₁ out₂ : List ℕ} {a b : ℕ} (n : ℕ) (e : Evidence) (C G P : List ℕ) (after : ℕ → ℕ → ℕ) (w : Wrote out₀ 0 (wishedLine (viewOf (e .wished))) a out₁) where
+  pub conflict-wrote : e .conflict ≡ true → Wrote out₁ a conflictLine b out₂ → Wrote out₀ 0 (linesOf n e C G P after) b out₂ × (b ≤ 4096)
   unfolding linesOf
   conflict-wrote p x = (rw p (both w x), omega (arith, x .next, w .next, wished-size (viewOf (e .wished)), conflict-size))
 
   pub lines-wrote : {out₃ out₄ : List ℕ} {c d : ℕ} → e .conflict ≡ false → Few e
       → Wrote out₁ a (candidatesLine (e .many) (viewsOf C (e .count))) b out₂ → Wrote out₂ b (viewsLine greatestWord (viewsOf G (e .length))) c out₃
-      → Wrote out₃ c (certifiedText n (e .certified) P (e .stored)) d out₄ × (d ≤ c + 2769) → Wrote out₀ 0 (linesOf n e C G P) d out₄ × (d ≤ 4096)
+      → Wrote out₃ c (certifiedText n (e .certified) P (e .stored) after) d out₄ × (d ≤ c + 3025) → Wrote out₀ 0 (linesOf n e C G P after) d out₄ × (d ≤ 4096)
   unfolding linesOf agreedLines
   lines-wrote p f x y (z, most) = (
     rw p (both w (both x (both y z))),
@@ -261,16 +282,16 @@ module _ {out₀ out₁ out₂ : List ℕ} {a b : ℕ} (n : ℕ) (e : Evidence) 
 -- ---- what the evidence is of
 
 -- the same lines by what says the same of each notice
-lines-same : (one : Bool) (c c′ : ℕ → Option ℕ) (s s′ : ℕ → ℕ → Bool) (n : ℕ) → ((i : ℕ) → i < n → c i ≡ c′ i) → ((i : ℕ) → i < n → (m : ℕ) → c′ i ≡ some m → s i m ≡ s′ i m)
-    → linesBelow one c s n ≡ linesBelow one c′ s′ n
+lines-same : (one : Bool) (c c′ : ℕ → Option ℕ) (s s′ : ℕ → ℕ → Bool) (a : ℕ → ℕ → ℕ) (n : ℕ) → ((i : ℕ) → i < n → c i ≡ c′ i) → ((i : ℕ) → i < n → (m : ℕ) → c′ i ≡ some m → s i m ≡ s′ i m)
+    → linesBelow one c s a n ≡ linesBelow one c′ s′ a n
 unfolding linesBelow lineFor
-lines-same one c c′ s s′ zero f g = refl
-lines-same one c c′ s s′ (suc n) f g =
-    ap₂ _++_ (lines-same one c c′ s s′ n (λ i l. f i (omega arith)) (λ i l. g i (omega arith))) (ap (lineFor one c s n) (f n (omega arith)) ∙ line (c′ n) (g n (omega arith)))
+lines-same one c c′ s s′ a zero f g = refl
+lines-same one c c′ s s′ a (suc n) f g =
+    ap₂ _++_ (lines-same one c c′ s s′ a n (λ i l. f i (omega arith)) (λ i l. g i (omega arith))) (ap (lineFor one c s a n) (f n (omega arith)) ∙ line (c′ n) (g n (omega arith)))
   where
-    line : (o : Option ℕ) → ((m : ℕ) → o ≡ some m → s n m ≡ s′ n m) → lineFor one c s n o ≡ lineFor one c′ s′ n o
+    line : (o : Option ℕ) → ((m : ℕ) → o ≡ some m → s n m ≡ s′ n m) → lineFor one c s a n o ≡ lineFor one c′ s′ a n o
     line none h = refl
-    line (some m) h = ap (certificateLine one n m) (h m refl)
+    line (some m) h = ap (λ k. certificateLine one n m k (a n m)) (h m refl)
 
 module _ (R : Ring) (senders : List ℕ) (X : List Stmt) (C G P : List ℕ) (e : Evidence) (of : EvidenceOf R senders X C G P e) (n : ℕ) (count : n ≡ length senders) where
   module _ (p : e .conflict ≡ false) where
@@ -287,27 +308,27 @@ module _ (R : Ring) (senders : List ℕ) (X : List Stmt) (C G P : List ℕ) (e :
         go true f h = of .stored p i l f ∙ ap (isStored R X i) (some-injective (ap (λ b. when b (getD P i 0)) (sym f) ∙ h))
         go false f h = absurd (none≢some (ap (λ b. when b (getD P i 0)) (sym f) ∙ h))
 
-    certificates-shown : certifiedText n (e .certified) P (e .stored) ≡ certificatesText (length senders) (λ i. first (certificates R senders X i)) (isStored R X)
+    certificates-shown : certifiedText n (e .certified) P (e .stored) (completeAfter R X) ≡ certificatesText (length senders) (λ i. first (certificates R senders X i)) (isStored R X) (completeAfter R X)
     unfolding certifiedText linesTo certificatesText
     certificates-shown =
-        ap (λ n. orNone (linesBelow (eqb n 1) (λ i. when (bit (e .certified) i) (getD P i 0)) (λ i m. bit (e .stored) i) n)) count
-        ∙ ap orNone (lines-same (eqb (length senders) 1) (λ i. when (bit (e .certified) i) (getD P i 0)) (λ i. first (certificates R senders X i)) (λ i m. bit (e .stored) i) (isStored R X) (length senders)
+        ap (λ n. orNone (linesBelow (eqb n 1) (λ i. when (bit (e .certified) i) (getD P i 0)) (λ i m. bit (e .stored) i) (completeAfter R X) n)) count
+        ∙ ap orNone (lines-same (eqb (length senders) 1) (λ i. when (bit (e .certified) i) (getD P i 0)) (λ i. first (certificates R senders X i)) (λ i m. bit (e .stored) i) (isStored R X) (completeAfter R X) (length senders)
         (of .certificate p) stored-shown)
 
-    agreed-shown : agreedLines n e C G P ≡ agreedText R senders X
+    agreed-shown : agreedLines n e C G P (completeAfter R X) ≡ agreedText R senders X
     unfolding agreedLines agreedText
     agreed-shown = ap₂ _++_ (candidates-shown (e .many) refl) (ap₂ _++_ (ap (viewsLine greatestWord) (of .greatest p)) certificates-shown)
 
-  rest-shown : (conflict : Bool) → e .conflict ≡ conflict → (if e .conflict then conflictLine else agreedLines n e C G P) ≡ (if isConflict R senders X then conflictLine else agreedText R senders X)
-  rest-shown true p = ap (λ b. if b then conflictLine else agreedLines n e C G P) p ∙ sym (ap (λ b. if b then conflictLine else agreedText R senders X) (sym (of .conflict) ∙ p))
-  rest-shown false p = ap (λ b. if b then conflictLine else agreedLines n e C G P) p ∙ agreed-shown p ∙ sym (ap (λ b. if b then conflictLine else agreedText R senders X) (sym (of .conflict) ∙ p))
+  rest-shown : (conflict : Bool) → e .conflict ≡ conflict → (if e .conflict then conflictLine else agreedLines n e C G P (completeAfter R X)) ≡ (if isConflict R senders X then conflictLine else agreedText R senders X)
+  rest-shown true p = ap (λ b. if b then conflictLine else agreedLines n e C G P (completeAfter R X)) p ∙ sym (ap (λ b. if b then conflictLine else agreedText R senders X) (sym (of .conflict) ∙ p))
+  rest-shown false p = ap (λ b. if b then conflictLine else agreedLines n e C G P (completeAfter R X)) p ∙ agreed-shown p ∙ sym (ap (λ b. if b then conflictLine else agreedText R senders X) (sym (of .conflict) ∙ p))
 
   -- THE LINES OF THE EVIDENCE ARE THE TEXT
-  pub lines-shown : linesOf n e C G P ≡ screenText R senders X
+  pub lines-shown : linesOf n e C G P (completeAfter R X) ≡ screenText R senders X
   unfolding linesOf screenText
   lines-shown = ap₂ _++_ (ap wishedLine (of .wished)) (rest-shown (e .conflict) refl)
 
-  pub shows : (out after : List ℕ) (r : ℕ) → 4096 ≤ length out → Wrote out 0 (linesOf n e C G P) r after × (r ≤ 4096) → ScreenShows R senders X out r after
+  pub shows : (out after : List ℕ) (r : ℕ) → 4096 ≤ length out → Wrote out 0 (linesOf n e C G P (completeAfter R X)) r after × (r ≤ 4096) → ScreenShows R senders X out r after
   shows out after r room w =
       let v : Wrote out 0 (screenText R senders X) r after = subst (λ t. Wrote out 0 t r after) lines-shown (w .0) in
       let size : r ≡ length (screenText R senders X) = v .next ∙ omega arith in

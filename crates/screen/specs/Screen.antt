@@ -12,6 +12,7 @@ use Rattle.protocol.specs.Lists.{if_then_else_, first}
 use Rattle.protocol.specs.View.{View, Ring}
 use Rattle.protocol.specs.Statement.{Stmt}
 use Rattle.protocol.specs.Evidence.{wished, candidates, greatest, certificates, isConflict, isStored}
+use Rattle.protocol.specs.Count.{completeAfter}
 use Rattle.text.specs.Text.{decText}
 use Rattle.statements.specs.Text.{parted, viewText}
 
@@ -65,22 +66,23 @@ conflictLine = lineText (conflictWord ∷ [])
 unfoldable pub candidatesLine : Bool → List View → List ℕ
 candidatesLine many views = if many then lineText (candidatesWord ∷ manyWord ∷ []) else viewsLine candidatesWord views
 
--- The payload m for which notice i has a certificate, and whether it is stored or only kept. In a ring of one notice its number is not told.
-unfoldable pub certificateLine : Bool → ℕ → ℕ → Bool → List ℕ
-certificateLine one i m stored =
-    if one then lineText (certificateWord ∷ decText m ∷ (if stored then storedWord else keptWord) ∷ [])
-    else lineText (certificateWord ∷ decText i ∷ decText m ∷ (if stored then storedWord else keptWord) ∷ [])
+-- The payload m for which notice i has a certificate, whether it is stored or only kept, and after how many statements the certificate was complete. In a ring of one notice its
+-- number is not told.
+unfoldable pub certificateLine : Bool → ℕ → ℕ → Bool → ℕ → List ℕ
+certificateLine one i m stored after =
+    if one then lineText (certificateWord ∷ decText m ∷ (if stored then storedWord else keptWord) ∷ decText after ∷ [])
+    else lineText (certificateWord ∷ decText i ∷ decText m ∷ (if stored then storedWord else keptWord) ∷ decText after ∷ [])
 
 -- No notice has a certificate.
 unfoldable pub uncertifiedLine : List ℕ
 uncertifiedLine = lineText (certificateWord ∷ noneWord ∷ [])
 
--- By the payloads of the certificates, and whether a payload of a notice is stored.
-module _ (one : Bool) (certificate : ℕ → Option ℕ) (stored : ℕ → ℕ → Bool) where
+-- By the payloads of the certificates, whether a payload of a notice is stored, and after how many statements its certificate was complete.
+module _ (one : Bool) (certificate : ℕ → Option ℕ) (stored : ℕ → ℕ → Bool) (after : ℕ → ℕ → ℕ) where
   -- The line of notice i, if it has a certificate.
   unfoldable pub lineFor : ℕ → Option ℕ → List ℕ
   lineFor i none = []
-  lineFor i (some m) = certificateLine one i m (stored i m)
+  lineFor i (some m) = certificateLine one i m (stored i m) (after i m)
 
   -- Those of the notices below n, in order.
   unfoldable pub linesBelow : ℕ → List ℕ
@@ -93,8 +95,8 @@ orNone [] = uncertifiedLine
 orNone (b ∷ t) = b ∷ t
 
 -- What is told of the certificates of n notices.
-unfoldable pub certificatesText : ℕ → (ℕ → Option ℕ) → (ℕ → ℕ → Bool) → List ℕ
-certificatesText n certificate stored = orNone (linesBelow (eqb n 1) certificate stored n)
+unfoldable pub certificatesText : ℕ → (ℕ → Option ℕ) → (ℕ → ℕ → Bool) → (ℕ → ℕ → ℕ) → List ℕ
+certificatesText n certificate stored after = orNone (linesBelow (eqb n 1) certificate stored after n)
 
 -- ---- the whole
 
@@ -102,7 +104,7 @@ certificatesText n certificate stored = orNone (linesBelow (eqb n 1) certificate
 unfoldable pub agreedText : Ring → List ℕ → List Stmt → List ℕ
 agreedText R senders X =
     candidatesLine (ltb 16 (length (candidates R X))) (candidates R X)
-    ++ (viewsLine greatestWord (greatest R X) ++ certificatesText (length senders) (λ i. first (certificates R senders X i)) (isStored R X))
+    ++ (viewsLine greatestWord (greatest R X) ++ certificatesText (length senders) (λ i. first (certificates R senders X i)) (isStored R X) (completeAfter R X))
 
 -- What X shows in the ring R with these senders. After a conflict nothing but the wished view is told.
 unfoldable pub screenText : Ring → List ℕ → List Stmt → List ℕ

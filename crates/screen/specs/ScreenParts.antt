@@ -21,22 +21,22 @@ keptOrStored stored = if stored then storedWord else keptWord
 unfoldable pub noticeText : Bool → ℕ → List ℕ
 noticeText one i = if one then [] else 44 ∷ decText i
 
--- The lines of the notices below j, by the sets of those that have a certificate and of which it is stored; P has the payloads.
-unfoldable pub linesTo : Bool → ℕ → List ℕ → ℕ → ℕ → List ℕ
-linesTo one certified P stored j = linesBelow one (λ i. when (bit certified i) (getD P i 0)) (λ i m. bit stored i) j
+-- The lines of the notices below j, by the sets of those that have a certificate and of which it is stored; P has the payloads, and `after` tells when each was complete.
+unfoldable pub linesTo : Bool → ℕ → List ℕ → ℕ → (ℕ → ℕ → ℕ) → ℕ → List ℕ
+linesTo one certified P stored after j = linesBelow one (λ i. when (bit certified i) (getD P i 0)) (λ i m. bit stored i) after j
 
 -- What is told of the certificates of n notices.
-unfoldable pub certifiedText : ℕ → ℕ → List ℕ → ℕ → List ℕ
-certifiedText n certified P stored = orNone (linesTo (eqb n 1) certified P stored n)
+unfoldable pub certifiedText : ℕ → ℕ → List ℕ → ℕ → (ℕ → ℕ → ℕ) → List ℕ
+certifiedText n certified P stored after = orNone (linesTo (eqb n 1) certified P stored after n)
 
 -- The lines of the evidence e of n notices with the candidates C, the greatest history G and the payloads P, without a conflict and in all.
 
-unfoldable pub agreedLines : ℕ → Evidence → List ℕ → List ℕ → List ℕ → List ℕ
-agreedLines n e C G P =
-    candidatesLine (e .many) (viewsOf C (e .count)) ++ (viewsLine greatestWord (viewsOf G (e .length)) ++ certifiedText n (e .certified) P (e .stored))
+unfoldable pub agreedLines : ℕ → Evidence → List ℕ → List ℕ → List ℕ → (ℕ → ℕ → ℕ) → List ℕ
+agreedLines n e C G P after =
+    candidatesLine (e .many) (viewsOf C (e .count)) ++ (viewsLine greatestWord (viewsOf G (e .length)) ++ certifiedText n (e .certified) P (e .stored) after)
 
-unfoldable pub linesOf : ℕ → Evidence → List ℕ → List ℕ → List ℕ → List ℕ
-linesOf n e C G P = wishedLine (viewOf (e .wished)) ++ (if e .conflict then conflictLine else agreedLines n e C G P)
+unfoldable pub linesOf : ℕ → Evidence → List ℕ → List ℕ → List ℕ → (ℕ → ℕ → ℕ) → List ℕ
+linesOf n e C G P after = wishedLine (viewOf (e .wished)) ++ (if e .conflict then conflictLine else agreedLines n e C G P after)
 
 -- No more views are to be written than an array holds.
 pub record Few (e : Evidence) : Type 0 where

@@ -8,10 +8,12 @@ ghost use lib.ListN.{length};
 ghost use Rattle.text.specs.Text.{decText};
 ghost use Rattle.text.specs.Written.{Wrote};
 ghost use Rattle.statements.specs.Parts.{tailText};
-ghost use Rattle.views.specs.View.{viewOf, viewsOf};
+ghost use Rattle.protocol.specs.Count.{completeAfter};
+ghost use Rattle.views.specs.View.{viewOf, ringOfWord, viewsOf};
 ghost use Rattle.pool.specs.Pool.{recordIn};
 ghost use Rattle.evidence.specs.Evidence.{ringIs};
 ghost use Rattle.evidence.specs.Notices.{sendersOf};
+ghost use Rattle.evidence.specs.Shown.{BackedIn};
 ghost use Rattle.screen.specs.Screen.{wishedLine, candidatesLine, viewsLine, certificateLine, greatestWord, ScreenShows};
 ghost use Rattle.screen.specs.ScreenParts.{noticeText, keptOrStored, linesTo, certifiedText, linesOf, Few};
 use evidence::Evidence;
@@ -23,7 +25,7 @@ use pool::RECORD;
 use statements::NOTICES;
 use views::View;
 
-// No text is longer: 16 bytes of the wished view, 158 of sixteen candidates, 156 of sixteen views of a history and 43 of each of 64 certificates.
+// No text is longer: 16 bytes of the wished view, 158 of sixteen candidates, 156 of sixteen views of a history and 47 of each of 64 certificates.
 pub const SHOWN_BYTES: usize = 4096;
 
 // A comma and a view for each of the first `n` of a list.
@@ -97,18 +99,18 @@ fn put_notice(out: &mut [u8], at: usize, one: bool, j: usize) -> usize
     statements::put_number(out, at, j as u64)
 }
 
-// The end of a certificate's line.
+// Whether it is stored.
 fn put_standing(out: &mut [u8], at: usize, stored: bool) -> usize
-    requires { ⌜ at + 8 ≤ length (now out) ⌝ }
-    ensures { λ r. ⌜ Wrote (now (out .entry)) at ((44 ∷ keptOrStored stored) ++ (10 ∷ [])) r (now (out .exit)) ⌝ }
+    requires { ⌜ at + 7 ≤ length (now out) ⌝ }
+    ensures { λ r. ⌜ Wrote (now (out .entry)) at (44 ∷ keptOrStored stored) r (now (out .exit)) ⌝ }
 {
     if stored {
-        return text::write_text(out, at, b",stored\n");
+        return text::write_text(out, at, b",stored");
     }
-    text::write_text(out, at, b",kept\n")
+    text::write_text(out, at, b",kept")
 }
 
-// The line of the certificate of notice j, in at most 43 bytes.
+// The line of the certificate of notice j, in at most 47 bytes.
 fn put_certificate(
     out: &mut [u8],
     at: usize,
@@ -116,39 +118,46 @@ fn put_certificate(
     j: usize,
     payload: u64,
     stored: bool,
+    after: usize,
 ) -> usize
-    requires { ⌜ (j < 64) × (at + 43 ≤ length (now out)) ⌝ }
-    ensures { λ r. ⌜ Wrote (now (out .entry)) at (certificateLine one j payload stored) r (now (out .exit)) × (r ≤ at + 43) ⌝ }
+    requires { ⌜ (j < 64) × (after ≤ 512) × (at + 47 ≤ length (now out)) ⌝ }
+    ensures { λ r. ⌜ Wrote (now (out .entry)) at (certificateLine one j payload stored after) r (now (out .exit)) × (r ≤ at + 47) ⌝ }
 {
     let a = text::write_text(out, at, b"certificate");
     let b = put_notice(out, a, one, j);
     let c = statements::put_number(out, b, payload);
-    put_standing(out, c, stored)
+    let d = put_standing(out, c, stored);
+    let e = statements::put_number(out, d, after as u64);
+    text::write_text(out, e, b"\n")
 }
 
-// The lines of the certificates of n notices.
+// The lines of the certificates of n notices, by the evidence e of a record: the groups of acks and stores by quorums of sealed tops tell after how many statements each was complete.
 fn put_lines(
     out: &mut [u8],
     from: usize,
     n: usize,
-    certified: u64,
+    words: &[u64; POOL_WORDS],
+    ids: &[u16; RECORD],
+    init: u64,
+    e: Evidence,
     certs: &[u64; NOTICES],
-    stored: u64,
+    groups: &[u64; GROUPS],
 ) -> usize
-    requires { ⌜ (n ≤ 64) × (from + 43 * n ≤ length (now out)) ⌝ }
-    ensures { λ r. ⌜ Wrote (now (out .entry)) from (linesTo (eqb n 1) certified (now (certs .entry)) stored n) r (now (out .exit)) × (r ≤ from + 43 * n) ⌝ }
+    requires { ⌜ (n ≤ 64) × (from + 47 * n ≤ length (now out)) × BackedIn (now words) (now ids) init (now groups) (e .backed) ⌝ }
+    ensures { λ r. ⌜ Wrote (now (out .entry)) from (linesTo (eqb n 1) (e .certified) (now (certs .entry)) (e .stored) (completeAfter (ringOfWord init) (recordIn (now (words .entry)) (now (ids .entry)))) n) r (now (out .exit)) × (r ≤ from + 47 * n) ⌝ }
 {
     let one = n == 1;
     let mut at = from;
     let mut j = 0usize;
     while j < n {
-        if !statements::has(certified, j) {
+        if !statements::has(e.certified, j) {
             j += 1;
             continue;
         }
         let m = evidence::word_of(certs, j);
-        let is_stored = statements::has(stored, j);
-        at = put_certificate(out, at, one, j, m, is_stored);
+        let is_stored = statements::has(e.stored, j);
+        let after = evidence::complete_after(words, ids, init, groups, e.backed as usize, j, m);
+        at = put_certificate(out, at, one, j, m, is_stored, after);
         j += 1;
     }
     at
@@ -159,14 +168,17 @@ fn put_certificates(
     out: &mut [u8],
     from: usize,
     n: usize,
-    certified: u64,
+    words: &[u64; POOL_WORDS],
+    ids: &[u16; RECORD],
+    init: u64,
+    e: Evidence,
     certs: &[u64; NOTICES],
-    stored: u64,
+    groups: &[u64; GROUPS],
 ) -> usize
-    requires { ⌜ (n ≤ 64) × (from + 2769 ≤ length (now out)) ⌝ }
-    ensures { λ r. ⌜ Wrote (now (out .entry)) from (certifiedText n certified (now (certs .entry)) stored) r (now (out .exit)) × (r ≤ from + 2769) ⌝ }
+    requires { ⌜ (n ≤ 64) × (from + 3025 ≤ length (now out)) × BackedIn (now words) (now ids) init (now groups) (e .backed) ⌝ }
+    ensures { λ r. ⌜ Wrote (now (out .entry)) from (certifiedText n (e .certified) (now (certs .entry)) (e .stored) (completeAfter (ringOfWord init) (recordIn (now (words .entry)) (now (ids .entry))))) r (now (out .exit)) × (r ≤ from + 3025) ⌝ }
 {
-    let at = put_lines(out, from, n, certified, certs, stored);
+    let at = put_lines(out, from, n, words, ids, init, e, certs, groups);
     if at != from {
         return at;
     }
@@ -176,13 +188,17 @@ fn put_certificates(
 fn put_evidence(
     out: &mut [u8],
     n: usize,
+    words: &[u64; POOL_WORDS],
+    ids: &[u16; RECORD],
+    init: u64,
     e: Evidence,
     candidates: &[u64; View::LIMIT],
     greatest: &[u64; View::LIMIT],
     certs: &[u64; NOTICES],
+    groups: &[u64; GROUPS],
 ) -> usize
-    requires { ⌜ (n ≤ 64) × (4096 ≤ length (now out)) × Few e ⌝ }
-    ensures { λ r. ⌜ Wrote (now (out .entry)) 0 (linesOf n e (now (candidates .entry)) (now (greatest .entry)) (now (certs .entry))) r (now (out .exit)) × (r ≤ 4096) ⌝ }
+    requires { ⌜ (n ≤ 64) × (4096 ≤ length (now out)) × Few e × BackedIn (now words) (now ids) init (now groups) (e .backed) ⌝ }
+    ensures { λ r. ⌜ Wrote (now (out .entry)) 0 (linesOf n e (now (candidates .entry)) (now (greatest .entry)) (now (certs .entry)) (completeAfter (ringOfWord init) (recordIn (now (words .entry)) (now (ids .entry))))) r (now (out .exit)) × (r ≤ 4096) ⌝ }
 {
     let a = put_wished(out, e.wished);
     if e.conflict {
@@ -190,7 +206,7 @@ fn put_evidence(
     }
     let b = put_candidates(out, a, e.many, candidates, e.count);
     let c = put_greatest(out, b, greatest, e.length);
-    put_certificates(out, c, n, e.certified, certs, e.stored)
+    put_certificates(out, c, n, words, ids, init, e, certs, groups)
 }
 
 // Writes what a record shows from the start of `out`, in lines, and answers the text's length; 0, and `out` as it was, where `out` has fewer than 4096 bytes.
@@ -223,5 +239,16 @@ pub fn shown(
         &mut greatest,
         &mut certs,
     );
-    put_evidence(out, n, e, &candidates, &greatest, &certs)
+    put_evidence(
+        out,
+        n,
+        words,
+        ids,
+        ring.init,
+        e,
+        &candidates,
+        &greatest,
+        &certs,
+        &groups,
+    )
 }

@@ -43,7 +43,7 @@ pow-lt a zero l = absurd (omega arith)
 pow-lt zero (suc b) l = omega (arith, pow-pos b)
 pow-lt (suc a) (suc b) l = omega (arith, pow-lt a b (omega arith))
 
-pow-small : (o : ℕ) → o < 16 → 2 ^ o < 2 ^ 16
+pub pow-small : (o : ℕ) → o < 16 → 2 ^ o < 2 ^ 16
 pow-small o h = pow-lt o 16 h
 
 pub note-bit : (seen o : ℕ) (hit : Bool) → hit ≡ true → o < 16 → Noted seen hit o (bitOr seen ((1 * 2 ^ o) % 4294967296))

@@ -2,22 +2,18 @@
 -- Assumes nothing.
 use mathlib.Core.Path.{_≡_, refl, sym, ap, ap₂, _∙_}
 use mathlib.Core.Bool.{Bool, true, false, not, _&&_}
-use mathlib.Core.List.{List}
 use Prim.Native.Nat.{ℕ, _+_, _*_, _/_, _%_, _≤_, _<_}
 use native.Mathlib.Omega.{arith}
 use lib.Dec.{eqb, leb, ltb}
-use lib.Bits.{bitAnd, and-le-l, and-mask, and-mod, and-shr}
+use lib.Bits.{bitAnd, and-mask, and-mod, and-shr}
 use lib.Count.{ones, ones-cat}
 use borrow.Author.Tests.{eq-eqb, ne-eqb}
-use Rattle.protocol.specs.Sets.{bit, count, setOf}
-use Rattle.protocol.specs.View.{View, sameView, member, quorum, memberCount, hasMembers, within, below, size}
-use Rattle.protocol.specs.Statement.{Stmt}
-use Rattle.protocol.specs.Evidence.{signs, signedByQuorum}
+use Rattle.protocol.specs.Sets.{bit, setOf}
+use Rattle.protocol.specs.View.{View, sameView, member, memberCount, hasMembers, within, below, size}
 use Rattle.protocol.proofs.Says.{Says, says-map, says-unique, says-and, says-not, says-eqb}
-use Rattle.protocol.proofs.Bits.{bit-and, bit-setOf, ones-count, subset-and, below-of, Fits}
+use Rattle.protocol.proofs.Bits.{bit-setOf, ones-count, subset-and, below-of, Fits}
 use Rattle.protocol.proofs.Decided.{says-same, says-below, says-within}
-use Rattle.views.specs.Sets.{IsSet}
-use Rattle.views.specs.View.{viewOf, viewIn, quorumHas}
+use Rattle.views.specs.View.{viewOf, viewIn}
 use Rattle.views.proofs.Sets.{setOf-lt, count-cong, count-le, bit-low, count-low, subset-low}
 
 -- ---- a test and what it decides
@@ -65,7 +61,7 @@ view-eqb a A t e p q = same-view a t p q ∙ ap (λ v. sameView v (viewOf t)) e
 
 -- ---- members and quorums
 
--- the members as one set r: how many they are, and how many of them are in `seen`
+-- the members as one set r: how many they are
 
 module _ (v : View) (r : ℕ) (e : r ≡ setOf 16 (member v)) where
   member-bit : (k : ℕ) → k < 16 → bit r k ≡ member v k
@@ -78,29 +74,13 @@ module _ (v : View) (r : ℕ) (e : r ≡ setOf 16 (member v)) where
   unfolding memberCount
   counted = ones-count 16 r members-fit ∙ count-cong 16 _ _ member-bit
 
-  pub seen-of : (seen : ℕ) → ones (bitAnd r seen) ≡ count 16 (λ k. member v k && bit seen k)
-  seen-of seen = ones-count 16 (bitAnd r seen) (omega (arith, and-le-l r seen, members-fit)) ∙ count-cong 16 _ _ (λ k l. bit-and k r seen ∙ ap (λ b. b && bit seen k) (member-bit k l))
-
 pub at-most : (v : View) → memberCount 16 v ≤ 16
 unfolding memberCount
 at-most v = count-le 16 (member v)
 
-pub quorum-empty : (t v : View) (seen : ℕ) (b : Bool) → v ≡ t → b ≡ hasMembers 16 v → b ≡ false → false ≡ quorumHas t (bit seen)
-unfolding quorumHas
-quorum-empty t v seen b s e z = rw (ap (hasMembers 16) (sym s) ∙ sym e ∙ z)
-
-pub quorum-seen : (t v : View) (seen r q : ℕ) (b : Bool) → v ≡ t → b ≡ hasMembers 16 v → b ≡ true → r ≡ setOf 16 (member v) → q ≡ quorum (memberCount 16 v) → leb q (ones (bitAnd r seen)) ≡ quorumHas t (bit seen)
-unfolding quorumHas
-quorum-seen t v seen r q b s e z m g = rw (sym s, sym e ∙ z) (ap₂ leb g (seen-of v r m seen))
-
--- a set of signers that has a quorum of t
-pub signed-by-set : (X : List Stmt) (t : View) (p : Stmt → Bool) (seen : ℕ) (r : Bool) → IsSet seen (signs p X) → r ≡ quorumHas t (bit seen) → r ≡ signedByQuorum 16 X t p
-unfolding quorumHas signedByQuorum
-signed-by-set X t p seen r s e = e ∙ ap (λ n. hasMembers 16 t && leb (quorum (memberCount 16 t)) n) (count-cong 16 _ _ (λ k l. ap (λ b. member t k && b) (s .bits k l)))
-
 -- ---- a view of the controllers below the width alone
 
-abbrev masked : View → View
+abbrev pub masked : View → View
 masked v = pair (v .joined % 65536) (v .left % 65536)
 
 pub view-in : (w : ℕ) → viewIn w ≡ masked (viewOf w)
@@ -133,22 +113,15 @@ below-masked : (u v : View) → below 16 (masked u) (masked v) ≡ below 16 u v
 unfolding below
 below-masked u v = ap₂ _&&_ (within-masked u v) (ap₂ ltb (size-masked u) (size-masked v))
 
-member-masked : (v : View) (k : ℕ) → k < 16 → member (masked v) k ≡ member v k
+pub member-masked : (v : View) (k : ℕ) → k < 16 → member (masked v) k ≡ member v k
 member-masked v k l = ap₂ (λ x y. x && not y) (bit-low (v .joined) k l) (bit-low (v .left) k l)
 
-count-masked : (v : View) → memberCount 16 (masked v) ≡ memberCount 16 v
+pub count-masked : (v : View) → memberCount 16 (masked v) ≡ memberCount 16 v
 unfolding memberCount
 count-masked v = count-cong 16 _ _ (member-masked v)
 
 pub members-in : (w : ℕ) → hasMembers 16 (viewIn w) ≡ hasMembers 16 (viewOf w)
 members-in w = ap (hasMembers 16) (view-in w) ∙ ap (leb 1) (count-masked (viewOf w))
-
-pub quorum-in : (w : ℕ) (q : ℕ → Bool) → quorumHas (viewIn w) q ≡ quorumHas (viewOf w) q
-unfolding quorumHas
-quorum-in w q = ap (λ v. quorumHas v q) (view-in w) ∙ of-masked (viewOf w)
-  where
-    of-masked : (v : View) → quorumHas (masked v) q ≡ quorumHas v q
-    of-masked v = ap₂ (λ n m. leb 1 n && leb (quorum n) m) (count-masked v) (count-cong 16 _ _ (λ k l. ap (λ b. b && q k) (member-masked v k l)))
 
 pub narrow-is : (w : ℕ) → viewOf (bitAnd w 281470681808895) ≡ viewIn w
 unfolding viewOf viewIn

@@ -4,5 +4,6 @@
 pub mod Held
 pub mod View
 pub mod Sets
+pub mod Tally
 -- ---- inside: what functions tell each other, and what loops keep
 pub mod Steps

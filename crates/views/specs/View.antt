@@ -1,12 +1,10 @@
--- Views in one word, and quorums of them.
+-- Views in one word.
 -- Assumes nothing.
-use mathlib.Core.Bool.{Bool}
 use mathlib.Core.List.{List}
 use Prim.Native.Nat.{ℕ, _+_, _*_, _/_, _%_}
 use lib.ListN.{getD}
 use Rattle.protocol.specs.Lists.{listOf}
 use Rattle.protocol.specs.View.{View, Ring}
-use Rattle.protocol.specs.Evidence.{hasQuorum}
 
 -- The view of a word: 32 bits of who joined, and above them 32 of who left.
 unfoldable pub viewOf : ℕ → View
@@ -27,10 +25,6 @@ viewsOf a n = listOf n (λ i. viewOf (getD a i 0))
 
 unfoldable pub viewsIn : List ℕ → ℕ → List View
 viewsIn a n = listOf n (λ i. viewIn (getD a i 0))
-
--- A quorum of t has q.
-unfoldable pub quorumHas : View → (ℕ → Bool) → Bool
-quorumHas t q = hasQuorum 16 t q
 
 -- The ring of sixteen controllers whose initial view is that of the word.
 abbrev pub ringOfWord : ℕ → Ring

@@ -11,10 +11,17 @@ ghost use Rattle.views.specs.View.{viewOf, viewIn};
 ghost use Rattle.views.specs.Held.{viewIs, heldAt, viewsIs};
 
 mod lists;
+mod tally;
 mod words;
 
 pub use lists::list_at;
 pub use lists::list_room;
+pub use tally::Count;
+pub use tally::is_complete;
+pub use tally::own_of;
+pub use tally::place_of;
+pub use tally::sign;
+pub use tally::unsigned;
 pub use words::below_view;
 pub use words::has_members;
 pub use words::high_half;
@@ -22,7 +29,6 @@ pub use words::low_half;
 pub use words::narrow;
 pub use words::note;
 pub use words::of_halves;
-pub use words::quorum_in;
 pub use words::size_view;
 pub use words::union;
 pub use words::within_view;

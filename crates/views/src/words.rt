@@ -1,10 +1,9 @@
 // Sets and views in one word. A set is a word of 32 bits; a view has who joined in the low 32 bits and who left in the high. Tests of views look at the controllers below the width alone.
 ghost use mathlib.Core.Path.{_≡_};
 ghost use Prim.Native.Nat.{_/_, _%_, _≤_};
-ghost use Rattle.protocol.specs.Sets.{bit};
 ghost use Rattle.protocol.specs.View.{hasMembers, within, below, size};
 ghost use Rattle.views.specs.Steps.{Noted, Joined};
-ghost use Rattle.views.specs.View.{viewOf, viewIn, quorumHas};
+ghost use Rattle.views.specs.View.{viewOf, viewIn};
 use crate::View;
 
 // The high half of a word counts by this.
@@ -66,17 +65,6 @@ pub fn has_members(v: u64) -> bool
     ensures { λ r. ⌜ r ≡ hasMembers 16 (viewOf v) ⌝ }
 {
     View::of_word(v).has_members()
-}
-
-// Whether a quorum of t is in `seen`.
-pub fn quorum_in(t: u64, seen: u32) -> bool
-    ensures { λ r. ⌜ r ≡ quorumHas (viewOf t) (bit seen) ⌝ }
-{
-    let v = View::of_word(t);
-    if !v.has_members() {
-        return false;
-    }
-    v.quorum() <= u32::count_ones(v.members() & seen)
 }
 
 // Whether u lies within v.

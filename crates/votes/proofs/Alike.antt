@@ -16,7 +16,7 @@ use Rattle.protocol.specs.View.{View}
 use Rattle.protocol.specs.History.{sameViews}
 use Rattle.protocol.specs.Lists.{if_then_else_, listOf}
 use Rattle.protocol.specs.Statement.{Stmt, payloadOf, isKind, agreesView, agreesHistory, acks, stores}
-use Rattle.protocol.proofs.Says.{Says, from-true, says-map, says-and, says-or, says-imp, says-eqb}
+use Rattle.protocol.proofs.Says.{Says, from-true, says-map, says-unique, says-and, says-or, says-imp, says-eqb}
 use Rattle.protocol.proofs.Bits.{Fits}
 use Rattle.protocol.proofs.Decided.{says-same, says-sames, says-kind}
 use Rattle.protocol.proofs.Numbered.{listOf-length}
@@ -165,7 +165,19 @@ alike-both p q = record {
 pub alike-turned : {a s : Stmt} → Alike a s → Alike s a
 alike-turned {a} p = alike-both p (alike-self a (p .vote))
 
+-- what is like one of two votes that are alike is like the other
+pub alike-same : {a s : Stmt} → Alike a s → alike a ≡ alike s
+alike-same {a} {s} al i x = says-unique (says-map (alike-both al) (alike-both (alike-turned al)) (says-alike a x)) (says-alike s x) i
+
 -- ---- the words of a vote
+
+-- the view of its word
+pub view-of-key : (v : View) → Fits 16 v → viewOf (keyOf v) ≡ v
+unfolding keyOf viewOf
+view-of-key v f i = record {
+  joined = (let p : (v .joined + v .left * 4294967296) % 4294967296 ≡ v .joined = omega (arith, f .joined, f .left) in p) i;
+  left = (let p : (v .joined + v .left * 4294967296) / 4294967296 % 4294967296 ≡ v .left = omega (arith, f .joined, f .left) in p) i;
+}
 
 -- a view of this width has one word
 word-inj : {u v : View} → Fits 16 u → Fits 16 v → keyOf u ≡ keyOf v → u ≡ v
@@ -191,7 +203,7 @@ pub what-payload : (s : Stmt) → (s .kind ≡ 3 → ⊥) → (s .kind ≡ 4 →
 unfolding whatOf
 what-payload s d e = rw (ne-eqb (s .kind) 3 d, ne-eqb (s .kind) 4 e)
 
-what-same : (a s : Stmt) → Alike a s → Vote a → whatOf a ≡ whatOf s
+pub what-same : (a s : Stmt) → Alike a s → Vote a → whatOf a ≡ whatOf s
 what-same a s al (inl (inl (inl k))) = what-view a k ∙ ap keyOf (sym (al .view k)) ∙ sym (what-view s (al .kind ∙ k))
 what-same a s al (inl (inl (inr k))) = what-history a k ∙ ap (mixFrom 0 0) (sym (al .views k)) ∙ sym (what-history s (al .kind ∙ k))
 what-same a s al (inl (inr k)) = what-payload a (λ q. omega arith) (λ q. omega arith) ∙ sym (al .acked k) ∙ sym (what-payload s (λ q. omega (arith, al .kind)) (λ q. omega (arith, al .kind)))
@@ -238,7 +250,7 @@ module _ (s : Stmt) where
       go (no m) q = absurd (omega arith)
 
 -- votes that are alike have one tag
-tag-same : (a s : Stmt) → Alike a s → tagBy a ≡ tagBy s
+pub tag-same : (a s : Stmt) → Alike a s → tagBy a ≡ tagBy s
 tag-same a s al = elim (decLt (a .kind) 7) [
   | yes l ↦ sym (tag-plain a l) ∙ sym (al .kind) ∙ tag-plain s (omega (arith, al .kind))
   | no l ↦ sym (tag-noticed a (omega arith)) ∙ ap₂ (λ k i. k + i * 256) (sym (al .kind)) (sym (al .notice (omega arith))) ∙ tag-noticed s (omega (arith, al .kind))

@@ -1,28 +1,28 @@
 -- Laws of the groups that go into the tables: the tests of one group, and one group more.
 -- Assumes nothing.
-use mathlib.Core.Path.{_≡_, refl, sym, ap, ap₂, subst, _∙_}
+use mathlib.Core.Path.{_≡_, sym, ap, ap₂, subst, _∙_}
 use mathlib.Core.Bool.{Bool, true, false, not, _&&_, or-false}
 use mathlib.Core.List.{List}
 use Prim.Native.Nat.{ℕ, _+_, _≤_, _<_}
 use native.Mathlib.Decide.{ℕ-discrete, decLt}
 use native.Mathlib.Omega.{arith}
-use lib.Dec.{T}
+use lib.Dec.{T, eqb}
 use lib.ListN.{getD}
 use borrow.Author.Tests.{eq-eqb, ne-eqb}
-use Rattle.protocol.specs.Sets.{bit}
 use Rattle.protocol.specs.Lists.{any}
 use Rattle.protocol.specs.View.{View, sameView, hasMembers, within, below}
 use Rattle.protocol.specs.History.{top, isHistory}
 use Rattle.protocol.specs.Statement.{Stmt, isKind, agreesView, agreesHistory}
-use Rattle.protocol.specs.Evidence.{signs, wished, signedByQuorum}
-use Rattle.views.specs.Sets.{IsSet}
-use Rattle.views.specs.View.{viewOf, quorumHas, ringOfWord}
-use Rattle.views.proofs.Views.{signed-by-set, same-yes, same-no, view-inj}
+use Rattle.protocol.specs.Evidence.{wished, signedByQuorum}
+use Rattle.views.specs.View.{viewOf, ringOfWord}
+use Rattle.views.specs.Tally.{placeIn, missingIn, ownIn}
+use Rattle.views.proofs.Tallies.{tally-says}
+use Rattle.views.proofs.Views.{same-yes, same-no, view-inj}
 use Rattle.pool.specs.Pool.{recordIn}
 use Rattle.tables.specs.Index.{keyAt, numberAt, SameRows, SameKeys, Empty, RowAdded}
 use Rattle.tables.proofs.Chains.{indexed-first, indexed-kept}
 use Rattle.protocol.proofs.Says.{from-true}
-use Rattle.votes.specs.Votes.{alike, entry, placeOf, tagBy, tagOf, signersOf, voteAt, GroupsIn}
+use Rattle.votes.specs.Votes.{alike, entry, tagBy, voteAt, GroupCounts, GroupsIn}
 use Rattle.votes.specs.Tables.{IsWord}
 use Rattle.votes.specs.Chosen.{choiceBy, agreementBy, isChoice, isAgreement, Picked, GroupRow, GroupRows}
 use Rattle.votes.proofs.Alike.{no-T, tag-low}
@@ -67,9 +67,6 @@ top-is r t u v e f g = ap not (same-yes u v (sym e ∙ ap viewOf (sym g) ∙ f))
 pub top-not : (r t : ℕ) (u v : View) → viewOf t ≡ u → viewOf r ≡ v → IsWord r → IsWord t → (r ≡ t → ⊥) → not (sameView u v) ≡ true
 top-not r t u v e f p q d = ap not (same-no u v (λ z. d (view-inj r t p q (f ∙ sym z ∙ sym e))))
 
-pub quorum-by : (b r : Bool) (t n m : ℕ) (u : View) → b ≡ quorumHas (viewOf t) (bit n) → b ≡ r → viewOf t ≡ u → n ≡ m → quorumHas u (bit m) ≡ r
-quorum-by b r t n m u e f g h = sym (ap₂ (λ x y. quorumHas x (bit y)) g h) ∙ sym e ∙ f
-
 -- ---- what is like a vote of each kind
 
 module _ (a x : Stmt) where
@@ -83,45 +80,45 @@ module _ (a x : Stmt) where
   alike-history k = rw (ne-eqb (a .kind) 3 (λ q. omega arith), eq-eqb (a .kind) 4 k, ne-eqb (a .kind) 7 (λ q. omega arith), ne-eqb (a .kind) 8 (λ q. omega arith))
       (or-false _ ∙ or-false _)
 
--- a quorum of t is among the signers of what is like a
-pub signed-as : (X : List Stmt) (a : Stmt) (t : View) (seen : ℕ) (p : Stmt → Bool) → IsSet seen (signs (alike a) X) → ((x : Stmt) → alike a x ≡ p x) → quorumHas t (bit seen) ≡ signedByQuorum 16 X t p
-signed-as X a t seen p s e = signed-by-set X t (alike a) seen _ s refl ∙ ap (signedByQuorum 16 X t) (λ i x. e x i)
+-- a group says whether a quorum signed what is like its vote
+pub signed-as : (X : List Stmt) (a : Stmt) (x : ℕ) (p : Stmt → Bool) → GroupCounts x a X → ((s : Stmt) → alike a s ≡ p s) → eqb (missingIn x) 0 ≡ signedByQuorum 16 X (a .at) p
+signed-as X a x p c e = sym (tally-says (a .at) (alike a) X x c) ∙ ap (signedByQuorum 16 X (a .at)) (λ i s. e s i)
 
 -- ---- the test of a group
 
-module _ (init : ℕ) (X : List Stmt) (s : Stmt) (seen : ℕ) (by : IsSet seen (signs (alike s) X)) where
-  pub choice-is : (wish : ℕ) (r : Bool) → viewOf wish ≡ wished (ringOfWord init) X → r ≡ choiceBy (viewOf wish) seen s → r ≡ isChoice (ringOfWord init) X s
+module _ (init : ℕ) (X : List Stmt) (s : Stmt) (x : ℕ) (by : GroupCounts x s X) where
+  pub choice-is : (wish : ℕ) (r : Bool) → viewOf wish ≡ wished (ringOfWord init) X → r ≡ choiceBy (viewOf wish) (eqb (missingIn x) 0) s → r ≡ isChoice (ringOfWord init) X s
   unfolding choiceBy isChoice
   choice-is wish r e f = f ∙ go (ℕ-discrete (s .kind) 3)
     where
-      go : Dec (s .kind ≡ 3) → choiceBy (viewOf wish) seen s ≡ isChoice (ringOfWord init) X s
-      go (yes k) = ap₂ (λ w b. isKind 3 s && below 16 (s .at) (s .view) && hasMembers 16 (s .view) && within 16 (s .view) w && b) e
-          (signed-as X s (s .at) seen (agreesView (s .at) (s .view)) by (λ x. alike-view s x k))
+      go : Dec (s .kind ≡ 3) → choiceBy (viewOf wish) (eqb (missingIn x) 0) s ≡ isChoice (ringOfWord init) X s
+      go (yes k) = ap₂ (λ w b. isKind 3 s && b && below 16 (s .at) (s .view) && hasMembers 16 (s .view) && within 16 (s .view) w) e
+          (signed-as X s x (agreesView (s .at) (s .view)) by (λ a. alike-view s a k))
       go (no k) = rw (other-kind s 3 k)
 
-  pub agreement-is : (r : Bool) → r ≡ agreementBy (ringOfWord init) seen s → r ≡ isAgreement (ringOfWord init) X s
+  pub agreement-is : (r : Bool) → r ≡ agreementBy (ringOfWord init) (eqb (missingIn x) 0) s → r ≡ isAgreement (ringOfWord init) X s
   unfolding agreementBy isAgreement
   agreement-is r f = f ∙ go (ℕ-discrete (s .kind) 4)
     where
-      go : Dec (s .kind ≡ 4) → agreementBy (ringOfWord init) seen s ≡ isAgreement (ringOfWord init) X s
+      go : Dec (s .kind ≡ 4) → agreementBy (ringOfWord init) (eqb (missingIn x) 0) s ≡ isAgreement (ringOfWord init) X s
       go (yes k) = ap (λ b. isKind 4 s && b && any (sameView (s .at)) (s .views) && not (sameView (s .at) (top (ringOfWord init) (s .views))) && isHistory (ringOfWord init) (s .views))
-          (signed-as X s (s .at) seen (agreesHistory (s .at) (s .views)) by (λ x. alike-history s x k))
+          (signed-as X s x (agreesHistory (s .at) (s .views)) by (λ a. alike-history s a k))
       go (no k) = rw (other-kind s 4 k)
 
 -- ---- the group g of a record, whose first vote stands at place f
 
-module _ (W ids : List ℕ) (init : ℕ) (G : List ℕ) {n : ℕ} (groups : GroupsIn W ids G n) {g f : ℕ} (l : g < n) (at : f ≡ placeOf (getD G g 0)) where
-  pub tag-is : tagOf (getD G g 0) ≡ tagBy (entry W ids f)
+module _ (W ids : List ℕ) (init : ℕ) (G : List ℕ) {n : ℕ} (groups : GroupsIn W ids G n) {g f : ℕ} (l : g < n) (at : f ≡ placeIn (getD G g 0)) where
+  pub tag-is : ownIn (getD G g 0) ≡ tagBy (entry W ids f)
   tag-is = groups .tag g l ∙ ap (λ z. tagBy (entry W ids z)) (sym at)
 
-  pub choice-of : (wish : ℕ) (r : Bool) → viewOf wish ≡ wished (ringOfWord init) (recordIn W ids) → r ≡ choiceBy (viewOf wish) (signersOf (getD G g 0)) (entry W ids f)
+  pub choice-of : (wish : ℕ) (r : Bool) → viewOf wish ≡ wished (ringOfWord init) (recordIn W ids) → r ≡ choiceBy (viewOf wish) (eqb (missingIn (getD G g 0)) 0) (entry W ids f)
       → r ≡ isChoice (ringOfWord init) (recordIn W ids) (voteAt W ids G g)
   choice-of wish r e q =
-      choice-is init (recordIn W ids) (voteAt W ids G g) (signersOf (getD G g 0)) (groups .signers g l) wish r e (q ∙ ap (λ z. choiceBy (viewOf wish) (signersOf (getD G g 0)) (entry W ids z)) at)
+      choice-is init (recordIn W ids) (voteAt W ids G g) (getD G g 0) (groups .counts g l) wish r e (q ∙ ap (λ z. choiceBy (viewOf wish) (eqb (missingIn (getD G g 0)) 0) (entry W ids z)) at)
 
-  pub agreement-of : (r : Bool) → r ≡ agreementBy (ringOfWord init) (signersOf (getD G g 0)) (entry W ids f) → r ≡ isAgreement (ringOfWord init) (recordIn W ids) (voteAt W ids G g)
+  pub agreement-of : (r : Bool) → r ≡ agreementBy (ringOfWord init) (eqb (missingIn (getD G g 0)) 0) (entry W ids f) → r ≡ isAgreement (ringOfWord init) (recordIn W ids) (voteAt W ids G g)
   agreement-of r q =
-      agreement-is init (recordIn W ids) (voteAt W ids G g) (signersOf (getD G g 0)) (groups .signers g l) r (q ∙ ap (λ z. agreementBy (ringOfWord init) (signersOf (getD G g 0)) (entry W ids z)) at)
+      agreement-is init (recordIn W ids) (voteAt W ids G g) (getD G g 0) (groups .counts g l) r (q ∙ ap (λ z. agreementBy (ringOfWord init) (eqb (missingIn (getD G g 0)) 0) (entry W ids z)) at)
 
 -- ---- one group more
 
@@ -170,7 +167,7 @@ row-keeps put l c g h r =
     record { view = rw e (r .view); word = rw e (r .word); statement = other-number put l h ∙ r .statement }
 
 -- the first vote of group g stands at place p
-row-new : {W ids G : List ℕ} {t : ℕ} {of : Stmt → View} {K R K′ R′ : List ℕ} {m w x g p : ℕ} → RowAdded K R t m w x K′ R′ → p ≡ placeOf (getD G g 0) → viewOf w ≡ of (entry W ids p) → IsWord w → x ≡ getD ids p 0
+row-new : {W ids G : List ℕ} {t : ℕ} {of : Stmt → View} {K R K′ R′ : List ℕ} {m w x g p : ℕ} → RowAdded K R t m w x K′ R′ → p ≡ placeIn (getD G g 0) → viewOf w ≡ of (entry W ids p) → IsWord w → x ≡ getD ids p 0
     → GroupRow W ids G t of K′ R′ m g
 row-new {W} {ids} {of = of} put at e h q = record { view = ap viewOf (put .key) ∙ e ∙ ap (λ z. of (entry W ids z)) at; word = rw (put .key) h; statement = put .number ∙ q ∙ ap (λ z. getD ids z 0) at }
 
@@ -182,7 +179,7 @@ module _ {W ids G : List ℕ} {t : ℕ} {of : Stmt → View} {test : Stmt → Bo
     pub rows-skip : r ≡ false → GroupRows W ids G t of test g K R m → GroupRows W ids G t of test (g + 1) K R m
     rows-skip f w = record { index = w .index; picked = picked-skip _ r is f (w .picked) }
 
-    pub rows-take : {K′ R′ : List ℕ} {p w x : ℕ} → r ≡ true → m < 512 → RowAdded K R t m w x K′ R′ → p ≡ placeOf (getD G g 0) → viewOf w ≡ of (entry W ids p) → IsWord w → x ≡ getD ids p 0
+    pub rows-take : {K′ R′ : List ℕ} {p w x : ℕ} → r ≡ true → m < 512 → RowAdded K R t m w x K′ R′ → p ≡ placeIn (getD G g 0) → viewOf w ≡ of (entry W ids p) → IsWord w → x ≡ getD ids p 0
         → GroupRows W ids G t of test g K R m → GroupRows W ids G t of test (g + 1) K′ R′ (m + 1)
     rows-take f l put at e h q w = record { index = put .indexed (w .index); picked = picked-take _ r is f (row-keeps put l) (row-new put at e h q) (w .picked) }
 

@@ -13,7 +13,8 @@ use Rattle.protocol.proofs.Rules.{and-first, and-second}
 use Rattle.pool.specs.Pool.{stmtAt}
 use Rattle.tables.specs.Index.{newestAt, olderAt, keyAt, Newest, Chained, LatestOf}
 use Rattle.votes.specs.declared.keys.Vote.{Vote}
-use Rattle.votes.specs.Votes.{alike, entry, placeOf, tagOf, voteAt}
+use Rattle.views.specs.Tally.{placeIn, ownIn}
+use Rattle.votes.specs.Votes.{alike, entry, voteAt}
 use Rattle.votes.specs.Keys.{sameNames, slotBy, groupSlot, Key, Worded, hasWords, Leads, Matches, Place}
 use Rattle.votes.proofs.Alike.{narrow, Words, other-what, other-at, other-tag, other-names, other-slot, same-words}
 
@@ -28,9 +29,9 @@ pub record Searched (W ids K G : List ℕ) (n : ℕ) (v : Vote) (x : ℕ) : Type
 pub record SameWords (K G : List ℕ) (v : Vote) (g : ℕ) : Type 0 where
   pub what : keyAt K 1 g ≡ v .what
   pub at : keyAt K 0 g ≡ v .at
-  pub tag : tagOf (getD G g 0) ≡ v .tag
+  pub tag : ownIn (getD G g 0) ≡ v .tag
 
-words-has : (K G : List ℕ) (v : Vote) (g : ℕ) → keyAt K 1 g ≡ v .what → keyAt K 0 g ≡ v .at → tagOf (getD G g 0) ≡ v .tag → hasWords K G v g ≡ true
+words-has : (K G : List ℕ) (v : Vote) (g : ℕ) → keyAt K 1 g ≡ v .what → keyAt K 0 g ≡ v .at → ownIn (getD G g 0) ≡ v .tag → hasWords K G v g ≡ true
 unfolding hasWords
 words-has K G v g a b c = rw (eq-eqb _ _ a, eq-eqb _ _ b, eq-eqb _ _ c)
 
@@ -40,7 +41,7 @@ words-are K G v g h =
     let t : T (hasWords K G v g) = subst T (sym h) tt in
     let what : T (eqb (keyAt K 1 g) (v .what)) = search (and-first, and-second) in
     let at : T (eqb (keyAt K 0 g) (v .at)) = search (and-first, and-second) in
-    let tag : T (eqb (tagOf (getD G g 0)) (v .tag)) = search (and-first, and-second) in
+    let tag : T (eqb (ownIn (getD G g 0)) (v .tag)) = search (and-first, and-second) in
     record { what = eqb→eq _ _ what; at = eqb→eq _ _ at; tag = eqb→eq _ _ tag }
 
 -- what `has_words` answers
@@ -53,7 +54,7 @@ module _ (K G : List ℕ) (v : Vote) (g : ℕ) where
   unfolding hasWords
   other-at-is {x} {y} e a f d = rw (sym e, sym f, eq-eqb x (v .what) a, ne-eqb y (v .at) d)
 
-  pub tag-is : {x y z : ℕ} → x ≡ keyAt K 1 g → x ≡ v .what → y ≡ keyAt K 0 g → y ≡ v .at → z ≡ tagOf (getD G g 0) → eqb z (v .tag) ≡ hasWords K G v g
+  pub tag-is : {x y z : ℕ} → x ≡ keyAt K 1 g → x ≡ v .what → y ≡ keyAt K 0 g → y ≡ v .at → z ≡ ownIn (getD G g 0) → eqb z (v .tag) ≡ hasWords K G v g
   unfolding hasWords
   tag-is {x} {y} e a f b h = rw (sym e, sym f, sym h, eq-eqb x (v .what) a, eq-eqb y (v .at) b)
 
@@ -63,14 +64,14 @@ unfolding groupSlot
 with-slot K G v g h = let s = words-are K G v g h in rw (s .at, s .what, s .tag)
 
 module _ {W ids K G : List ℕ} {n : ℕ} {v : Vote} (worded : Worded W ids K G n) (key : Key W v) where
-  words : (g : ℕ) → g < n → Words (voteAt W ids G g) (stmtAt W (v .number)) (keyAt K 0 g) (v .at) (keyAt K 1 g) (v .what) (tagOf (getD G g 0)) (v .tag)
+  words : (g : ℕ) → g < n → Words (voteAt W ids G g) (stmtAt W (v .number)) (keyAt K 0 g) (v .at) (keyAt K 1 g) (v .what) (ownIn (getD G g 0)) (v .tag)
   words g l = record { at = worded .at g l; at-other = key .at; what = worded .what g l; what-other = key .what; tag = worded .tag g l; tag-other = key .tag }
 
   -- a group with other words
   pub other-words : (g : ℕ) → g < n → (hasWords K G v g ≡ true → ⊥) → alike (voteAt W ids G g) (stmtAt W (v .number)) ≡ false
-  other-words g l d = go (ℕ-discrete (keyAt K 1 g) (v .what)) (ℕ-discrete (keyAt K 0 g) (v .at)) (ℕ-discrete (tagOf (getD G g 0)) (v .tag))
+  other-words g l d = go (ℕ-discrete (keyAt K 1 g) (v .what)) (ℕ-discrete (keyAt K 0 g) (v .at)) (ℕ-discrete (ownIn (getD G g 0)) (v .tag))
     where
-      go : Dec (keyAt K 1 g ≡ v .what) → Dec (keyAt K 0 g ≡ v .at) → Dec (tagOf (getD G g 0) ≡ v .tag) → alike (voteAt W ids G g) (stmtAt W (v .number)) ≡ false
+      go : Dec (keyAt K 1 g ≡ v .what) → Dec (keyAt K 0 g ≡ v .at) → Dec (ownIn (getD G g 0) ≡ v .tag) → alike (voteAt W ids G g) (stmtAt W (v .number)) ≡ false
       go (no a) _ _ = other-what (voteAt W ids G g) (stmtAt W (v .number)) _ (v .what) (worded .what g l) (key .what) a
       go (yes a) (no b) _ = other-at (voteAt W ids G g) (stmtAt W (v .number)) _ (v .at) (worded .at g l) (key .at) b
       go (yes a) (yes b) (no c) = other-tag (voteAt W ids G g) (stmtAt W (v .number)) _ (v .tag) (worded .tag g l) (key .tag) c
@@ -78,10 +79,10 @@ module _ {W ids K G : List ℕ} {n : ℕ} {v : Vote} (worded : Worded W ids K G 
 
   -- a group with the same words, whose first vote stands at place f of the record
 
-  pub not-names : (g : ℕ) {f : ℕ} (b : Bool) → f ≡ placeOf (getD G g 0) → b ≡ sameNames (entry W ids f) (stmtAt W (v .number)) → b ≡ false → alike (voteAt W ids G g) (stmtAt W (v .number)) ≡ false
+  pub not-names : (g : ℕ) {f : ℕ} (b : Bool) → f ≡ placeIn (getD G g 0) → b ≡ sameNames (entry W ids f) (stmtAt W (v .number)) → b ≡ false → alike (voteAt W ids G g) (stmtAt W (v .number)) ≡ false
   not-names g b q e d = other-names (voteAt W ids G g) (stmtAt W (v .number)) b (e ∙ ap (λ z. sameNames (entry W ids z) (stmtAt W (v .number))) q) d
 
-  pub found-at : (g : ℕ) {f : ℕ} (b : Bool) → g < n → hasWords K G v g ≡ true → f ≡ placeOf (getD G g 0) → b ≡ sameNames (entry W ids f) (stmtAt W (v .number)) → b ≡ true → Place W ids G n (v .number) g
+  pub found-at : (g : ℕ) {f : ℕ} (b : Bool) → g < n → hasWords K G v g ≡ true → f ≡ placeIn (getD G g 0) → b ≡ sameNames (entry W ids f) (stmtAt W (v .number)) → b ≡ true → Place W ids G n (v .number) g
   found-at g b l h q k t = record {
     most = omega arith;
     none = λ p. absurd (omega arith);

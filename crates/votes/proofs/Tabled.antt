@@ -25,7 +25,8 @@ use Rattle.views.proofs.Views.{view-inj, view-whole}
 use Rattle.pool.specs.Pool.{stmtAt, recordUpTo, recordLen, recordIn}
 use Rattle.pool.proofs.Laws.{view-fits}
 use Rattle.tables.specs.Index.{keyAt}
-use Rattle.votes.specs.Votes.{isVote, entry, placeOf, voteAt, GroupsIn}
+use Rattle.views.specs.Tally.{placeIn}
+use Rattle.votes.specs.Votes.{isVote, entry, voteAt, GroupsIn}
 use Rattle.votes.specs.Tables.{IsWord, upTo, choiceAt, agreementAt, gives, sealsAt, ends, sealsAs, Tables}
 use Rattle.votes.specs.Chosen.{isChoice, isAgreement, Choices, Agreements}
 use Rattle.votes.proofs.Alike.{Alike, says-vote, says-alike}
@@ -54,19 +55,19 @@ says-record says W ids len = says-listOf says (λ i. stmtAt W (getD ids i 0)) (m
 module _ (R : Ring) (X : List Stmt) where
   -- s chooses x
   abbrev Choice : Stmt → View → Type 0
-  Choice s x = ((((s .kind ≡ 3) × T (below 16 (s .at) x)) × T (hasMembers 16 x)) × T (within 16 x (wished R X))) × T (signedByQuorum 16 X (s .at) (agreesView (s .at) x))
+  Choice s x = ((((s .kind ≡ 3) × T (signedByQuorum 16 X (s .at) (agreesView (s .at) x))) × T (below 16 (s .at) x)) × T (hasMembers 16 x)) × T (within 16 x (wished R X))
 
   says-choice : (s : Stmt) (x : View) → s .view ≡ x → Says (isChoice R X s) (Choice s x)
   unfolding isChoice isKind
   says-choice s x e = rw e
-      (says-and (says-and (says-and (says-and (says-kind 3 s) (says-self (below 16 (s .at) x))) (says-self (hasMembers 16 x))) (says-self (within 16 x (wished R X))))
-      (says-self (signedByQuorum 16 X (s .at) (agreesView (s .at) x))))
+      (says-and (says-and (says-and (says-and (says-kind 3 s) (says-self (signedByQuorum 16 X (s .at) (agreesView (s .at) x)))) (says-self (below 16 (s .at) x))) (says-self (hasMembers 16 x)))
+      (says-self (within 16 x (wished R X))))
 
   choice-like : (a s : Stmt) → Alike a s → T (isChoice R X s) → T (isChoice R X a)
   choice-like a s al t =
-      let ((((k, b), m), w), q) = says-choice s (s .view) refl .sound t in
+      let ((((k, q), b), m), w) = says-choice s (s .view) refl .sound t in
       says-choice a (s .view) (sym (al .view (sym (al .kind) ∙ k))) .complete
-      ((((sym (al .kind) ∙ k, rw (sym (al .at)) b), m), w), rw (sym (al .at)) q)
+      ((((sym (al .kind) ∙ k, rw (sym (al .at)) q), rw (sym (al .at)) b), m), w)
 
   -- s agrees to H
   abbrev Agreement : Stmt → List View → Type 0
@@ -109,7 +110,7 @@ module _ (W ids : List ℕ) (init : ℕ) (G : List ℕ) (n : ℕ) (groups : Grou
       choice : T (isChoice (ringOfWord init) X (entry W ids i))
 
     row-chose : (c : ℕ) → c < choiceCount → (i : ℕ) × Chose c i
-    row-chose c l = let (g, m, t, w) = rows .picked .sound c l in (placeOf (getD G g 0), record { here = groups .place g m; at = ap (λ z. stmtAt W z .at) (w .statement); view = w .view; small = w .word; choice = t })
+    row-chose c l = let (g, m, t, w) = rows .picked .sound c l in (placeIn (getD G g 0), record { here = groups .place g m; at = ap (λ z. stmtAt W z .at) (w .statement); view = w .view; small = w .word; choice = t })
 
     chose-row : (i : ℕ) → i < recordLen ids → T (isChoice (ringOfWord init) X (entry W ids i)) → (c : ℕ) × (c < choiceCount) × Chose c i
     chose-row i l t =
@@ -144,7 +145,7 @@ module _ (W ids : List ℕ) (init : ℕ) (G : List ℕ) (n : ℕ) (groups : Grou
         to : (viewOf v ≡ viewOf init) ⊎ Shows (viewOf v) → (v ≡ init) ⊎ Given v
         to (inl e) = inl (view-inj v init l small e)
         to (inr ((m, w), (i, h, ((((k, e), b), q), t)))) =
-            let (c, o, r) = chose-row i h (says-choice (ringOfWord init) X (entry W ids i) (viewOf v) e .complete ((((k, b), m), w), q)) in
+            let (c, o, r) = chose-row i h (says-choice (ringOfWord init) X (entry W ids i) (viewOf v) e .complete ((((k, q), b), m), w)) in
             inr (c, o, (view-inj (keyAt K 0 c) v (r .small) l (r .view ∙ e), rw (r .at) t))
 
         from : (v ≡ init) ⊎ Given v → (viewOf v ≡ viewOf init) ⊎ Shows (viewOf v)
@@ -152,7 +153,7 @@ module _ (W ids : List ℕ) (init : ℕ) (G : List ℕ) (n : ℕ) (groups : Grou
         from (inr (c, o, (e, t))) =
             let (i, r) = row-chose c o in
             let f : entry W ids i .view ≡ viewOf v = sym (r .view) ∙ ap viewOf e in
-            let ((((k, b), m), w), q) = says-choice (ringOfWord init) X (entry W ids i) (viewOf v) f .sound (r .choice) in
+            let ((((k, q), b), m), w) = says-choice (ringOfWord init) X (entry W ids i) (viewOf v) f .sound (r .choice) in
             inr ((m, w), (i, r .here, ((((k, f), b), q), rw (r .at) at t)))
 
     choices-narrow : (c : ℕ) → c < choiceCount → viewIn (keyAt K 0 c) ≡ viewOf (keyAt K 0 c)
@@ -161,7 +162,7 @@ module _ (W ids : List ℕ) (init : ℕ) (G : List ℕ) (n : ℕ) (groups : Grou
     choices-rise : (c : ℕ) → c < choiceCount → size 16 (choiceAt W R c .at) < size 16 (viewOf (keyAt K 0 c))
     choices-rise c l =
         let (i, r) = row-chose c l in
-        let ((((k, b), m), w), q) = says-choice (ringOfWord init) X (entry W ids i) (entry W ids i .view) refl .sound (r .choice) in
+        let ((((k, q), b), m), w) = says-choice (ringOfWord init) X (entry W ids i) (entry W ids i .view) refl .sound (r .choice) in
         omega (arith, says-below .sound b .less, ap (size 16) (r .at), ap (size 16) (r .view))
 
   -- ---- agreements
@@ -179,7 +180,7 @@ module _ (W ids : List ℕ) (init : ℕ) (G : List ℕ) (n : ℕ) (groups : Grou
     row-agrees : (a : ℕ) → a < agreementCount → (i : ℕ) × Agrees a i
     row-agrees a l =
         let (g, m, t, w) = rows .picked .sound a l in
-        (placeOf (getD G g 0), record { here = groups .place g m; at = ap (λ z. stmtAt W z .at) (w .statement); top = w .view; small = w .word; names = ap (λ z. stmtAt W z .views) (w .statement); agreement = t })
+        (placeIn (getD G g 0), record { here = groups .place g m; at = ap (λ z. stmtAt W z .at) (w .statement); top = w .view; small = w .word; names = ap (λ z. stmtAt W z .views) (w .statement); agreement = t })
 
     agrees-row : (i : ℕ) → i < recordLen ids → T (isAgreement (ringOfWord init) X (entry W ids i)) → (a : ℕ) × (a < agreementCount) × Agrees a i
     agrees-row i l t =

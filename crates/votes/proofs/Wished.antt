@@ -1,13 +1,13 @@
 -- Laws of the wished view: it is put together from the sets of those who join and leave.
 -- Assumes nothing.
 use mathlib.Core.Path.{_≡_, sym, ap, ap₂, subst, _∙_}
-use mathlib.Core.Bool.{true, _&&_, _||_}
+use mathlib.Core.Bool.{_&&_, _||_}
 use mathlib.Core.List.{List}
 use Prim.Native.Nat.{ℕ, _%_, _<_}
 use native.Mathlib.Omega.{arith}
 use lib.Dec.{eqb}
 use lib.Bits.{bitAnd, and-lt}
-use borrow.Author.Tests.{eq-eqb, ne-eqb}
+use borrow.Author.Tests.{ne-eqb}
 use Rattle.protocol.specs.Sets.{bit}
 use Rattle.protocol.specs.View.{View}
 use Rattle.protocol.specs.Statement.{Stmt, isKind}
@@ -60,11 +60,14 @@ module _ (init : ℕ) (X : List Stmt) where
         low : (x : ℕ) → x < 65536 → x % 65536 ≡ x
         low x h = omega arith
 
--- one statement more, and whether it is of this kind
-pub kind-noted : (s : Stmt) (k kind seen o r : ℕ) → k ≡ s .kind → k ≡ kind → o ≡ s .origin → Noted seen true o r → Noted seen (isKind kind s) (s .origin) r
-unfolding isKind
-kind-noted s k kind seen o r e f g n = subst (λ b. Noted seen b (s .origin) r) (sym (eq-eqb (s .kind) kind (sym e ∙ f))) (subst (λ x. Noted seen true x r) g n)
+-- ---- one statement more
 
-pub kind-passed : (s : Stmt) (k kind seen : ℕ) → k ≡ s .kind → (k ≡ kind → ⊥) → Noted seen (isKind kind s) (s .origin) seen
+-- whether it is of this kind, in a half of those who asked before and of those who asked then
+pub kind-noted : (s : Stmt) (k kind o half seen r noted : ℕ) → k ≡ s .kind → o ≡ s .origin → half ≡ seen → r ≡ noted → Noted half (eqb k kind) o noted → Noted seen (isKind kind s) (s .origin) r
 unfolding isKind
-kind-passed s k kind seen e d = note-none seen (s .origin) (eqb (s .kind) kind) (ne-eqb (s .kind) kind (λ q. d (e ∙ q)))
+kind-noted s k kind o half seen r noted e f g h n = subst (Noted seen (eqb (s .kind) kind) (s .origin)) (sym h) (subst (λ x. Noted x (eqb (s .kind) kind) (s .origin) noted) g (subst (λ x. Noted half (eqb (s .kind) kind) x noted) f (subst (λ x. Noted half (eqb x kind) o noted) e n)))
+
+-- it is of a kind by which nobody asks
+pub kind-passed : (s : Stmt) (k kind seen : ℕ) → k ≡ s .kind → kind < k → Noted seen (isKind kind s) (s .origin) seen
+unfolding isKind
+kind-passed s k kind seen e l = note-none seen (s .origin) (eqb (s .kind) kind) (ne-eqb (s .kind) kind (λ q. omega arith))

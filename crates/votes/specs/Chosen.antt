@@ -6,30 +6,30 @@ use mathlib.Core.List.{List}
 use Prim.Native.Nat.{ℕ, _≤_, _<_}
 use lib.Dec.{T}
 use lib.ListN.{getD}
-use Rattle.protocol.specs.Sets.{bit}
 use Rattle.protocol.specs.Lists.{any}
 use Rattle.protocol.specs.View.{View, Ring, sameView, hasMembers, within, below}
 use Rattle.protocol.specs.History.{top, isHistory}
 use Rattle.protocol.specs.Statement.{Stmt, isKind, agreesView, agreesHistory}
 use Rattle.protocol.specs.Evidence.{wished, signedByQuorum}
-use Rattle.views.specs.View.{viewOf, quorumHas, ringOfWord}
+use Rattle.views.specs.View.{viewOf, ringOfWord}
+use Rattle.views.specs.Tally.{placeIn}
 use Rattle.pool.specs.Pool.{recordIn}
 use Rattle.tables.specs.Index.{numberAt, keyAt, Indexed}
-use Rattle.votes.specs.Votes.{placeOf, voteAt}
+use Rattle.votes.specs.Votes.{voteAt}
 use Rattle.votes.specs.Tables.{IsWord}
 
--- s is an agree-view that `seen` signed: a quorum of its at chose a view above it that has members and lies within w.
-unfoldable pub choiceBy : View → ℕ → Stmt → Bool
-choiceBy w seen s = isKind 3 s && below 16 (s .at) (s .view) && hasMembers 16 (s .view) && within 16 (s .view) w && quorumHas (s .at) (bit seen)
+-- s is an agree-view, and `complete` says whether a quorum of its at signed it: it chose a view above it that has members and lies within w.
+unfoldable pub choiceBy : View → Bool → Stmt → Bool
+choiceBy w complete s = isKind 3 s && complete && below 16 (s .at) (s .view) && hasMembers 16 (s .view) && within 16 (s .view) w
 
--- s is an agree-history that `seen` signed: a quorum of its at agreed to a history that holds it, not as its top.
-unfoldable pub agreementBy : Ring → ℕ → Stmt → Bool
-agreementBy R seen s = isKind 4 s && quorumHas (s .at) (bit seen) && any (sameView (s .at)) (s .views) && not (sameView (s .at) (top R (s .views))) && isHistory R (s .views)
+-- s is an agree-history, and `complete` says the same: it agreed to a history that holds it, not as its top.
+unfoldable pub agreementBy : Ring → Bool → Stmt → Bool
+agreementBy R complete s = isKind 4 s && complete && any (sameView (s .at)) (s .views) && not (sameView (s .at) (top R (s .views))) && isHistory R (s .views)
 
 -- The same by the statements of X.
 module _ (R : Ring) (X : List Stmt) where
   unfoldable pub isChoice : Stmt → Bool
-  isChoice s = isKind 3 s && below 16 (s .at) (s .view) && hasMembers 16 (s .view) && within 16 (s .view) (wished R X) && signedByQuorum 16 X (s .at) (agreesView (s .at) (s .view))
+  isChoice s = isKind 3 s && signedByQuorum 16 X (s .at) (agreesView (s .at) (s .view)) && below 16 (s .at) (s .view) && hasMembers 16 (s .view) && within 16 (s .view) (wished R X)
 
   unfoldable pub isAgreement : Stmt → Bool
   isAgreement s =
@@ -47,7 +47,7 @@ module _ (W ids G : List ℕ) (t : ℕ) (of : Stmt → View) where
   pub record GroupRow (K R : List ℕ) (c g : ℕ) : Type 0 where
     pub view : viewOf (keyAt K t c) ≡ of (voteAt W ids G g)
     pub word : IsWord (keyAt K t c)
-    pub statement : numberAt R t c ≡ getD ids (placeOf (getD G g 0)) 0
+    pub statement : numberAt R t c ≡ getD ids (placeIn (getD G g 0)) 0
 
   -- Those of the groups below n whose votes have `test` are the m rows of table t.
   pub record GroupRows (test : Stmt → Bool) (n : ℕ) (K R : List ℕ) (m : ℕ) : Type 0 where

@@ -14,7 +14,8 @@ use Rattle.views.specs.View.{wordOf}
 use Rattle.pool.specs.Pool.{stmtAt}
 use Rattle.tables.specs.Index.{keyAt, Chained, Empty}
 use Rattle.votes.specs.declared.keys.Vote.{Vote}
-use Rattle.votes.specs.Votes.{isVote, alike, tagBy, tagOf, placeOf, voteAt, Groups}
+use Rattle.views.specs.Tally.{placeIn, ownIn}
+use Rattle.votes.specs.Votes.{isVote, alike, tagBy, voteAt, Groups}
 
 -- The word of a view.
 unfoldable pub keyOf : View → ℕ
@@ -47,17 +48,17 @@ pub record Key (W : List ℕ) (v : Vote) : Type 0 where
   pub what : v .what ≡ whatOf (stmtAt W (v .number))
   pub tag : v .tag ≡ tagBy (stmtAt W (v .number))
 
--- The groups G have the words of their first votes in K, but for the tag, which is in G.
+-- The groups G have the words of their votes in K, but for the tag, which is in G.
 pub record Worded (W ids K G : List ℕ) (n : ℕ) : Type 0 where
-  pub place : (g : ℕ) → g < n → placeOf (getD G g 0) < 512
+  pub place : (g : ℕ) → g < n → placeIn (getD G g 0) < 512
   pub vote : (g : ℕ) → g < n → T (isVote (voteAt W ids G g))
-  pub tag : (g : ℕ) → g < n → tagOf (getD G g 0) ≡ tagBy (voteAt W ids G g)
+  pub tag : (g : ℕ) → g < n → ownIn (getD G g 0) ≡ tagBy (voteAt W ids G g)
   pub at : (g : ℕ) → g < n → keyAt K 0 g ≡ keyOf (voteAt W ids G g .at)
   pub what : (g : ℕ) → g < n → keyAt K 1 g ≡ whatOf (voteAt W ids G g)
 
 -- Whether group g has the words of the vote v.
 unfoldable pub hasWords : List ℕ → List ℕ → Vote → ℕ → Bool
-hasWords K G v g = eqb (keyAt K 1 g) (v .what) && eqb (keyAt K 0 g) (v .at) && eqb (tagOf (getD G g 0)) (v .tag)
+hasWords K G v g = eqb (keyAt K 1 g) (v .what) && eqb (keyAt K 0 g) (v .at) && eqb (ownIn (getD G g 0)) (v .tag)
 
 -- Group g has them.
 abbrev pub Matches : List ℕ → List ℕ → Vote → ℕ → Type 0
@@ -75,7 +76,7 @@ slotBy at what tag = ((folded at + tag % 65536) * 1640531527 + folded what * 668
 
 -- The slot of group g.
 unfoldable pub groupSlot : List ℕ → List ℕ → ℕ → ℕ
-groupSlot K G g = slotBy (keyAt K 0 g) (keyAt K 1 g) (tagOf (getD G g 0))
+groupSlot K G g = slotBy (keyAt K 0 g) (keyAt K 1 g) (ownIn (getD G g 0))
 
 -- The index of the first table leads on from `from`, a group of the slot of v plus one or 0.
 pub record Leads (K R G : List ℕ) (v : Vote) (from : ℕ) : Type 0 where

@@ -3,13 +3,13 @@
 use mathlib.Core.Path.{_≡_}
 use mathlib.Core.Bool.{Bool, _&&_, _||_}
 use mathlib.Core.List.{List}
-use Prim.Native.Nat.{ℕ, _+_, _*_, _/_, _%_, _≤_, _<_, min}
+use Prim.Native.Nat.{ℕ, _+_, _*_, _≤_, _<_, min}
 use lib.Dec.{T, leb}
 use lib.ListN.{getD}
 use Rattle.protocol.specs.Lists.{if_then_else_}
 use Rattle.protocol.specs.Statement.{Stmt, payloadOf, isKind, agreesView, agreesHistory, acks, stores}
-use Rattle.protocol.specs.Evidence.{signs, wished}
-use Rattle.views.specs.Sets.{IsSet}
+use Rattle.protocol.specs.Evidence.{wished}
+use Rattle.views.specs.Tally.{placeIn, ownIn, TallyOf}
 use Rattle.views.specs.View.{viewOf, ringOfWord}
 use Rattle.pool.specs.Pool.{stmtAt, recordUpTo, recordIn}
 use Rattle.tables.specs.Index.{Empty}
@@ -37,28 +37,23 @@ tagBy s = s .kind + noticeOf s * 256
 abbrev pub entry : List ℕ → List ℕ → ℕ → Stmt
 entry W ids i = stmtAt W (getD ids i 0)
 
--- A group is a word: 16 bits are the place of its first vote in the record, the next 16 the tag of its votes, and the high 32 the set of those who signed it.
+-- A group is a word: the tally of its votes (crates/views/specs/Tally.antt), whose owner's bits are their tag. It stands for the vote at its place, the last that was counted.
 
-unfoldable pub placeOf : ℕ → ℕ
-placeOf x = x % 65536
-
-unfoldable pub tagOf : ℕ → ℕ
-tagOf x = x / 65536 % 65536
-
-unfoldable pub signersOf : ℕ → ℕ
-signersOf x = x / 4294967296
-
--- The first vote of group g.
+-- The vote that group g stands for.
 abbrev pub voteAt : List ℕ → List ℕ → List ℕ → ℕ → Stmt
-voteAt W ids G g = entry W ids (placeOf (getD G g 0))
+voteAt W ids G g = entry W ids (placeIn (getD G g 0))
+
+-- The group x of the votes like a has the count of those in X: who is missing for a quorum, or after how many statements it was complete.
+abbrev pub GroupCounts : ℕ → Stmt → List Stmt → Type 0
+GroupCounts x a X = TallyOf (a .at) (alike a) X x
 
 -- The votes of the first len entries are in the n groups of G.
 pub record Groups (W ids : List ℕ) (len : ℕ) (G : List ℕ) (n : ℕ) : Type 0 where
   pub most : n ≤ 512
-  pub place : (g : ℕ) → g < n → placeOf (getD G g 0) < min len 512
+  pub place : (g : ℕ) → g < n → placeIn (getD G g 0) < min len 512
   pub vote : (g : ℕ) → g < n → T (isVote (voteAt W ids G g))
-  pub tag : (g : ℕ) → g < n → tagOf (getD G g 0) ≡ tagBy (voteAt W ids G g)
-  pub signers : (g : ℕ) → g < n → IsSet (signersOf (getD G g 0)) (signs (alike (voteAt W ids G g)) (recordUpTo W ids len))
+  pub tag : (g : ℕ) → g < n → ownIn (getD G g 0) ≡ tagBy (voteAt W ids G g)
+  pub counts : (g : ℕ) → g < n → GroupCounts (getD G g 0) (voteAt W ids G g) (recordUpTo W ids len)
   pub covers : (i : ℕ) → i < min len 512 → T (isVote (entry W ids i)) → (g : ℕ) × (g < n) × T (alike (voteAt W ids G g) (entry W ids i))
 
 -- The votes of a record in memory are in the n groups of G.

@@ -1,9 +1,11 @@
 // What quorums chose and agreed to.
 ghost use mathlib.Core.Path.{_≡_};
+ghost use lib.Dec.{eqb};
 ghost use Rattle.views.specs.View.{viewOf, ringOfWord};
+ghost use Rattle.views.specs.Tally.{missingIn, ownIn};
 ghost use Rattle.pool.specs.Pool.{stmtAt, recordIn};
 ghost use Rattle.tables.specs.Index.{SameRows, SameKeys};
-ghost use Rattle.votes.specs.Votes.{tagBy, tagOf, signersOf, GatheredOf};
+ghost use Rattle.votes.specs.Votes.{tagBy, GatheredOf};
 ghost use Rattle.votes.specs.Tables.{Tables};
 ghost use Rattle.votes.specs.Chosen.{choiceBy, agreementBy, Choices, Agreements};
 use crate::AGREEMENTS;
@@ -11,18 +13,20 @@ use crate::CHOICES;
 use crate::Counts;
 use crate::GROUPS;
 use crate::Gathered;
-use crate::group;
 use pool::POOL_WORDS;
 use pool::RECORD;
 use tables::KEYS;
 use tables::ROWS;
 
-// Whether the group x, whose first vote is statement s, is a choice within the wished view.
+// Whether the group x, which stands for statement s, is a choice within the wished view.
 fn is_choice(words: &[u64; POOL_WORDS], s: u16, x: u64, wish: u64) -> bool
-    requires { ⌜ tagOf x ≡ tagBy (stmtAt (now words) s) ⌝ }
-    ensures { λ r. ⌜ r ≡ choiceBy (viewOf wish) (signersOf x) (stmtAt (now (words .entry)) s) ⌝ }
+    requires { ⌜ ownIn x ≡ tagBy (stmtAt (now words) s) ⌝ }
+    ensures { λ r. ⌜ r ≡ choiceBy (viewOf wish) (eqb (missingIn x) 0) (stmtAt (now (words .entry)) s) ⌝ }
 {
-    if group::tag_of(x) != 3 {
+    if views::own_of(x) != 3 {
+        return false;
+    }
+    if !views::is_complete(x) {
         return false;
     }
     let t = pool::at(words, s);
@@ -33,24 +37,21 @@ fn is_choice(words: &[u64; POOL_WORDS], s: u16, x: u64, wish: u64) -> bool
     if !views::has_members(v) {
         return false;
     }
-    if !views::within_view(v, wish) {
-        return false;
-    }
-    views::quorum_in(t, group::signers_of(x))
+    views::within_view(v, wish)
 }
 
-// Whether the group x, whose first vote is statement s, is an agreement.
+// Whether the group x, which stands for statement s, is an agreement.
 fn is_agreement(words: &[u64; POOL_WORDS], s: u16, x: u64, init: u64) -> bool
-    requires { ⌜ tagOf x ≡ tagBy (stmtAt (now words) s) ⌝ }
-    ensures { λ r. ⌜ r ≡ agreementBy (ringOfWord init) (signersOf x) (stmtAt (now (words .entry)) s) ⌝ }
+    requires { ⌜ ownIn x ≡ tagBy (stmtAt (now words) s) ⌝ }
+    ensures { λ r. ⌜ r ≡ agreementBy (ringOfWord init) (eqb (missingIn x) 0) (stmtAt (now (words .entry)) s) ⌝ }
 {
-    if group::tag_of(x) != 4 {
+    if views::own_of(x) != 4 {
+        return false;
+    }
+    if !views::is_complete(x) {
         return false;
     }
     let t = pool::at(words, s);
-    if !views::quorum_in(t, group::signers_of(x)) {
-        return false;
-    }
     if !pool::has_view(words, s, t) {
         return false;
     }
@@ -79,7 +80,7 @@ fn choices(
     let mut g = 0usize;
     while g < n {
         let x = groups[g];
-        let f = group::place_of(x);
+        let f = views::place_of(x);
         let s = ids[f];
         if !is_choice(words, s, x, found.wished) {
             g += 1;
@@ -110,7 +111,7 @@ fn agreements(
     let mut g = 0usize;
     while g < n {
         let x = groups[g];
-        let f = group::place_of(x);
+        let f = views::place_of(x);
         let s = ids[f];
         if !is_agreement(words, s, x, init) {
             g += 1;

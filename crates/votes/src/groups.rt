@@ -9,7 +9,6 @@ ghost use Rattle.votes.specs.Votes.{isVote, GatheredOf};
 ghost use Rattle.votes.specs.Keys.{Key, Worded, hasWords, groupSlot, Leads, Matches, Place, Sofar};
 use crate::GROUPS;
 use crate::Gathered;
-use crate::group;
 use crate::keys;
 use crate::keys::Vote;
 use crate::wish;
@@ -37,7 +36,7 @@ fn has_words(keys: &[u64; KEYS], groups: &[u64; GROUPS], g: usize, v: Vote) -> b
     if tables::key(keys, 0, g) != v.at {
         return false;
     }
-    group::tag_of(groups[g]) == v.tag
+    views::own_of(groups[g]) == v.tag
 }
 
 // Of the groups below `from`, whose last is of the slot of a vote, the newest with its words, plus one. It reads no statement: most votes are found
@@ -80,7 +79,7 @@ fn find(
     let mut x = walk(keys, rows, groups, v, newest);
     while x > 0 {
         let g = x - 1;
-        let f = group::place_of(groups[g]);
+        let f = views::place_of(groups[g]);
         if keys::same_names(words, ids[f], v.number) {
             return g;
         }
@@ -89,7 +88,7 @@ fn find(
     n
 }
 
-// Puts entry i into its group if it is a vote. Returns how many groups there are then.
+// Puts entry i into its group if it is a vote; a group that has a quorum takes no more. Returns how many groups there are then.
 fn add(
     words: &[u64; POOL_WORDS],
     ids: &[u16; RECORD],
@@ -110,15 +109,12 @@ fn add(
     let v = keys::vote_of(words, s);
     let g = find(words, ids, keys, rows, groups, n, v);
     if g < n {
-        let w = groups[g];
-        let seen = views::note(group::signers_of(w), true, o);
-        groups[g] = group::signed_by(w, seen);
+        groups[g] = views::sign(groups[g], o, i);
         return n;
     }
     tables::set_key(keys, 0, n, v.at);
     tables::set_key(keys, 1, n, v.what);
-    let seen = views::note(0, true, o);
-    groups[n] = group::group_of(i, v.tag, seen);
+    groups[n] = views::sign(views::unsigned(v.at, i, v.tag), o, i);
     tables::link(rows, 0, keys::slot_of(v), n);
     n + 1
 }
@@ -138,20 +134,17 @@ pub fn gather(
 {
     groups_room(groups);
     let end = pool::record_length(ids);
-    let mut joins: u32 = 0;
-    let mut leaves: u32 = 0;
+    let mut asked = 0u64;
     let mut n = 0usize;
     let mut i = 0usize;
     while i < end {
-        let s = ids[i];
-        joins = wish::note_kind(words, s, 1, joins);
-        leaves = wish::note_kind(words, s, 2, leaves);
+        asked = wish::note_asked(words, ids[i], asked);
         n = add(words, ids, i, keys, rows, groups, n);
         i += 1;
     }
     Gathered {
         groups: n,
-        wished: wish::wished_view(init, joins, leaves),
+        wished: wish::wished_view(init, asked),
     }
 }
 

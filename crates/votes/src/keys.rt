@@ -5,7 +5,6 @@ ghost use Prim.Native.Nat.{_<_};
 ghost use Rattle.pool.specs.Pool.{stmtAt};
 ghost use Rattle.votes.specs.Votes.{isVote, tagBy};
 ghost use Rattle.votes.specs.Keys.{folded, weightOf, mixFrom, whatOf, sameNames, Key, slotBy};
-use crate::group;
 use pool::POOL_WORDS;
 
 // What the low half of a word is below, and its lowest quarter.
@@ -135,7 +134,7 @@ pub fn same_names(words: &[u64; POOL_WORDS], i: u16, j: u16) -> bool
 pub fn slot_of(v: Vote) -> usize
     ensures { λ r. ⌜ (r ≡ slotBy (v .at) (v .what) (v .tag)) × (r < 256) ⌝ }
 {
-    let x = fold(v.at) + v.tag % group::FIELD;
+    let x = fold(v.at) + v.tag % QUARTER;
     let y = fold(v.what);
     tables::slot_from(x * AT_FACTOR + y * WHAT_FACTOR)
 }

@@ -1,18 +1,17 @@
-// The votes of a record, each quorum counted once.
+// The votes of a record, each counted until its quorum is complete.
 mod chosen;
-mod group;
 mod groups;
 mod keys;
+mod question;
 mod wish;
 
 pub use chosen::tabulate;
-pub use group::place_of;
-pub use group::signers_of;
-pub use group::tag_of;
 pub use groups::gather;
 pub use groups::groups_room;
 pub use groups::has_votes;
 use pool::CAPACITY;
+pub use question::Question;
+pub use question::count;
 pub use wish::wished_by;
 
 // The tables of what quorums chose and agreed to.

@@ -1,9 +1,10 @@
 //! How fast the proved code is beside the reference: one run, the same inputs, both built for release.
 //!
-//! `ring-benchmark [PART ..]`, with parts `statements`, `scan`, `evidence`, `turns` and `schedules`; all of them without an argument.
-//! `ring-benchmark repeat PART CASE SIDE ROUNDS` does the work of one case of `statements` or `evidence` and times nothing: `instructions`
+//! `ring-benchmark [PART ..]`, with parts `statements`, `scan`, `counts`, `evidence`, `turns` and `schedules`; all of them without an argument.
+//! `ring-benchmark repeat PART CASE SIDE ROUNDS` does the work of one case of `statements`, `counts` or `evidence` and times nothing: `instructions`
 //! counts what it takes.
 
+mod counts;
 mod evidence;
 mod measure;
 mod scan;
@@ -11,9 +12,10 @@ mod schedules;
 mod statements;
 mod turns;
 
-const PARTS: [(&str, fn()); 5] = [
+const PARTS: [(&str, fn()); 6] = [
     ("statements", statements::print),
     ("scan", scan::print),
+    ("counts", counts::print),
     ("evidence", evidence::print),
     ("turns", turns::print),
     ("schedules", schedules::print),
@@ -23,7 +25,11 @@ fn main() {
     let asked: Vec<String> = std::env::args().skip(1).collect();
     if let [word, part, case, side, rounds] = asked.as_slice() {
         if word == "repeat" {
-            let repeat: fn(&str, &str, usize) = if part == "statements" { statements::repeat } else { evidence::repeat };
+            let repeat = match part.as_str() {
+                "statements" => statements::repeat,
+                "counts" => counts::repeat,
+                _ => evidence::repeat,
+            };
             return repeat(case, side, rounds.parse().unwrap_or(0));
         }
     }

@@ -3,7 +3,7 @@
 use std::hint::black_box;
 use std::time::Instant;
 
-use compare::records::{gaps, prepares, reports, skipped, votes, Case, NEWCOMER, WAITING};
+use compare::records::{gaps, prepares, reports, short_of_quorum, skipped, votes, Case, NEWCOMER, WAITING};
 use pekdrav::{Controller, Pool};
 use reference::{Answer, Body, Document, Evidence, Record, Statement};
 
@@ -225,9 +225,15 @@ pub fn print() {
     }
     println!();
     head("Turns over the worst records", "turn");
-    waited("reports that are bound and keep all", &reports(512));
-    waited("prepares and reports bound to them", &prepares(512, true));
-    waited("prepares of one notice and reports bound to them", &prepares(512, false));
+    let told = [
+        ("reports that are bound and keep all", reports(512)),
+        ("prepares and reports bound to them", prepares(512, true)),
+        ("prepares of one notice and reports bound to them", prepares(512, false)),
+    ];
+    for (name, case) in told {
+        waited(name, &case);
+        waited(&format!("{name}, no quorum"), &short_of_quorum(case));
+    }
     waited("votes", &votes(512));
     entered("past 14 skipped views", &skipped(512, 1));
     entered("past 7 skipped views, 16 sealed histories", &gaps(512, 1));

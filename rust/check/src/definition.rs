@@ -5,7 +5,7 @@
 use std::cell::{OnceCell, RefCell};
 use std::collections::HashMap;
 
-use reference::{Binding, Body, History, Report, Set, Statement, Told, View};
+use reference::{Binding, Body, Count, History, Report, Set, Statement, Told, View};
 
 pub struct Definition<'a> {
     initial: View,
@@ -47,9 +47,7 @@ impl<'a> Definition<'a> {
 
     /// Whether a quorum of `at` signed a statement of which `says` holds; each member counts once.
     fn quorum_signed(&self, at: View, says: impl Fn(&Body) -> bool) -> bool {
-        let signers = self.origins(says) & at.members();
-        let members = at.members().count_ones();
-        members > 0 && signers.count_ones() >= members - (members - 1) / 3
+        is_quorum(at, self.origins(says))
     }
 
     pub fn is_candidate(&self, view: View) -> bool {
@@ -162,6 +160,16 @@ impl<'a> Definition<'a> {
         distinct(acked).into_iter().filter(|&payload| self.has_certificate(notice, payload)).collect()
     }
 
+    /// Whether there are two incomparable candidates, two sealed histories neither of which holds the other, or certificates for two payloads of one notice.
+    pub fn contradicts(&self) -> bool {
+        let candidates = self.all_candidates();
+        let sealed = self.sealed_histories();
+        let apart = |one: &View| candidates.iter().any(|other| !one.comparable(*other));
+        let forked = |one: &History| sealed.iter().any(|other| !one.holds(other) && !other.holds(one));
+        let torn = |notice: usize| self.certificates(notice as u8).len() > 1;
+        candidates.iter().any(apart) || sealed.iter().any(forked) || (0..self.senders.len()).any(torn)
+    }
+
     /// The sealed tops with the notices and payloads that a quorum of each stored at it.
     pub fn stores(&self) -> Vec<Store> {
         let tops = self.tops();
@@ -199,6 +207,39 @@ impl<'a> Definition<'a> {
         self.quorum_signed(at, |body| matches!(body, Body::Report(report) if counted.contains(&report)))
     }
 
+    /// The length of the shortest beginning of the list in which a quorum of `at` signed a statement of which `says` holds. Every length is tried,
+    /// each by itself.
+    fn shortest(&self, at: View, says: impl Fn(&Statement) -> bool) -> Option<usize> {
+        let signers = |first: &[Statement]| first.iter().filter(|said| says(said)).fold(0, |origins, said| origins | 1 << said.origin);
+        (0..=self.statements.len()).find(|&length| is_quorum(at, signers(&self.statements[..length])))
+    }
+
+    /// What a count that ends with the completing signer comes to.
+    fn count(&self, at: View, says: impl Fn(&Statement) -> bool) -> Count {
+        let shortest = self.shortest(at, says);
+        Count { reached: shortest.is_some(), read: shortest.unwrap_or(self.statements.len()) }
+    }
+
+    /// The count of those that signed this body, of a statement at `at`.
+    pub fn count_signed(&self, at: View, body: &Body) -> Count {
+        self.count(at, |said| said.body == *body)
+    }
+
+    /// The count of the reports on the view that count in the whole list; nothing where a turn is refused with 7 or 6.
+    pub fn count_reported(&self, at: View) -> Option<Count> {
+        if self.contradicts() || self.all_candidates().len() > History::LIMIT {
+            return None;
+        }
+        let counted = self.counted(at);
+        Some(self.count(at, |said| matches!(&said.body, Body::Report(report) if counted.contains(&report))))
+    }
+
+    /// The least length of a beginning of the list in which a quorum of a sealed top of the whole list signed ack at it for the payload.
+    pub fn acked_after(&self, notice: u8, payload: u64) -> Option<usize> {
+        let shortest = |&at: &View| self.shortest(at, |said| said.body == Body::Ack { at, notice, payload });
+        self.tops().iter().filter_map(shortest).min()
+    }
+
     pub fn counts(&self, origin: u8, report: &Report) -> bool {
         report.at.has_member(origin)
             && report.view.within(self.wished())
@@ -206,6 +247,12 @@ impl<'a> Definition<'a> {
             && report.told.len() == self.senders.len()
             && (0..).zip(&*report.told).all(|(notice, told)| self.counts_for(notice, told))
     }
+}
+
+/// Whether these are, members of the view alone, a quorum of it.
+fn is_quorum(at: View, signers: Set) -> bool {
+    let members = at.members().count_ones();
+    members > 0 && (signers & at.members()).count_ones() >= members - (members - 1) / 3
 }
 
 /// What a quorum of a sealed top stored at it.

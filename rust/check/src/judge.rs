@@ -1,7 +1,7 @@
 //! Whether a run is within the premises, whether demand 3 holds on it, and how deep it went.
 
 use reference::controller::Ring;
-use reference::{Binding, History, Report, View};
+use reference::{Binding, Report, View};
 
 use crate::definition::{Definition, Store};
 use crate::run::{Deed, Event, Run};
@@ -86,17 +86,7 @@ pub fn judge(run: &Run) -> Verdict {
     }
     breaches.extend(incomparable(run, ring));
     breaches.extend(not_kept(run, ring, &shown));
-    let contradiction = contradiction(&shown, ring.senders.len());
-    Verdict { within_premises: tops.iter().all(bears), breaches, contradiction, depth: depth(run, ring, &shown) }
-}
-
-fn contradiction(shown: &Definition, notices: usize) -> bool {
-    let candidates = shown.all_candidates();
-    let sealed = shown.sealed_histories();
-    let apart = |one: &View| candidates.iter().any(|other| !one.comparable(*other));
-    let forked = |one: &History| sealed.iter().any(|other| !one.holds(other) && !other.holds(one));
-    let torn = |notice: usize| shown.certificates(notice as u8).len() > 1;
-    candidates.iter().any(apart) || sealed.iter().any(forked) || (0..notices).any(torn)
+    Verdict { within_premises: tops.iter().all(bears), breaches, contradiction: shown.contradicts(), depth: depth(run, ring, &shown) }
 }
 
 /// A delivery by a rule-follower, and its place in the list of events.

@@ -61,24 +61,34 @@ pub fn words(evidence: &Evidence) -> EvidenceWords {
     out
 }
 
+/// The reference's evidence, in its own form.
+pub fn shown(case: &Case) -> reference::Evidence {
+    reference::Evidence::of(case.initial, &case.senders, &case.statements)
+}
+
 /// The reference's evidence.
 pub fn theirs(case: &Case) -> Evidence {
-    let evidence = reference::Evidence::of(case.initial, &case.senders, &case.statements);
+    told(&shown(case))
+}
+
+/// The same as the proved code has it.
+fn told(evidence: &reference::Evidence) -> Evidence {
     let listed = |views: &[reference::View]| views.iter().map(|&view| as_mine(view)).collect::<Vec<View>>();
     let certificate = |(notice, known): (u8, &Known)| {
         let payload = known.certificate()?;
         Some(Certificate { notice, payload, stored: known.stored.contains(&payload) })
     };
-    let shown = || Shown {
+    let rest = || Shown {
         candidates: (evidence.candidates.len() <= VIEWS).then(|| listed(&evidence.candidates)),
         greatest: evidence.greatest().map_or(Vec::new(), |history| listed(history.views())),
         certificates: (0..).zip(&evidence.notices).filter_map(certificate).collect(),
     };
-    Evidence { wished: as_mine(evidence.wished), shown: (!evidence.conflict()).then(shown) }
+    Evidence { wished: as_mine(evidence.wished), shown: (!evidence.conflict()).then(rest) }
 }
 
 /// The text of a service screen, from the evidence; with one notice its number is not told.
-fn text(evidence: &Evidence, notices: usize) -> String {
+fn text(case: &Case, theirs: &reference::Evidence) -> String {
+    let evidence = told(theirs);
     let view = |view: View| format!("{:04x}{:04x}", view.joined(), view.left());
     let list =
         |views: &[View]| std::iter::once(views.len().to_string()).chain(views.iter().map(|&one| view(one))).collect::<Vec<_>>().join(",");
@@ -87,8 +97,9 @@ fn text(evidence: &Evidence, notices: usize) -> String {
     let candidates = shown.candidates.as_ref().map_or("many".to_string(), |views| list(views));
     let certificate = |&Certificate { notice, payload, stored }: &Certificate| {
         let word = if stored { "stored" } else { "kept" };
-        let number = if notices == 1 { String::new() } else { format!("{notice},") };
-        format!("certificate,{number}{payload},{word}\n")
+        let number = if case.senders.len() == 1 { String::new() } else { format!("{notice},") };
+        let read = theirs.acked_after(&case.statements, notice, payload).unwrap_or(0);
+        format!("certificate,{number}{payload},{word},{read}\n")
     };
     let certificates: String = match shown.certificates.as_slice() {
         [] => "certificate,none\n".to_string(),
@@ -98,8 +109,8 @@ fn text(evidence: &Evidence, notices: usize) -> String {
 }
 
 /// Compares the text of a service screen with one made from the reference's evidence.
-fn compare_text(case: &Case, lent: &Lent, theirs: &Evidence) -> Result<(), String> {
-    let (mine, theirs) = (lent.record.screen(&lent.pool, &lent.ring), text(theirs, case.senders.len()));
+pub fn compare_text(case: &Case, lent: &Lent, theirs: &reference::Evidence) -> Result<(), String> {
+    let (mine, theirs) = (lent.record.screen(&lent.pool, &lent.ring), text(case, theirs));
     if mine == theirs {
         return Ok(());
     }
@@ -156,8 +167,7 @@ impl std::fmt::Display for Tally {
 }
 
 /// The fewest statements found in which they still differ.
-fn shrink(case: &Case) -> Case {
-    let differs = |case: &Case| lend(case).is_ok_and(|lent| mine(&lent) != words(&theirs(case)));
+pub fn shrink(case: &Case, differs: impl Fn(&Case) -> bool) -> Case {
     let mut least = case.clone();
     let mut place = least.statements.len();
     while place > 0 {
@@ -174,20 +184,15 @@ fn shrink(case: &Case) -> Case {
 pub fn compare(case: &Case, tally: &mut Tally) -> Result<(), String> {
     assert!(case.statements.len() <= STATEMENTS, "a record has at most 512 statements");
     let lent = lend(case)?;
-    let (mine_now, theirs_now) = (mine(&lent), theirs(case));
+    let shown = shown(case);
+    let (mine_now, theirs_now) = (mine(&lent), told(&shown));
     // Both ways: every word, and what the words are read as.
     if mine_now != words(&theirs_now) || Evidence::from(&mine_now) != theirs_now {
-        let least = shrink(case);
-        let lines: Vec<String> = least.statements.iter().map(|s| String::from_utf8_lossy(&s.write()).into_owned()).collect();
+        let least = shrink(case, |case| lend(case).is_ok_and(|lent| mine(&lent) != words(&theirs(case))));
         let (one, other) = (mine(&lend(&least)?), words(&theirs(&least)));
-        return Err(format!(
-            "initial {} senders {:?}\n{}\nproved: {one:x?}\nreference: {other:x?}",
-            least.initial,
-            least.senders,
-            lines.join("\n")
-        ));
+        return Err(format!("{least}\nproved: {one:x?}\nreference: {other:x?}"));
     }
-    compare_text(case, &lent, &theirs_now)?;
+    compare_text(case, &lent, &shown)?;
     tally.add(case, &theirs_now);
     Ok(())
 }

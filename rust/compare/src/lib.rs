@@ -1,5 +1,6 @@
 //! The proved code against the reference, on generated inputs.
 
+pub mod counts;
 pub mod evidence;
 pub mod lines;
 pub mod lockstep;

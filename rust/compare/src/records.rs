@@ -21,6 +21,14 @@ impl Case {
     }
 }
 
+/// The ring, and the statements as lines.
+impl std::fmt::Display for Case {
+    fn fmt(&self, f: &mut std::fmt::Formatter<'_>) -> std::fmt::Result {
+        let lines: Vec<String> = self.statements.iter().map(|said| String::from_utf8_lossy(&said.write()).into_owned()).collect();
+        write!(f, "initial {} senders {:?}\n{}", self.initial, self.senders, lines.join("\n"))
+    }
+}
+
 /// The pool at the end of a run, if a setup was taken.
 pub fn pool_of(schedule: &[u8]) -> Option<Case> {
     let mut bench = Bench::<Document>::new();
@@ -36,7 +44,7 @@ fn put(statements: &mut Vec<Statement>, statement: Statement) {
 }
 
 /// A statement by somebody else, or about another notice: a double signature, or one of somebody who is no member.
-fn resigned(rng: &mut Rng, notices: usize, statement: &Statement) -> Statement {
+pub fn resigned(rng: &mut Rng, notices: usize, statement: &Statement) -> Statement {
     let origin = if rng.chance(80) { rng.below(16) as u8 } else { statement.origin };
     let mut body = statement.body.clone();
     match &mut body {
@@ -190,8 +198,8 @@ pub fn mixed(count: usize) -> Case {
     Case { initial: wide.initial, senders: vec![0], statements }
 }
 
-/// Controller 0 alone, with 1, and with 1 and 2, each view sealed at the one before; 2 has entered nothing. Nobody reports at the second view, so that
-/// a turn of 2 looks at every report at the first one and has nothing to do in the end, again and again.
+/// Controller 0 alone, with 1, and with 1 and 2, each view sealed at the one before; 2 has entered nothing. The second view has no quorum of reports, so
+/// that a turn of 2 looks at the reports and has nothing to do in the end, again and again.
 fn waiting() -> (Vec<View>, Vec<Statement>) {
     let chain: Vec<View> = (1..=3).map(rising).collect();
     let mut statements: Vec<Statement> = (1..3).map(|origin| Statement::new(origin, Body::Join)).collect();
@@ -199,7 +207,7 @@ fn waiting() -> (Vec<View>, Vec<Statement>) {
     (chain, statements)
 }
 
-/// Who waits in the records of `reports` and `prepares`.
+/// Who waits in the records of `reports` and `prepares`. The first report is a quorum of the first view, so that few are judged; `short_of_quorum` has more.
 pub const WAITING: u8 = 2;
 
 /// Reports at the first view until there are `count` statements, `tell` having what report `place` tells of a notice.
@@ -251,6 +259,17 @@ pub fn prepares(count: usize, spread: bool) -> Case {
     };
     report(&chain, &mut statements, count, tell);
     Case { initial: chain[0], senders: vec![0; NOTICES], statements }
+}
+
+/// A record of `reports` or `prepares` with all reports but the first on the second view. One of its two members signs them, which is no quorum, so that a
+/// turn of the one who waits reads and judges every report.
+pub fn short_of_quorum(mut case: Case) -> Case {
+    let reports = case.statements.iter_mut().filter_map(|said| match &mut said.body {
+        Body::Report(report) => Some(report),
+        _ => None,
+    });
+    reports.skip(1).for_each(|report| report.at = rising(2));
+    case
 }
 
 /// 64 notices, each acknowledged and stored by three of four members, as many as there is room for, and then the lies of a fourth.

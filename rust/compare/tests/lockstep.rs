@@ -1,10 +1,10 @@
 //! The proved controller and the reference's in lock step.
 
 use compare::lockstep::{compare_all, Ring, Tally};
-use compare::records::{changed, gaps, prepares, reports, skipped, votes, Case, NEWCOMER, WAITING};
+use compare::records::{changed, gaps, prepares, reports, short_of_quorum, skipped, votes, Case, NEWCOMER, WAITING};
 use compare::schedules;
 use generate::Rng;
-use pekdrav::{Answer, Binding, Certificate, Controller, Kind, Notice, Pool, Refusal, View};
+use pekdrav::{Answer, Binding, Certificate, Controller, Count, Kind, Notice, Pool, Question, Refusal, View};
 
 fn agree(name: &str, schedules: impl Iterator<Item = Vec<u8>>) -> Tally {
     let tally = compare_all(schedules).unwrap_or_else(|difference| panic!("{name}: they differ, {difference}"));
@@ -41,7 +41,9 @@ fn mutated_runs() {
 fn turns_over_the_worst_records() {
     let mut ring = Ring::new();
     for count in [140, 256, 511, 512] {
-        for case in [reports(count), prepares(count, true), prepares(count, false), votes(count)] {
+        let told = [reports(count), prepares(count, true), prepares(count, false)];
+        let short = told.clone().map(short_of_quorum);
+        for case in told.into_iter().chain(short).chain([votes(count)]) {
             ring.turn_on(WAITING, &case).unwrap_or_else(|difference| panic!("they differ, {difference}"));
         }
     }
@@ -64,6 +66,21 @@ fn turns_past_skipped_views() {
     println!("turns past skipped views: {:?}", ring.tally);
     let least = [("entered", 50), ("quiet", 50), ("signed", 20)];
     assert!(least.iter().all(|&(answer, count)| ring.tally.get(answer).is_some_and(|&met| met > count)), "too few of a kind");
+}
+
+/// Counts over a prepare, an ack and a store of one who is alone in its ring.
+fn counts_of_everything(controller: &Controller, pool: &Pool) {
+    let at = View::new(1, 0);
+    let (complete, missed) = (|read| Count { reached: true, read }, Count { reached: false, read: 3 });
+    assert_eq!(controller.count(pool, &Question::Ack { at, notice: 1, payload: 7 }), complete(2));
+    assert_eq!(controller.count(pool, &Question::Store { at, notice: 1, payload: 7 }), complete(3));
+    assert_eq!(controller.count(pool, &Question::Ack { at, notice: 0, payload: 7 }), missed);
+    assert_eq!(controller.count(pool, &Question::Store { at: View::new(1, 1), notice: 1, payload: 7 }), missed);
+    assert_eq!(controller.count(pool, &Question::AgreeView { at, view: at }), missed);
+    for length in [0, 1, 16, 17, 1_000] {
+        assert_eq!(controller.count(pool, &Question::AgreeHistory { at, views: &vec![at; length] }), missed);
+    }
+    assert_eq!(controller.count_reports(pool, at), Some(missed));
 }
 
 /// Every memory means a controller: a call on any answers, and a refusal leaves the pool as it was.
@@ -97,7 +114,8 @@ fn one_of_everything() {
     assert_eq!(shown.certificates, [Certificate { notice: 1, payload: 7, stored: true }]);
     assert_eq!(controller.signers(&pool, Kind::Ack, View::new(1, 0)), 1);
     assert_eq!(controller.signers(&pool, Kind::Report, View::new(1, 0)), 0);
-    let screen = "wished,00010000\ncandidates,1,00010000\ngreatest,1,00010000\ncertificate,1,7,stored\n";
+    counts_of_everything(&controller, &pool);
+    let screen = "wished,00010000\ncandidates,1,00010000\ngreatest,1,00010000\ncertificate,1,7,stored,2\n";
     assert_eq!(controller.screen(&pool), screen);
     let notice = Notice { sender: 0, binding: Binding::Bound(7), delivered: true, send_requested: Some(7) };
     assert_eq!(controller.notice(1), Some(notice));

@@ -1,6 +1,7 @@
 //! One controller, over a pool of its own or one that it shares.
 
 use crate::answer::Answer;
+use crate::count::{Count, Question};
 use crate::evidence::Evidence;
 use crate::ffi::{self, Value};
 use crate::pool::Pool;
@@ -169,6 +170,16 @@ impl Controller {
     /// Who signed a statement of this kind at this view, bit k for controller k.
     pub fn signers(&self, pool: &Pool, kind: Kind, at: View) -> u32 {
         self.record.signers(pool, kind, at)
+    }
+
+    /// Whether a quorum signed what the question asks for, and how many statements were read.
+    pub fn count(&self, pool: &Pool, question: &Question) -> Count {
+        self.record.count(pool, question)
+    }
+
+    /// Whether a quorum of the view has counted reports on it; `None` where a turn would be refused with 7 or 6.
+    pub fn count_reports(&self, pool: &Pool, view: View) -> Option<Count> {
+        self.record.count_reports(pool, &self.ring(), view)
     }
 
     /// What the record shows.

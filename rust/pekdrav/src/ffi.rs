@@ -3,10 +3,11 @@
 use std::mem::MaybeUninit;
 
 use crate::controller::Fields;
+use crate::count::Asked;
 use crate::evidence::EvidenceWords;
 use crate::pool::{POOL_WORDS, STATEMENTS};
 use crate::record::Record;
-use crate::view::{Ring, NOTICES};
+use crate::view::{Ring, NOTICES, VIEWS};
 
 /// A pool in memory.
 pub type Words = [u64; POOL_WORDS];
@@ -29,6 +30,9 @@ impl Workspace {
 
 /// What comes with an answer: its value, and the notice of a delivery.
 pub type Value = [u64; 2];
+
+/// What a count came to: whether a quorum signed, and how many statements were read.
+pub type CountWords = [u64; 2];
 
 /// The senders of the notices, the first of which count.
 pub type Senders = [u8; NOTICES];
@@ -76,6 +80,28 @@ unsafe extern "C" {
     fn pekdrav_pool_text(words: &Words, number: u16, out: *mut u8, out_len: usize) -> usize;
 
     pub safe fn pekdrav_record_signers(record: &Record, words: &Words, kind: u8, at: u64) -> u32;
+    safe fn pekdrav_raw_record_count(
+        record: &Record,
+        words: &Words,
+        kind: u8,
+        notice: u8,
+        at: u64,
+        what: u64,
+        views: &[u64; VIEWS],
+        len: usize,
+        out: &mut CountWords,
+    );
+    fn pekdrav_raw_record_count_reports(
+        record: &Record,
+        words: &Words,
+        initial: u64,
+        count: u8,
+        senders: &Senders,
+        keys: *mut Keys,
+        groups: *mut Groups,
+        view: u64,
+        out: &mut CountWords,
+    ) -> u8;
     fn pekdrav_raw_record_evidence(
         record: &Record,
         words: &Words,
@@ -109,7 +135,7 @@ pub fn raw_controller_add(fields: &Fields, record: &mut Record, words: &mut Word
 #[inline]
 pub fn raw_controller_turn(fields: &mut Fields, record: &mut Record, words: &mut Words, value: &mut Value) -> u8 {
     let mut work = Workspace::new();
-    // SAFETY: the pointers are those of arrays that nobody else has, and any words in them serve; so in `record_evidence`.
+    // SAFETY: the pointers are those of arrays that nobody else has, and any words in them serve; so in each function of a record that has them.
     unsafe { pekdrav_raw_controller_turn(fields, record, words, work.keys.as_mut_ptr(), work.groups.as_mut_ptr(), value) }
 }
 
@@ -123,6 +149,26 @@ pub fn pool_append(words: &mut Words, line: &[u8], notices: usize) -> u16 {
 pub fn pool_text(words: &Words, number: u16, out: &mut [u8]) -> usize {
     // SAFETY: as above.
     unsafe { pekdrav_pool_text(words, number, out.as_mut_ptr(), out.len()) }
+}
+
+#[inline]
+pub fn record_count(record: &Record, words: &Words, asked: &Asked) -> CountWords {
+    let Asked { kind, notice, at, what, ref views, len } = *asked;
+    let mut out = [0; 2];
+    pekdrav_raw_record_count(record, words, kind, notice, at, what, views, len, &mut out);
+    out
+}
+
+/// Answers nothing where no report is judged.
+#[inline]
+pub fn record_count_reports(record: &Record, words: &Words, ring: &Ring, view: u64) -> Option<CountWords> {
+    let (initial, count, senders) = (ring.initial.word(), ring.count, &ring.senders);
+    let mut work = Workspace::new();
+    let (keys, groups) = (work.keys.as_mut_ptr(), work.groups.as_mut_ptr());
+    let mut out = [0; 2];
+    // SAFETY: as in `raw_controller_turn`.
+    let told = unsafe { pekdrav_raw_record_count_reports(record, words, initial, count, senders, keys, groups, view, &mut out) };
+    (told != 0).then_some(out)
 }
 
 #[inline]

@@ -22,6 +22,7 @@
 
 mod answer;
 mod controller;
+mod count;
 mod evidence;
 #[allow(unsafe_code)]
 mod ffi;
@@ -33,6 +34,7 @@ mod view;
 
 pub use answer::{Answer, Refusal};
 pub use controller::{Binding, Controller, Notice};
+pub use count::{Count, Question};
 pub use evidence::{Certificate, Evidence, EvidenceWords, Shown};
 pub use pool::{AppendError, Pool, POOL_WORDS, STATEMENTS};
 pub use record::Record;

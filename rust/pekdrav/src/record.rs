@@ -1,5 +1,6 @@
 //! A list of a pool's statements, and what it shows.
 
+use crate::count::{Asked, Count, Question};
 use crate::evidence::{Evidence, EvidenceWords};
 use crate::ffi;
 use crate::pool::{Pool, STATEMENTS};
@@ -66,6 +67,22 @@ impl Record {
         ffi::pekdrav_record_signers(self, pool.words(), kind as u8, at.word())
     }
 
+    /// Whether a quorum of the question's view signed what it asks for, and how many statements were read.
+    ///
+    /// Only members of the view count, each once; a view without members has no quorum.
+    #[inline]
+    pub fn count(&self, pool: &Pool, question: &Question) -> Count {
+        Count::told(ffi::record_count(self, pool.words(), &Asked::from(question)))
+    }
+
+    /// Whether a quorum of the view has counted reports on it, and how many statements were read.
+    ///
+    /// `None` where a turn would be refused with 7 or 6, since no report is judged then.
+    #[inline]
+    pub fn count_reports(&self, pool: &Pool, ring: &Ring, view: View) -> Option<Count> {
+        ffi::record_count_reports(self, pool.words(), ring, view.word()).map(Count::told)
+    }
+
     /// What the record shows in a ring.
     pub fn evidence(&self, pool: &Pool, ring: &Ring) -> Evidence {
         let mut out = EvidenceWords::default();
@@ -82,8 +99,9 @@ impl Record {
     /// What the record shows in a ring, in lines, for a service screen.
     ///
     /// The lines: `wished,VIEW`; then `conflict` and nothing more, or `candidates,COUNT,VIEW,..` (`candidates,many` for more than sixteen),
-    /// `greatest,COUNT,VIEW,..` and for each notice that has a certificate `certificate,NOTICE,PAYLOAD,stored` (without the notice in a ring of
-    /// one; `kept` if it is not stored; `certificate,none` if no notice has one).
+    /// `greatest,COUNT,VIEW,..` and for each notice that has a certificate `certificate,NOTICE,PAYLOAD,stored,READ` (without the notice in a ring
+    /// of one; `kept` if it is not stored; `certificate,none` if no notice has one). After READ statements of the record the certificate's acks were
+    /// complete: the least that a count of them reads, over the sealed tops at which it says yes.
     pub fn screen(&self, pool: &Pool, ring: &Ring) -> String {
         let mut out = [0; SCREEN_MAX];
         let length = ffi::record_screen(self, pool.words(), ring, &mut out);

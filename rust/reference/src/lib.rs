@@ -4,6 +4,7 @@
 
 pub mod bench;
 pub mod controller;
+pub mod count;
 pub mod evidence;
 mod index;
 pub mod record;
@@ -14,6 +15,7 @@ pub mod view;
 
 pub use bench::{Bench, Outcome, Row};
 pub use controller::{Answer, Controller, Notice, Refusal};
+pub use count::{count_reports, Count, Question};
 pub use evidence::{Evidence, Known};
 pub use record::Record;
 pub use rules::{Document, Rules};

@@ -9,7 +9,7 @@ use Rattle.screen.proofs.put_evidence.Tie as tie
 
 returns : tie.Need-returns
 unfolding conflictLine lineText parted
-returns c = conflict-wrote (c .before .before .before .before .before .before .before .before .before .before .before .args .n) (c .before .before .before .before .before .before .before .before .before .before .before .args .e) (c .before .before .before .before .before .before .before .before .before .before .before .args .candidates .now) (c .before .before .before .before .before .before .before .before .before .before .before .args .greatest .now) (c .before .before .before .before .before .before .before .before .before .before .before .args .certs .now) (c .before .before .before .before .before .before .before .before .put-wished .ensures) (c .before .before .before .before .before .if1 .taken) (c .before .before .write-text .ensures)
+returns c = conflict-wrote (c .before .before .before .before .before .before .before .before .before .before .before .args .n) (c .before .before .before .before .before .before .before .before .before .before .before .args .e) (c .before .before .before .before .before .before .before .before .before .before .before .args .candidates .now) (c .before .before .before .before .before .before .before .before .before .before .before .args .greatest .now) (c .before .before .before .before .before .before .before .before .before .before .before .args .certs .now) _ (c .before .before .before .before .before .before .before .before .put-wished .ensures) (c .before .before .before .before .before .if1 .taken) (c .before .before .write-text .ensures)
 
 pub put-evidence-spec : {M : Type 1} → statement M
 put-evidence-spec =
@@ -22,6 +22,6 @@ put-evidence-spec =
     returns
     (λ c κs. (c .before .before .before .before .before .before .before .pre .2 .candidates (c .before .if1 .left), omega (arith, c .before .before .before .before .before .before .before .pre .1, c .before .before .before .before .put-wished .ensures .next, c .before .before .before .before .put-wished .kept .0, wished-size (viewOf (c .before .before .before .before .before .before .before .args .e .wished)))))
     (λ c κs. (c .before .before .before .before .before .before .before .before .before .before .before .pre .2 .greatest (c .before .before .before .before .before .if1 .left), omega (arith, c .before .before .before .before .before .before .before .before .before .before .before .pre .1, c .before .before .before .before .before .before .before .before .put-wished .ensures .next, c .before .before .before .before .before .before .before .before .put-wished .kept .0, wished-size (viewOf (c .before .before .before .before .before .before .before .before .before .before .before .args .e .wished)), c .before .before .before .put-candidates .ensures .next, c .before .before .before .put-candidates .kept .0, candidates-most (c .before .before .before .before .before .before .before .before .before .before .before .args .e .many) (c .before .before .before .before .before .before .before .before .before .before .before .args .candidates .now) (c .before .before .before .before .before .before .before .before .before .before .before .args .e .count) (c .before .before .before .before .before .before .before .before .before .before .before .pre .2 .candidates (c .before .before .before .before .before .if1 .left)))))
-    (λ c κs. (c .before .before .before .before .before .before .before .before .before .before .before .before .before .before .before .pre .0, omega (arith, c .before .before .before .before .before .before .before .before .before .before .before .before .before .before .before .pre .1, c .before .before .before .before .before .before .before .before .before .before .before .before .put-wished .ensures .next, c .before .before .before .before .before .before .before .before .before .before .before .before .put-wished .kept .0, wished-size (viewOf (c .before .before .before .before .before .before .before .before .before .before .before .before .before .before .before .args .e .wished)), c .before .before .before .before .before .before .before .put-candidates .ensures .next, c .before .before .before .before .before .before .before .put-candidates .kept .0, candidates-most (c .before .before .before .before .before .before .before .before .before .before .before .before .before .before .before .args .e .many) (c .before .before .before .before .before .before .before .before .before .before .before .before .before .before .before .args .candidates .now) (c .before .before .before .before .before .before .before .before .before .before .before .before .before .before .before .args .e .count) (c .before .before .before .before .before .before .before .before .before .before .before .before .before .before .before .pre .2 .candidates (c .before .before .before .before .before .before .before .before .before .if1 .left)), c .before .before .before .put-greatest .ensures .next, c .before .before .before .put-greatest .kept .0, views-most greatestWord (c .before .before .before .before .before .before .before .before .before .before .before .before .before .before .before .args .greatest .now) (c .before .before .before .before .before .before .before .before .before .before .before .before .before .before .before .args .e .length) (c .before .before .before .before .before .before .before .before .before .before .before .before .before .before .before .pre .2 .greatest (c .before .before .before .before .before .before .before .before .before .if1 .left)))))
+    (λ c κs. (c .before .before .before .before .before .before .before .before .before .before .before .before .before .before .before .pre .0, omega (arith, c .before .before .before .before .before .before .before .before .before .before .before .before .before .before .before .pre .1, c .before .before .before .before .before .before .before .before .before .before .before .before .put-wished .ensures .next, c .before .before .before .before .before .before .before .before .before .before .before .before .put-wished .kept .0, wished-size (viewOf (c .before .before .before .before .before .before .before .before .before .before .before .before .before .before .before .args .e .wished)), c .before .before .before .before .before .before .before .put-candidates .ensures .next, c .before .before .before .before .before .before .before .put-candidates .kept .0, candidates-most (c .before .before .before .before .before .before .before .before .before .before .before .before .before .before .before .args .e .many) (c .before .before .before .before .before .before .before .before .before .before .before .before .before .before .before .args .candidates .now) (c .before .before .before .before .before .before .before .before .before .before .before .before .before .before .before .args .e .count) (c .before .before .before .before .before .before .before .before .before .before .before .before .before .before .before .pre .2 .candidates (c .before .before .before .before .before .before .before .before .before .if1 .left)), c .before .before .before .put-greatest .ensures .next, c .before .before .before .put-greatest .kept .0, views-most greatestWord (c .before .before .before .before .before .before .before .before .before .before .before .before .before .before .before .args .greatest .now) (c .before .before .before .before .before .before .before .before .before .before .before .before .before .before .before .args .e .length) (c .before .before .before .before .before .before .before .before .before .before .before .before .before .before .before .pre .2 .greatest (c .before .before .before .before .before .before .before .before .before .if1 .left))), c .before .before .before .before .before .before .before .before .before .before .before .before .before .before .before .pre .3))
     (λ c. search needs)
-    (λ c. lines-wrote (c .before .before .before .before .before .before .before .before .before .before .before .before .before .before .before .before .before .before .args .n) (c .before .before .before .before .before .before .before .before .before .before .before .before .before .before .before .before .before .before .args .e) (c .before .before .before .before .before .before .before .before .before .before .before .before .before .before .before .before .before .before .args .candidates .now) (c .before .before .before .before .before .before .before .before .before .before .before .before .before .before .before .before .before .before .args .greatest .now) (c .before .before .before .before .before .before .before .before .before .before .before .before .before .before .before .before .before .before .args .certs .now) (c .before .before .before .before .before .before .before .before .before .before .before .before .before .before .before .put-wished .ensures) (c .before .before .before .before .before .before .before .before .before .before .before .before .if1 .left) (c .before .before .before .before .before .before .before .before .before .before .before .before .before .before .before .before .before .before .pre .2) (c .before .before .before .before .before .before .before .before .before .before .put-candidates .ensures) (c .before .before .before .before .before .before .put-greatest .ensures) (c .before .before .put-certificates .ensures)))
+    (λ c. lines-wrote (c .before .before .before .before .before .before .before .before .before .before .before .before .before .before .before .before .before .before .args .n) (c .before .before .before .before .before .before .before .before .before .before .before .before .before .before .before .before .before .before .args .e) (c .before .before .before .before .before .before .before .before .before .before .before .before .before .before .before .before .before .before .args .candidates .now) (c .before .before .before .before .before .before .before .before .before .before .before .before .before .before .before .before .before .before .args .greatest .now) (c .before .before .before .before .before .before .before .before .before .before .before .before .before .before .before .before .before .before .args .certs .now) _ (c .before .before .before .before .before .before .before .before .before .before .before .before .before .before .before .put-wished .ensures) (c .before .before .before .before .before .before .before .before .before .before .before .before .if1 .left) (c .before .before .before .before .before .before .before .before .before .before .before .before .before .before .before .before .before .before .pre .2) (c .before .before .before .before .before .before .before .before .before .before .put-candidates .ensures) (c .before .before .before .before .before .before .put-greatest .ensures) (c .before .before .put-certificates .ensures)))

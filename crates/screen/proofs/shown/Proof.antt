@@ -12,6 +12,6 @@ shown-spec =
     (tie.spec
     (λ c. shows-nothing _ _ _ _ (omega arith))
     (λ c κs. search needs) (λ c κs. search needs)
-    (λ c κs. (c .before .before .before .before .before .before .before .before .before .before .few .ensures .1, omega arith, few-views _ _ _ _ _ _ _ (c .before .before .before .before .of-record .ensures)))
+    (λ c κs. (c .before .before .before .before .before .before .before .before .before .before .before .few .ensures .1, omega arith, few-views _ _ _ _ _ _ _ (c .before .before .before .before .before .of-record .ensures .0), c .before .before .before .before .before .of-record .ensures .1))
     (λ c. search needs)
-    (λ c. shows _ _ _ _ _ _ _ (c .before .before .before .before .before .before .before .of-record .ensures) _ (c .before .before .before .before .before .before .before .before .before .before .before .before .before .few .ensures .0 ∙ sym (senders-count _ _)) _ _ _ (omega arith) (c .before .before .put-evidence .ensures)))
+    (λ c. shows _ _ _ _ _ _ _ (c .before .before .before .before .before .before .before .before .of-record .ensures .0) _ (c .before .before .before .before .before .before .before .before .before .before .before .before .before .before .few .ensures .0 ∙ sym (senders-count _ _)) _ _ _ (omega arith) (c .before .before .put-evidence .ensures)))

@@ -18,4 +18,4 @@ pekdrav-raw-record-evidence-spec =
     tie.close
     (tie.spec
     (λ c κs. search needs) (λ c κs. search needs) (λ c κs. search needs) (λ c κs. search needs) (λ c κs. search needs) (λ c. search needs) (λ c. search needs) (λ c. search needs) (λ c. search needs) (λ c κs. search needs) (λ c. search needs) (λ c. search needs) (λ c. search needs) (λ c. search needs) (λ c κs. search needs) (λ c. search needs) (λ c. search needs) (λ c κs. search needs) (λ c κs. search needs) (λ c κs. search needs)
-    (λ c. tells _ _ _ (c .before .before .before .before .before .before .before .before .before .before .before .before .before .before .before .before .before .before .before .before .before .before .before .before .before .before .args .out .now) (c .before .before .before .before .before .before .tell .last .0) (c .before .before .before .tell2 .last .0) (c .tell-payloads .last .0) _ _ _ (c .before .before .before .before .before .before .before .before .before .before .before .before .before .before .before .before .before .before .of-record .result) (c .before .before .before .before .before .before .before .before .before .before .told .result) (c .before .before .before .before .before .before .before .before .before .before .before .before .before .before .when2 .result) (c .before .before .before .before .before .before .before .before .before .before .before .before .before .when3 .result) (c .before .before .before .before .before .before .before .before .before .before .before .before .before .before .before .before .when .result) (c .before .before .before .before .before .before .before .before .before .common .result) (c .before .before .before .before .before .before .before .before .before .before .before .before .before .before .before .before .before .before .of-record .ensures) (c .before .before .before .before .before .before .before .before .before .before .before .before .before .before .before .before .before .before .before .before .before .before .before .before .room .ensures) (senders-few _ _) (c .before .before .before .before .before .before .before .before .before .before .told .ensures) (c .before .before .before .before .before .before .before .before .before .before .before .before .before .before .when2 .ensures) (c .before .before .before .before .before .before .before .before .before .before .before .before .before .when3 .ensures) (c .before .before .before .before .before .before .before .before .before .before .before .before .before .before .before .before .when .ensures) (c .before .before .before .before .before .before .before .before .before .common .ensures) (omega arith) (omega arith) (c .before .before .before .before .before .before .tell .ensures) (c .before .before .before .tell2 .ensures) (c .tell-payloads .ensures)))
+    (λ c. tells _ _ _ (c .before .before .before .before .before .before .before .before .before .before .before .before .before .before .before .before .before .before .before .before .before .before .before .before .before .before .args .out .now) (c .before .before .before .before .before .before .tell .last .0) (c .before .before .before .tell2 .last .0) (c .tell-payloads .last .0) _ _ _ (c .before .before .before .before .before .before .before .before .before .before .before .before .before .before .before .before .before .before .of-record .result) (c .before .before .before .before .before .before .before .before .before .before .told .result) (c .before .before .before .before .before .before .before .before .before .before .before .before .before .before .when2 .result) (c .before .before .before .before .before .before .before .before .before .before .before .before .before .when3 .result) (c .before .before .before .before .before .before .before .before .before .before .before .before .before .before .before .before .when .result) (c .before .before .before .before .before .before .before .before .before .common .result) (c .before .before .before .before .before .before .before .before .before .before .before .before .before .before .before .before .before .before .of-record .ensures .0) (c .before .before .before .before .before .before .before .before .before .before .before .before .before .before .before .before .before .before .before .before .before .before .before .before .room .ensures) (senders-few _ _) (c .before .before .before .before .before .before .before .before .before .before .told .ensures) (c .before .before .before .before .before .before .before .before .before .before .before .before .before .before .when2 .ensures) (c .before .before .before .before .before .before .before .before .before .before .before .before .before .when3 .ensures) (c .before .before .before .before .before .before .before .before .before .before .before .before .before .before .before .before .when .ensures) (c .before .before .before .before .before .before .before .before .before .common .ensures) (omega arith) (omega arith) (c .before .before .before .before .before .before .tell .ensures) (c .before .before .before .tell2 .ensures) (c .tell-payloads .ensures)))

@@ -12,4 +12,4 @@ has-words-spec =
     (λ c κs. search needs)
     (λ c. other-at-is _ _ _ _ (c .before .before .before .before .before .key .ensures) (c .before .before .before .if1 .left) (c .before .before .key2 .ensures) (c .if2 .taken))
     (λ c. search needs) (λ c. search needs) (λ c κs. search needs)
-    (λ c. tag-is _ _ _ _ (c .before .before .before .before .before .before .before .before .key .ensures) (c .before .before .before .before .before .before .if1 .left) (c .before .before .before .before .before .key2 .ensures) (c .before .before .before .if2 .left) (c .before .tag-of .ensures)))
+    (λ c. tag-is _ _ _ _ (c .before .before .before .before .before .before .before .before .key .ensures) (c .before .before .before .before .before .before .if1 .left) (c .before .before .before .before .before .key2 .ensures) (c .before .before .before .if2 .left) (c .before .own-of .ensures)))
