@@ -1,4 +1,5 @@
 /* What include/pekdrav.h adds to the library: each member of its structs is the word that the library has there, and each wrapper makes its call. */
+#include <stddef.h>
 #include <stdio.h>
 #include <string.h>
 
@@ -20,6 +21,10 @@ static struct pekdrav_controller controller, joiner;
 static struct pekdrav_pool pool;
 static const char join_line[] = "1,1,00000000,00000000,0,0,0,0,0,0";
 static const uint8_t senders[PEKDRAV_NOTICES] = {1, 3};
+static const uint64_t no_windows[PEKDRAV_WINDOWS] = {0};
+
+/* The minute of the week in which the turns are made that do not look at it. */
+static const uint16_t now = 5000;
 
 static const uint8_t *bytes(const char *text) { return (const uint8_t *)text; }
 
@@ -28,23 +33,98 @@ static void check_setup(void) {
     struct pekdrav_value value;
     pekdrav_pool_clear(&pool);
     pekdrav_controller_init(&controller);
-    CHECK(pekdrav_controller_turn(&controller, &pool, &value) == PEKDRAV_ANSWER_REFUSED && value.number == PEKDRAV_REFUSAL_OUT_OF_PLACE);
-    CHECK(pekdrav_controller_setup(&controller, 16, 8, 2, senders, &value) == PEKDRAV_ANSWER_REFUSED && value.number == PEKDRAV_REFUSAL_BAD_SETUP);
-    CHECK(pekdrav_controller_setup(&controller, 3, 8, 0, senders, &value) == PEKDRAV_ANSWER_REFUSED && value.number == PEKDRAV_REFUSAL_BAD_SETUP);
-    CHECK(pekdrav_controller_setup(&controller, 3, 8, 65, senders, &value) == PEKDRAV_ANSWER_REFUSED && value.number == PEKDRAV_REFUSAL_BAD_SETUP);
+    CHECK(pekdrav_controller_turn(&controller, &pool, now, &value) == PEKDRAV_ANSWER_REFUSED && value.number == PEKDRAV_REFUSAL_OUT_OF_PLACE);
+    CHECK(pekdrav_controller_setup(&controller, 16, 8, 2, senders, 0, no_windows, &value) == PEKDRAV_ANSWER_REFUSED && value.number == PEKDRAV_REFUSAL_BAD_SETUP);
+    CHECK(pekdrav_controller_setup(&controller, 3, 8, 0, senders, 0, no_windows, &value) == PEKDRAV_ANSWER_REFUSED && value.number == PEKDRAV_REFUSAL_BAD_SETUP);
+    CHECK(pekdrav_controller_setup(&controller, 3, 8, 65, senders, 0, no_windows, &value) == PEKDRAV_ANSWER_REFUSED && value.number == PEKDRAV_REFUSAL_BAD_SETUP);
     CHECK(!fields->ready);
-    CHECK(pekdrav_controller_setup(&controller, 3, 8, 2, senders, &value) == PEKDRAV_ANSWER_TAKEN && value.number == 0);
+    CHECK(pekdrav_controller_setup(&controller, 3, 8, 2, senders, 0, no_windows, &value) == PEKDRAV_ANSWER_TAKEN && value.number == 0);
     CHECK(fields->ready && fields->number == 3 && fields->initial == pekdrav_view(8, 0) && fields->notice_count == 2);
-    CHECK(fields->senders[0] == 1 && fields->senders[1] == 3);
+    CHECK(fields->senders[0] == 1 && fields->senders[1] == 3 && fields->window_count == 0);
     CHECK(fields->entered_count == 1 && fields->entered[0] == pekdrav_view(8, 0));
     CHECK(pekdrav_controller_binding(&controller, 1) == PEKDRAV_BINDING_UNBOUND && !pekdrav_controller_delivered(&controller, 1));
     CHECK(controller.record.count == 0);
 }
 
+/* Each number of a window has its bits, and the words of a controller have their places. */
+static void check_window(void) {
+    uint64_t window = pekdrav_window(6, 480, 1440);
+    CHECK(window == UINT64_C(0x000005a001e00006));
+    CHECK(pekdrav_window_weekday(window) == 6 && pekdrav_window_first(window) == 480 && pekdrav_window_end(window) == 1440);
+    CHECK(pekdrav_window(0xffff, 0, 0) == UINT64_C(0xffff) && pekdrav_window(0, 0xffff, 0) == UINT64_C(0xffff0000));
+    CHECK(pekdrav_window(0, 0, 0xffff) == UINT64_C(0xffff00000000) && pekdrav_window_end(UINT64_MAX) == UINT32_MAX);
+    CHECK(pekdrav_window_weekday(UINT64_MAX) == 0xffff && pekdrav_window_first(UINT64_MAX) == 0xffff);
+    CHECK(offsetof(struct pekdrav_fields, window_count) == 10 * sizeof(uint64_t));
+    CHECK(offsetof(struct pekdrav_fields, entered_count) == 12 * sizeof(uint64_t));
+    CHECK(offsetof(struct pekdrav_fields, windows) == 224 * sizeof(uint64_t));
+}
+
+/* What a setup of controller 3 with these windows answers: 0 if it is taken, else the refusal. */
+static uint64_t setup_with(struct pekdrav_controller *host, uint16_t members, uint8_t window_count, const uint64_t *windows) {
+    struct pekdrav_value value;
+    enum pekdrav_answer answer = pekdrav_controller_setup(host, 3, members, 2, senders, window_count, windows, &value);
+    return answer == PEKDRAV_ANSWER_TAKEN ? 0 : answer == PEKDRAV_ANSWER_REFUSED ? value.number : UINT64_MAX;
+}
+
+/* Setups refused for their windows; the first 8 alone are read. */
+static void check_bad_windows(void) {
+    static const uint64_t end_above[PEKDRAV_WINDOWS] = {UINT64_C(1441) << 32};
+    static const uint64_t end_high[PEKDRAV_WINDOWS] = {UINT64_C(0x10001) << 32};
+    static struct pekdrav_controller host;
+    uint64_t windows[PEKDRAV_WINDOWS];
+    pekdrav_controller_init(&host);
+    for (int i = 0; i < PEKDRAV_WINDOWS; i++) {
+        windows[i] = pekdrav_window(2, 480, 540);
+    }
+    CHECK(setup_with(&host, 8, PEKDRAV_WINDOWS + 1, windows) == PEKDRAV_REFUSAL_BAD_WINDOW);
+    CHECK(setup_with(&host, 8, 255, windows) == PEKDRAV_REFUSAL_BAD_WINDOW && setup_with(&host, 0, 9, windows) == PEKDRAV_REFUSAL_BAD_SETUP);
+    CHECK(setup_with(&host, 8, 1, end_above) == PEKDRAV_REFUSAL_BAD_WINDOW && setup_with(&host, 8, 1, end_high) == PEKDRAV_REFUSAL_BAD_WINDOW);
+    windows[7] = pekdrav_window(7, 480, 540);
+    CHECK(setup_with(&host, 8, 8, windows) == PEKDRAV_REFUSAL_BAD_WINDOW);
+    windows[7] = pekdrav_window(6, 540, 540);
+    CHECK(setup_with(&host, 8, 8, windows) == PEKDRAV_REFUSAL_BAD_WINDOW && !host.fields.ready);
+    CHECK(setup_with(&host, 8, 7, windows) == 0 && host.fields.ready && host.fields.window_count == 7);
+    CHECK(setup_with(&host, 8, 8, windows) == PEKDRAV_REFUSAL_BAD_SETUP);
+}
+
+/* A leave outside its windows and inside, in a ring of controller 3 alone: weekday 2 from 480 to 540, and the last minute of the week. */
+static void check_windows(void) {
+    static struct pekdrav_controller host;
+    static struct pekdrav_pool leaves;
+    uint64_t windows[PEKDRAV_WINDOWS] = {pekdrav_window(2, 480, 540), pekdrav_window(6, 1439, 1440)};
+    static const uint16_t outside[] = {0, 480, 3359, 3420, 4800, 10078};
+    static const uint16_t inside[] = {3360, 3419, 10079};
+    struct pekdrav_value value;
+    for (int i = 0; i < 3; i++) {
+        pekdrav_pool_clear(&leaves);
+        pekdrav_controller_init(&host);
+        CHECK(setup_with(&host, 8, 2, windows) == 0);
+        CHECK(host.fields.window_count == 2 && host.fields.windows[0] == windows[0] && host.fields.windows[1] == windows[1]);
+        CHECK(pekdrav_controller_leave(&host, &value) == PEKDRAV_ANSWER_TAKEN);
+        for (int j = 0; j < 6; j++) {
+            CHECK(pekdrav_controller_turn(&host, &leaves, outside[j], &value) == PEKDRAV_ANSWER_QUIET);
+        }
+        CHECK(pekdrav_controller_turn(&host, &leaves, 10080, &value) == PEKDRAV_ANSWER_REFUSED && value.number == PEKDRAV_REFUSAL_BAD_MINUTE);
+        CHECK(pekdrav_controller_turn(&host, &leaves, 65535, &value) == PEKDRAV_ANSWER_REFUSED && value.number == PEKDRAV_REFUSAL_BAD_MINUTE);
+        CHECK(pekdrav_controller_turn(&host, &leaves, inside[i], &value) == PEKDRAV_ANSWER_SIGNED && value.number == 0);
+    }
+    /* A stored count above 8 counts as 8. */
+    pekdrav_controller_init(&host);
+    for (int i = 0; i < PEKDRAV_WINDOWS; i++) {
+        windows[i] = pekdrav_window(0, (uint16_t)i, (uint16_t)(i + 1));
+    }
+    CHECK(setup_with(&host, 8, PEKDRAV_WINDOWS, windows) == 0 && pekdrav_controller_leave(&host, &value) == PEKDRAV_ANSWER_TAKEN);
+    CHECK(host.fields.window_count == PEKDRAV_WINDOWS && memcmp(host.fields.windows, windows, sizeof windows) == 0);
+    pekdrav_pool_clear(&leaves);
+    host.fields.window_count = UINT64_MAX;
+    CHECK(pekdrav_controller_turn(&host, &leaves, 8, &value) == PEKDRAV_ANSWER_QUIET);
+    CHECK(pekdrav_controller_turn(&host, &leaves, 7, &value) == PEKDRAV_ANSWER_SIGNED);
+}
+
 static void check_requests(void) {
     struct pekdrav_value value;
     pekdrav_controller_init(&joiner);
-    pekdrav_controller_setup(&joiner, 1, 8, 2, senders, &value);
+    pekdrav_controller_setup(&joiner, 1, 8, 2, senders, 0, no_windows, &value);
     CHECK(pekdrav_controller_leave(&joiner, &value) == PEKDRAV_ANSWER_REFUSED && value.number == PEKDRAV_REFUSAL_BAD_REQUEST);
     CHECK(pekdrav_controller_join(&joiner, &value) == PEKDRAV_ANSWER_TAKEN);
     CHECK(joiner.fields.join_requested && !joiner.fields.leave_requested && !pekdrav_controller_send_requested(&joiner, 0));
@@ -59,15 +139,15 @@ static void check_turns(void) {
     uint8_t text[PEKDRAV_TEXT_MAX];
     struct pekdrav_value value;
     for (uint64_t number = 0; number < 3; number++) {
-        CHECK(pekdrav_controller_turn(&controller, &pool, &value) == PEKDRAV_ANSWER_SIGNED && value.number == number);
+        CHECK(pekdrav_controller_turn(&controller, &pool, now, &value) == PEKDRAV_ANSWER_SIGNED && value.number == number);
     }
     CHECK(pekdrav_pool_text(&pool, 0, text, sizeof text) == 33 && memcmp(text, "6,3,00000000,00000000,1,0,7,0,0,0", 33) == 0);
     CHECK(controller.fields.bound == 2 && controller.fields.barred == 0 && controller.fields.payloads[1] == 7);
     CHECK(pekdrav_controller_binding(&controller, 1) == PEKDRAV_BINDING_BOUND && pekdrav_controller_binding(&controller, 0) == PEKDRAV_BINDING_UNBOUND);
-    CHECK(pekdrav_controller_turn(&controller, &pool, &value) == PEKDRAV_ANSWER_DELIVERED && value.number == 7 && value.notice == 1);
+    CHECK(pekdrav_controller_turn(&controller, &pool, now, &value) == PEKDRAV_ANSWER_DELIVERED && value.number == 7 && value.notice == 1);
     CHECK(pekdrav_controller_delivered(&controller, 1) && !pekdrav_controller_delivered(&controller, 0));
     CHECK(controller.record.count == 3 && controller.record.ids[2] == 2);
-    CHECK(pekdrav_controller_turn(&controller, &pool, &value) == PEKDRAV_ANSWER_QUIET);
+    CHECK(pekdrav_controller_turn(&controller, &pool, now, &value) == PEKDRAV_ANSWER_QUIET);
     CHECK(pekdrav_controller_leave(&controller, &value) == PEKDRAV_ANSWER_TAKEN && controller.fields.leave_requested);
 }
 
@@ -204,6 +284,9 @@ static void check_workspace(void) {
 }
 
 int main(void) {
+    check_window();
+    check_bad_windows();
+    check_windows();
     check_setup();
     check_requests();
     check_turns();

@@ -34,10 +34,13 @@ static void tell(int k, const struct pekdrav_value *value) {
     printf("%d delivered %" PRIu64 ", notice %" PRIu64 ", stored after %" PRIu64 " statements\n", k, value->number, value->notice, stores.read);
 }
 
+/* The minute of the week, which a host has from its clock; here it is always 9:30 of weekday 2. Only leaves depend on it, and here nobody leaves. */
+static uint16_t minute_of_the_week(void) { return 2 * 1440 + 9 * 60 + 30; }
+
 /* One turn. Answers 0 where there was nothing to do. */
 static int turn(int k) {
     struct pekdrav_value value;
-    switch (pekdrav_controller_turn(&ring[k].controller, &ring[k].pool, &value)) {
+    switch (pekdrav_controller_turn(&ring[k].controller, &ring[k].pool, minute_of_the_week(), &value)) {
     case PEKDRAV_ANSWER_SIGNED:
         pass_on(k, value.number);
         return 1;
@@ -58,11 +61,13 @@ static int turn(int k) {
 int main(void) {
     /* Notice 0 is sent by controller 0, notice 1 by controller 1. */
     static const uint8_t senders[PEKDRAV_NOTICES] = {0, 1};
+    /* Who asks to leave may do so on weekday 2 from 8:00 to 12:00. */
+    const uint64_t windows[PEKDRAV_WINDOWS] = {pekdrav_window(2, 480, 720)};
     struct pekdrav_value value;
     for (int k = 0; k < 2; k++) {
         pekdrav_pool_clear(&ring[k].pool);
         pekdrav_controller_init(&ring[k].controller);
-        pekdrav_controller_setup(&ring[k].controller, (uint8_t)k, 0x0003, 2, senders, &value);
+        pekdrav_controller_setup(&ring[k].controller, (uint8_t)k, 0x0003, 2, senders, 1, windows, &value);
     }
     pekdrav_controller_send(&ring[0].controller, 0, 7, &value);
     pekdrav_controller_send(&ring[1].controller, 1, 8, &value);

@@ -3,7 +3,7 @@
 //!     rt staticlib pekdrav
 //!     cargo run --release --offline --manifest-path rust/Cargo.toml -p pekdrav --example host
 
-use pekdrav::{Answer, Controller, Pool, Question};
+use pekdrav::{Answer, Controller, Pool, Question, Window};
 
 /// A controller with a pool of its own.
 #[derive(Default)]
@@ -26,10 +26,15 @@ fn tell(Seat { controller, pool }: &Seat, k: usize, notice: u8, payload: u64) {
     println!("{k} delivered {payload}, notice {notice}, stored after {} statements", stores.read);
 }
 
+/// The minute of the week, which a host has from its clock; here it is always 9:30 of weekday 2. Only leaves depend on it, and here nobody leaves.
+fn minute_of_the_week() -> u16 {
+    2 * 1440 + 9 * 60 + 30
+}
+
 /// One turn. Answers false where there was nothing to do.
 fn turn(ring: &mut [Seat; 2], k: usize) -> bool {
     let Seat { controller, pool } = &mut ring[k];
-    match controller.turn(pool) {
+    match controller.turn(pool, minute_of_the_week()) {
         Answer::Signed(number) => pass_on(ring, k, number),
         Answer::Entered(view) => println!("{k} entered {view}"),
         Answer::Delivered { notice, payload } => tell(&ring[k], k, notice, payload),
@@ -45,8 +50,8 @@ fn turn(ring: &mut [Seat; 2], k: usize) -> bool {
 fn main() {
     let mut ring: [Seat; 2] = Default::default();
     for (number, seat) in (0..).zip(&mut ring) {
-        // Notice 0 is sent by controller 0, notice 1 by controller 1.
-        seat.controller.setup(number, 0x0003, &[0, 1]);
+        // Notice 0 is sent by controller 0, notice 1 by controller 1. Who asks to leave may do so on weekday 2 from 8:00 to 12:00.
+        seat.controller.setup(number, 0x0003, &[0, 1], &[Window::new(2, 480, 720)]);
     }
     ring[0].controller.send(0, 7);
     ring[1].controller.send(1, 8);

@@ -2,7 +2,7 @@
  *
  * Every function answers whatever the memory holds and whatever the numbers are; it asks only that each pointer has the room named here, apart from that of
  * the others. None keeps a pointer, allocates or blocks. The contracts stand in crates/pekdrav. Signatures are the host's: check one before the line goes to
- * pekdrav_controller_add, and sign a line before it is sent.
+ * pekdrav_controller_add, and sign a line before it is sent. So is the clock: every turn is given the minute of the week.
  *
  * A view is a 64-bit word: the joined set in the low 32 bits, the left set in the high 32, bit k for controller k. Controllers are numbered 0 to 15: the
  * other bits are 0 in every view that a controller enters, and mean nothing in its fields and in a pool. */
@@ -22,6 +22,8 @@ extern "C" {
 #define PEKDRAV_VIEWS 16
 /* A setup names no more notices; they are numbered from 0. */
 #define PEKDRAV_NOTICES 64
+/* A setup carries no more windows. */
+#define PEKDRAV_WINDOWS 8
 /* A pool has no more statements, and so has a record. */
 #define PEKDRAV_STATEMENTS 512
 /* The words of a pool: 151 for each statement, and their number. */
@@ -66,7 +68,9 @@ enum pekdrav_refusal {
     PEKDRAV_REFUSAL_MANY_CANDIDATES = 6, /* on a turn, more than sixteen candidates */
     PEKDRAV_REFUSAL_CONFLICT = 7,        /* on a turn, the record contradicts itself: too many members lied */
     PEKDRAV_REFUSAL_OUT_OF_PLACE = 8,    /* any call before setup */
-    PEKDRAV_REFUSAL_UNKNOWN_NOTICE = 9   /* a statement or a send about a notice that the setup lacks */
+    PEKDRAV_REFUSAL_UNKNOWN_NOTICE = 9,  /* a statement or a send about a notice that the setup lacks */
+    PEKDRAV_REFUSAL_BAD_WINDOW = 10,     /* at setup, more than 8 windows, one out of range, or one whose first minute is not below its end */
+    PEKDRAV_REFUSAL_BAD_MINUTE = 11      /* on a turn, a minute above 10079 */
 };
 
 /* The kinds of statements: the first field of their text. */
@@ -100,8 +104,8 @@ struct pekdrav_record {
     uint16_t count;
 };
 
-/* What a controller has beside its record. Nothing is promised of what is reserved, of views after those entered, of notices after those of the setup and
- * of payloads of notices that are not bound, which stand for nothing. */
+/* What a controller has beside its record. Nothing is promised of what is reserved, of views after those entered, of notices and windows after those of the
+ * setup and of payloads of notices that are not bound, which stand for nothing. */
 struct pekdrav_fields {
     uint64_t ready; /* whether it is set up */
     uint64_t number;
@@ -113,13 +117,15 @@ struct pekdrav_fields {
     uint64_t leave_requested;
     uint64_t bound;  /* the notices that it is bound in, each to one payload */
     uint64_t barred; /* those that it is barred in; what is in both sets is barred */
-    uint64_t reserved_1[2];
+    uint64_t window_count; /* one above 8 counts as 8 */
+    uint64_t reserved_1[1];
     uint64_t entered_count;
     uint64_t reserved_2[3];
     uint64_t entered[PEKDRAV_VIEWS]; /* the views that it entered */
-    uint64_t senders[PEKDRAV_NOTICES];  /* by the number of the notice, as all that follows; the low eight bits count */
+    uint64_t senders[PEKDRAV_NOTICES];  /* by the number of the notice, as the next two; the low eight bits count */
     uint64_t payloads[PEKDRAV_NOTICES]; /* those that it is bound to */
     uint64_t send_payloads[PEKDRAV_NOTICES];
+    uint64_t windows[PEKDRAV_WINDOWS]; /* as pekdrav_window makes them */
 };
 
 /* A refused call leaves fields and record as they were. After any other the fields stand for the controller that the call leaves, and the record is as it
@@ -154,7 +160,7 @@ struct pekdrav_count {
 /* Compiles only where the structs lie in memory as the library has them. */
 typedef char pekdrav_layout[sizeof(struct pekdrav_pool) == PEKDRAV_POOL_WORDS * sizeof(uint64_t) &&
                                     sizeof(struct pekdrav_record) == (PEKDRAV_STATEMENTS + 1) * sizeof(uint16_t) &&
-                                    sizeof(struct pekdrav_fields) == 224 * sizeof(uint64_t) &&
+                                    sizeof(struct pekdrav_fields) == 232 * sizeof(uint64_t) &&
                                     sizeof(struct pekdrav_evidence) == 104 * sizeof(uint64_t) &&
                                     sizeof(struct pekdrav_count) == 2 * sizeof(uint64_t)
                                 ? 1
@@ -197,14 +203,16 @@ struct pekdrav_workspace {
 };
 void pekdrav_raw_controller_init(struct pekdrav_fields *fields, struct pekdrav_record *record);
 uint8_t pekdrav_raw_controller_setup(struct pekdrav_fields *fields, struct pekdrav_record *record, uint8_t number, uint16_t members, uint8_t count,
-                                     const uint8_t senders[PEKDRAV_NOTICES], struct pekdrav_value *value);
+                                     const uint8_t senders[PEKDRAV_NOTICES], uint8_t window_count, const uint64_t windows[PEKDRAV_WINDOWS],
+                                     struct pekdrav_value *value);
 uint8_t pekdrav_raw_controller_join(struct pekdrav_fields *fields, struct pekdrav_value *value);
 uint8_t pekdrav_raw_controller_leave(struct pekdrav_fields *fields, struct pekdrav_value *value);
 uint8_t pekdrav_raw_controller_send(struct pekdrav_fields *fields, uint8_t notice, uint64_t payload, struct pekdrav_value *value);
 uint8_t pekdrav_raw_controller_add(const struct pekdrav_fields *fields, struct pekdrav_record *record, struct pekdrav_pool *pool, const uint8_t *line,
                                    size_t line_len, struct pekdrav_value *value);
 uint8_t pekdrav_raw_controller_turn(struct pekdrav_fields *fields, struct pekdrav_record *record, struct pekdrav_pool *pool,
-                                    uint64_t keys[2 * PEKDRAV_STATEMENTS], uint64_t groups[PEKDRAV_STATEMENTS], struct pekdrav_value *value);
+                                    uint64_t keys[2 * PEKDRAV_STATEMENTS], uint64_t groups[PEKDRAV_STATEMENTS], uint16_t minute,
+                                    struct pekdrav_value *value);
 void pekdrav_raw_record_evidence(const struct pekdrav_record *record, const struct pekdrav_pool *pool, uint64_t initial, uint8_t count,
                                  const uint8_t senders[PEKDRAV_NOTICES], uint64_t keys[2 * PEKDRAV_STATEMENTS], uint64_t groups[PEKDRAV_STATEMENTS],
                                  struct pekdrav_evidence *out);
@@ -225,6 +233,15 @@ uint8_t pekdrav_raw_record_count_reports(const struct pekdrav_record *record, co
 static inline uint64_t pekdrav_view(uint32_t joined, uint32_t left) { return (uint64_t)left << 32 | joined; }
 static inline uint32_t pekdrav_view_joined(uint64_t view) { return (uint32_t)view; }
 static inline uint32_t pekdrav_view_left(uint64_t view) { return (uint32_t)(view >> 32); }
+
+/* The window of a weekday, 0 to 6, from its first minute on and before its end, 0 to 1440; and these numbers of a window. It is a 64-bit word: the weekday in
+ * the low 16 bits, the first minute in the next 16, the end in the high 32. */
+static inline uint64_t pekdrav_window(uint16_t weekday, uint16_t first, uint16_t end) {
+    return (uint64_t)end << 32 | (uint64_t)first << 16 | weekday;
+}
+static inline uint16_t pekdrav_window_weekday(uint64_t window) { return (uint16_t)window; }
+static inline uint16_t pekdrav_window_first(uint64_t window) { return (uint16_t)(window >> 16); }
+static inline uint32_t pekdrav_window_end(uint64_t window) { return (uint32_t)(window >> 32); }
 
 /* All that a record shows in a ring of this initial view and of `count` notices, of which 64 count at most, with these senders. Writes all of `out`. */
 static inline void pekdrav_record_evidence(const struct pekdrav_record *record, const struct pekdrav_pool *pool, uint64_t initial, uint8_t count,
@@ -288,10 +305,13 @@ static inline void pekdrav_controller_init(struct pekdrav_controller *controller
     pekdrav_raw_controller_init(&controller->fields, &controller->record);
 }
 
-/* Starts controller `number` in the ring of these initial members, bit k for controller k, and of `count` notices with these senders. */
+/* Starts controller `number` in the ring of these initial members, bit k for controller k, and of `count` notices with these senders. It leaves only in one
+ * of the first `window_count` windows, which may overlap, or at any time if there are none. */
 static inline enum pekdrav_answer pekdrav_controller_setup(struct pekdrav_controller *controller, uint8_t number, uint16_t members, uint8_t count,
-                                                           const uint8_t senders[PEKDRAV_NOTICES], struct pekdrav_value *value) {
-    return (enum pekdrav_answer)pekdrav_raw_controller_setup(&controller->fields, &controller->record, number, members, count, senders, value);
+                                                           const uint8_t senders[PEKDRAV_NOTICES], uint8_t window_count,
+                                                           const uint64_t windows[PEKDRAV_WINDOWS], struct pekdrav_value *value) {
+    return (enum pekdrav_answer)pekdrav_raw_controller_setup(&controller->fields, &controller->record, number, members, count, senders, window_count,
+                                                             windows, value);
 }
 
 /* Note a request, which a later turn acts on; the record has no part in it. */
@@ -314,10 +334,11 @@ static inline enum pekdrav_answer pekdrav_controller_add(struct pekdrav_controll
     return (enum pekdrav_answer)pekdrav_raw_controller_add(&controller->fields, &controller->record, pool, line, line_len, value);
 }
 
-/* Does the first step that the rules allow. */
-static inline enum pekdrav_answer pekdrav_controller_turn(struct pekdrav_controller *controller, struct pekdrav_pool *pool, struct pekdrav_value *value) {
+/* Does the first step that the rules allow in this minute of the week, 0 to 10079: 1440 for each weekday before, and the minute of the day. */
+static inline enum pekdrav_answer pekdrav_controller_turn(struct pekdrav_controller *controller, struct pekdrav_pool *pool, uint16_t minute,
+                                                          struct pekdrav_value *value) {
     struct pekdrav_workspace work;
-    return (enum pekdrav_answer)pekdrav_raw_controller_turn(&controller->fields, &controller->record, pool, work.keys, work.groups, value);
+    return (enum pekdrav_answer)pekdrav_raw_controller_turn(&controller->fields, &controller->record, pool, work.keys, work.groups, minute, value);
 }
 
 /* Whether it delivered this notice, and whether a send of it was requested; no for a notice that the setup lacks. */

@@ -4,7 +4,7 @@
 -- Assumes nothing.
 use Prim.Native.Nat.{ℕ, _^_, _<_}
 use native.Mathlib.Omega.{arith}
-use mathlib.Core.Path.{_≡_, refl, sym, ap, subst, _∙_}
+use mathlib.Core.Path.{_≡_, refl, sym, ap, ap₂, subst, _∙_}
 use mathlib.Core.List.{List, [], _∷_, _++_}
 use mathlib.Core.Option.{Option, some, none}
 use mathlib.Core.Bool.{Bool, true, false, _||_}
@@ -17,7 +17,7 @@ use Rattle.text.specs.Text.{decText}
 use Rattle.text.proofs.Laws.{dec-same}
 use Rattle.statements.specs.Text.{parted, text}
 use Rattle.statements.proofs.One.{text-same}
-use Rattle.schedule.specs.Line.{Line, setup, join, leave, send, give, all, turn, lie, noStatement, joinWord, leaveWord, sendWord, giveWord, allWord, turnWord, lieWord, ended, Byte, Written, Reads, lines}
+use Rattle.schedule.specs.Line.{Line, setup, join, leave, send, give, all, turn, lie, noStatement, Short, joinWord, leaveWord, sendWord, giveWord, allWord, turnWord, lieWord, ended, Byte, Written, Reads, lines}
 use Rattle.bench.specs.Bench.{Bench, newBench, step}
 use Rattle.bench.specs.Rows.{headerText, ReadAll, refusedRow, rowsFrom, Printed}
 use Rattle.schedule.proofs.Words.{verbIs, written-verb, OfVerb, of-verb}
@@ -38,13 +38,21 @@ module _ (T′ : List ℕ) where
   unfolding parted
   named-one w k k′ (h, e) (h′, e′) = number-one k k′ (omega arith) (omega arith) (tails w (decText k) (decText k′) e e′)
 
+  -- a controller and a number
+  pair-one : (w : List ℕ) (k n k′ n′ : ℕ) → k < 16 → n < 2 ^ 64 → ended T′ ≡ ended (parted (w ∷ decText k ∷ decText n ∷ [])) → k′ < 16 → n′ < 2 ^ 64 → ended T′ ≡ ended (parted (w ∷ decText k′ ∷ decText n′ ∷ []))
+      → (k ≡ k′) × (n ≡ n′)
+  unfolding parted
+  pair-one w k n k′ n′ h g e h′ g′ e′ =
+      let (ek, d) = dec-same k k′ (44 ∷ decText n) (44 ∷ decText n′) (omega arith) (omega arith) refl refl (tails w (decText k ++ 44 ∷ decText n) (decText k′ ++ 44 ∷ decText n′) e e′) in
+      (ek, number-one n n′ g g′ (ap (drop 1) d))
+
   give-one : (k n k′ n′ : ℕ) → (k < 16) × (n < 2 ^ 64) × (ended T′ ≡ ended (parted (giveWord ∷ decText k ∷ decText n ∷ [])))
       → (k′ < 16) × (n′ < 2 ^ 64) × (ended T′ ≡ ended (parted (giveWord ∷ decText k′ ∷ decText n′ ∷ []))) → give k n ≡ give k′ n′
-  unfolding parted
-  give-one k n k′ n′ (h, g, e) (h′, g′, e′) =
-      let (ek, d) = dec-same k k′ (44 ∷ decText n) (44 ∷ decText n′) (omega arith) (omega arith) refl refl (tails giveWord (decText k ++ 44 ∷ decText n) (decText k′ ++ 44 ∷ decText n′) e e′) in
-      let en = number-one n n′ g g′ (ap (drop 1) d) in
-      ap (λ (x : ℕ). give x n) ek ∙ ap (give k′) en
+  give-one k n k′ n′ (h, g, e) (h′, g′, e′) = let (ek, en) = pair-one giveWord k n k′ n′ h g e h′ g′ e′ in ap₂ give ek en
+
+  turn-one : (k m k′ m′ : ℕ) → (k < 16) × Short m × (ended T′ ≡ ended (parted (turnWord ∷ decText k ∷ decText m ∷ []))) → (k′ < 16) × Short m′ × (ended T′ ≡ ended (parted (turnWord ∷ decText k′ ∷ decText m′ ∷ [])))
+      → turn k m ≡ turn k′ m′
+  turn-one k m k′ m′ (h, g, e) (h′, g′, e′) = let (ek, em) = pair-one turnWord k m k′ m′ h (omega arith) e h′ (omega arith) e′ in ap₂ turn ek em
 
   send-one : (k i m k′ i′ m′ : ℕ) → (k < 16) × Byte i × (m < 2 ^ 64) × (ended T′ ≡ ended (parted (sendWord ∷ decText k ∷ decText i ∷ decText m ∷ [])))
       → (k′ < 16) × Byte i′ × (m′ < 2 ^ 64) × (ended T′ ≡ ended (parted (sendWord ∷ decText k′ ∷ decText i′ ∷ decText m′ ∷ []))) → send k i m ≡ send k′ i′ m′
@@ -62,13 +70,13 @@ module _ (T′ : List ℕ) where
 
   module _ (n : ℕ) where
     one-of : (l : Line) → Written n l (ended T′) → OfVerb (verbIs l) (λ l′. Written n l′ (ended T′) → l ≡ l′)
-    one-of (setup m L f) w = λ m′ L′ f′ w′. setup-same T′ n m L f m′ L′ f′ w w′
+    one-of (setup s f) w = λ s′ f′ w′. setup-same T′ n s f s′ f′ w w′
     one-of (join k) w = λ k′ w′. ap join (named-one joinWord k k′ w w′)
     one-of (leave k) w = λ k′ w′. ap leave (named-one leaveWord k k′ w w′)
     one-of (send k i m) w = λ k′ i′ m′ w′. send-one k i m k′ i′ m′ w w′
     one-of (give k i) w = λ k′ i′ w′. give-one k i k′ i′ w w′
     one-of (all k) w = λ k′ w′. ap all (named-one allWord k k′ w w′)
-    one-of (turn k) w = λ k′ w′. ap turn (named-one turnWord k k′ w w′)
+    one-of (turn k m) w = λ k′ m′ w′. turn-one k m k′ m′ w w′
     one-of (lie s) w = (λ s′ w′. ap lie (text-same n s s′ (keeps-fits n s (w .0)) (keeps-fits n s′ (w′ .0)) (lie-text (text s) (text s′) (w .1) (w′ .1))), λ w′. absurd (w′ .2 s (w .0) (lie-text (w′ .0) (text s) (w′ .1) (w .1))))
     one-of noStatement w = (λ s′ w′. absurd (w .2 s′ (w′ .0) (lie-text (w .0) (text s′) (w .1) (w′ .1))), λ w′. refl)
 

@@ -16,7 +16,7 @@ use borrow.Author.Tests.{lt-ltb, le-ltb, eq-eqb, ne-eqb}
 use Rattle.protocol.specs.Lists.{listOf}
 use Rattle.protocol.specs.View.{controllers}
 use Rattle.protocol.specs.Controller as controller
-use Rattle.protocol.specs.Call.{setupAllowed, started}
+use Rattle.protocol.specs.Call.{started}
 use Rattle.protocol.specs.Turn.{turn as turnOf}
 use Rattle.text.specs.Written.{Wrote}
 use Rattle.text.proofs.Stores.{both}
@@ -48,7 +48,7 @@ use Rattle.bench.specs.Bench as bench
 use Rattle.bench.specs.Bench.{Seat, emptySeat, Bench, Reply, newBench, step}
 use Rattle.bench.specs.Rows.{rowText, headerText, rowsFrom, ReadAll, refusedRow, Printed}
 use Rattle.bench.specs.Writing.{wordFor, valueIs, rowOf}
-use Rattle.bench.specs.Seats.{blank, seatIs, termsOf, benchOf, Sound, Full, Keeps, ReadFrom, seatOf, sendersIn, seatsAfter, replyIs, changesIs, CalledAtSeat, IfIdle, Rests, CalledByLine, nextTurn, Judged, LacksNothing, Advanced, SteppedBy, wordOfAnswer, valueOfAnswer}
+use Rattle.bench.specs.Seats.{blank, seatIs, termsOf, benchOf, Sound, Full, Keeps, ReadFrom, seatOf, setupIn, MayStart, seatsAfter, replyIs, changesIs, CalledAtSeat, IfIdle, Rests, CalledByLine, nextTurn, Judged, LacksNothing, Advanced, SteppedBy, wordOfAnswer, valueOfAnswer}
 use Rattle.bench.specs.Running.{rowIs, seatsIs, benchIs, BenchKept, Fulls, Turnings, Started, Reading, RunSoFar, AtStart, HasRoom, RowWritten, RowPut, fullAfter, LineRun, Ran, PrintedInto}
 use Rattle.bench.proofs.Rows.{shown}
 use Rattle.bench.proofs.Records.{full-none, full-kept}
@@ -175,7 +175,7 @@ idle-same W W′ (Refused r) e = refl
 rests-as : (W W′ R R′ : List ℕ) (c d : Controller) (v : Verdict) → controllerIs d ≡ controllerIs c → recordIn W′ R′ ≡ recordIn W R → IfIdle v (Rests W R c) → IfIdle v (Rests W′ R′ d)
 rests-as W W′ R R′ c d (Idle a) e f r = record {
   idle = r .idle;
-  turns = λ room. ap₂ (λ x X. turnOf x X room) e f ∙ r .turns room
+  turns = λ room minute l. ap₂ (λ x X. turnOf x X room minute) e f ∙ r .turns room minute l
       ∙ ap₂ (λ b (o : controller.Outcome). record { answer = b; controller = o .controller; statements = o .statements }) (idle-same W W′ a (r .idle)) (ap₂ (λ x X. record { answer = controller.quiet; controller = x; statements = X }) (sym e) (sym f));
 }
 rests-as W W′ R R′ c d Open e f r = tt
@@ -235,15 +235,15 @@ module _ (g : Setting) (W W′ : List ℕ) (cs cs′ : List Controller) (Rs : Li
 
 -- ---- a line that calls none
 
-module _ (g : Setting) (W W′ : List ℕ) (cs : List Controller) (Rs : List (List ℕ)) (R′ : List ℕ) (k : ℕ) (l : Line) (y : Reply) (n : Setting) (fresh : Bool) (S : List ℕ) (h : k < 16) (m : BenchKept W cs Rs)
-    (a : Advanced W (getD Rs k []) g k l y n fresh W′ R′ S) where
+module _ (g : Setting) (W W′ : List ℕ) (cs : List Controller) (Rs : List (List ℕ)) (R′ : List ℕ) (k : ℕ) (l : Line) (y : Reply) (n : Setting) (fresh : Bool) (S A : List ℕ) (h : k < 16) (m : BenchKept W cs Rs)
+    (a : Advanced W (getD Rs k []) g k l y n fresh W′ R′ S A) where
   abbrev X₀ : List Seat
   X₀ = seatsIs W cs Rs
 
   abbrev begins : List Seat
-  begins = listOf controllers (λ j. record { controller = started j (n .members) (sendersIn n S); statements = [] })
+  begins = listOf controllers (λ j. record { controller = started j (setupIn n S A); statements = [] })
 
-  went : step (benchIs g W cs Rs) (some l) ≡ record { reply = y; bench = benchOf (n .ready) (termsOf n) (seatsAfter fresh n S W′ R′ k X₀) W′ }
+  went : step (benchIs g W cs Rs) (some l) ≡ record { reply = y; bench = benchOf (n .ready) (termsOf n) (seatsAfter fresh (setupIn n S A) W′ R′ k X₀) W′ }
   went = a .steps X₀ (ap (λ (s : Seat). s .statements) (seat-there W cs Rs k h))
 
   line-left : fresh ≡ false → step (benchIs g W cs Rs) (some l) ≡ record { reply = y; bench = benchIs n W′ cs (set Rs k R′) }
@@ -255,7 +255,7 @@ module _ (g : Setting) (W W′ : List ℕ) (cs : List Controller) (Rs : List (Li
   line-kept : fresh ≡ false → BenchKept W′ cs (set Rs k R′)
   line-kept e = kept-set W W′ cs cs Rs R′ k h m (a .grows e) (others-none cs k) (a .sound e)
 
-  module _ (cs″ : List Controller) (Rs″ : List (List ℕ)) (s : Started (n .members) (sendersIn n S) cs″ Rs″) where
+  module _ (cs″ : List Controller) (Rs″ : List (List ℕ)) (s : Started (setupIn n S A) cs″ Rs″) where
     empty-record : (j : ℕ) → j < 16 → recordIn W′ (getD Rs″ j []) ≡ []
     unfolding recordUpTo listOf
     empty-record j b = ap (λ i. listOf i (λ i. stmtAt W′ (getD (getD Rs″ j []) i 0))) (s .each j b .1)
@@ -264,7 +264,7 @@ module _ (g : Setting) (W W′ : List ℕ) (cs : List Controller) (Rs : List (Li
     unfolding seatsIs
     fresh-left e = went ∙ ap (λ X. record { reply = y; bench = benchOf (n .ready) (termsOf n) X W′ })
         (if-true fresh begins (set X₀ k (record { controller = getD X₀ k emptySeat .controller; statements = recordIn W′ R′ })) e
-        ∙ listOf-cong 16 (λ j. record { controller = started j (n .members) (sendersIn n S); statements = [] }) (λ j. seatIs W′ (getD cs″ j blank) (getD Rs″ j []))
+        ∙ listOf-cong 16 (λ j. record { controller = started j (setupIn n S A); statements = [] }) (λ j. seatIs W′ (getD cs″ j blank) (getD Rs″ j []))
         (λ j b. ap₂ (λ x z. record { controller = x; statements = z }) (sym (s .each j b .0)) (sym (empty-record j b))))
 
     fresh-kept : fresh ≡ true → BenchKept W′ cs″ Rs″
@@ -366,7 +366,7 @@ module _ (S : List ℕ) (place : Place) (r : ReadLine) (of : LineOf (take (lengt
       call-reads : (n : ℕ) → Reads n (ended body) (some (a .line))
       call-reads = subst (λ u. Tells u (ended body)) (a .means) (line-fits .tells)
 
-      pub call-on : {R₀ rows rows′ : List ℕ} {on : Place} {number : ℕ} {v : Verdict} → RunSoFar S place (benchIs (place .setting) W cs Rs) R₀ rows → place .at < length S → number ≡ signedNumber (o .answer) → v ≡ nextTurn l (o .answer)
+      pub call-on : {R₀ rows rows′ : List ℕ} {on : Place} {number : ℕ} {v : Verdict} → RunSoFar S place (benchIs (place .setting) W cs Rs) R₀ rows → place .at < length S → number ≡ signedNumber (o .answer) → v ≡ nextTurn (getD cs k blank) l (o .answer)
           → RowPut rows place (r .next) (rowIs (place .n) k (o .answer) number) on rows′
           → BenchKept W′ cs′ (set Rs k R′) × RunSoFar S on (benchIs (on .setting) W′ cs′ (set Rs k R′)) R₀ rows′ × Fulls (set Rs k R′) fs × Turnings W′ cs′ (set Rs k R′) (set vs k v)
       call-on {R₀} {rows} {rows′} {on} {number} {v} going more z x p = (
@@ -421,10 +421,10 @@ module _ (S : List ℕ) (place : Place) (r : ReadLine) (of : LineOf (take (lengt
       )
 
     -- one that calls no controller
-    module _ (W W′ : List ℕ) (cs : List Controller) (Rs : List (List ℕ)) (fs R′ : List ℕ) (k : ℕ) (q : k ≡ seatOf (Readable l)) (m : BenchKept W cs Rs) (w : Fulls Rs fs) {vs : List Verdict} (y : Turnings W cs Rs vs) (s : Moved) (rows rows′ senders : List ℕ) (more : place .at < length S)
-        (a : LineRun W (getD Rs k []) place (seatOf (Readable l)) body rows s W′ R′ rows′ senders) where
-      run-at : Advanced W (getD Rs k []) (place .setting) k (a .line) (a .reply) (s .place .setting) (s .fresh) W′ R′ senders
-      run-at = subst (λ j. Advanced W (getD Rs k []) (place .setting) j (a .line) (a .reply) (s .place .setting) (s .fresh) W′ R′ senders) (sym q) (a .advanced)
+    module _ (W W′ : List ℕ) (cs : List Controller) (Rs : List (List ℕ)) (fs R′ : List ℕ) (k : ℕ) (q : k ≡ seatOf (Readable l)) (m : BenchKept W cs Rs) (w : Fulls Rs fs) {vs : List Verdict} (y : Turnings W cs Rs vs) (s : Moved) (rows rows′ senders windows : List ℕ) (more : place .at < length S)
+        (a : LineRun W (getD Rs k []) place (seatOf (Readable l)) body rows s W′ R′ rows′ senders windows) where
+      run-at : Advanced W (getD Rs k []) (place .setting) k (a .line) (a .reply) (s .place .setting) (s .fresh) W′ R′ senders windows
+      run-at = subst (λ j. Advanced W (getD Rs k []) (place .setting) j (a .line) (a .reply) (s .place .setting) (s .fresh) W′ R′ senders windows) (sym q) (a .advanced)
 
       run-passed : RowWritten rows place (r .next) (rowText (place .n) (a .reply)) (s .place) rows′
       run-passed = subst (λ n. RowWritten rows place n (rowText (place .n) (a .reply)) (s .place) rows′) (body-long more) (a .passed)
@@ -435,22 +435,22 @@ module _ (S : List ℕ) (place : Place) (r : ReadLine) (of : LineOf (take (lengt
       pub run-on : {R₀ : List ℕ} → s .fresh ≡ false → RunSoFar S place (benchIs (place .setting) W cs Rs) R₀ rows
           → BenchKept W′ cs (set Rs k R′) × RunSoFar S (s .place) (benchIs (s .place .setting) W′ cs (set Rs k R′)) R₀ rows′ × Fulls (set Rs k R′) (set fs k (s .full)) × Turnings W′ cs (set Rs k R′) (set vs k Open)
       run-on {R₀} e′ going = (
-        line-kept (place .setting) W W′ cs Rs R′ k (a .line) (a .reply) (s .place .setting) (s .fresh) senders (line-seat q) m run-at e′,
+        line-kept (place .setting) W W′ cs Rs R′ k (a .line) (a .reply) (s .place .setting) (s .fresh) senders windows (line-seat q) m run-at e′,
         goes-on S place (s .place) (benchIs (place .setting) W cs Rs) (benchIs (s .place .setting) W′ cs (set Rs k R′)) R₀ rows rows′ going r (part-read S (place .at) r of) more (some (a .line)) (line-reads (termsOf (place .setting) .notices) (a .line) (a .reads)) (a .reply)
-            (line-left (place .setting) W W′ cs Rs R′ k (a .line) (a .reply) (s .place .setting) (s .fresh) senders (line-seat q) m run-at e′) run-passed,
+            (line-left (place .setting) W W′ cs Rs R′ k (a .line) (a .reply) (s .place .setting) (s .fresh) senders windows (line-seat q) m run-at e′) run-passed,
         fulls-set Rs fs k (line-seat q) (m .records) w R′ (s .full) (a .full-is e′),
         turnings-set W W′ cs cs Rs vs R′ k (line-seat q) m (run-at .grows e′) (others-none cs k) y Open tt,
       )
 
-      pub run-allowed : s .fresh ≡ true → setupAllowed 0 (s .place .setting .members) (sendersIn (s .place .setting) senders) ≡ true
+      pub run-allowed : s .fresh ≡ true → MayStart (setupIn (s .place .setting) senders windows)
       run-allowed e′ = run-at .begun e′ .1
 
-      pub run-fresh : {R₀ : List ℕ} (cs″ : List Controller) (Rs″ : List (List ℕ)) (f : ℕ) → f ≡ 16 → s .fresh ≡ true → Started (s .place .setting .members) (sendersIn (s .place .setting) senders) cs″ Rs″ → RunSoFar S place (benchIs (place .setting) W cs Rs) R₀ rows
+      pub run-fresh : {R₀ : List ℕ} (cs″ : List Controller) (Rs″ : List (List ℕ)) (f : ℕ) → f ≡ 16 → s .fresh ≡ true → Started (setupIn (s .place .setting) senders windows) cs″ Rs″ → RunSoFar S place (benchIs (place .setting) W cs Rs) R₀ rows
           → BenchKept W′ cs″ Rs″ × RunSoFar S (s .place) (benchIs (s .place .setting) W′ cs″ Rs″) R₀ rows′ × Fulls Rs″ (replicate f 0) × Turnings W′ cs″ Rs″ (replicate f Open)
       run-fresh {R₀} cs″ Rs″ f z e′ d going = (
-        fresh-kept (place .setting) W W′ cs Rs R′ k (a .line) (a .reply) (s .place .setting) (s .fresh) senders (line-seat q) m run-at cs″ Rs″ d e′,
+        fresh-kept (place .setting) W W′ cs Rs R′ k (a .line) (a .reply) (s .place .setting) (s .fresh) senders windows (line-seat q) m run-at cs″ Rs″ d e′,
         goes-on S place (s .place) (benchIs (place .setting) W cs Rs) (benchIs (s .place .setting) W′ cs″ Rs″) R₀ rows rows′ going r (part-read S (place .at) r of) more (some (a .line)) (line-reads (termsOf (place .setting) .notices) (a .line) (a .reads)) (a .reply)
-            (fresh-left (place .setting) W W′ cs Rs R′ k (a .line) (a .reply) (s .place .setting) (s .fresh) senders (line-seat q) m run-at cs″ Rs″ d e′) run-passed,
+            (fresh-left (place .setting) W W′ cs Rs R′ k (a .line) (a .reply) (s .place .setting) (s .fresh) senders windows (line-seat q) m run-at cs″ Rs″ d e′) run-passed,
         fulls-none Rs″ f z,
         turnings-none W′ cs″ Rs″ f z,
       )
@@ -480,10 +480,10 @@ module _ (W R : List ℕ) (place : Place) (l : Held) (T : List ℕ) (full : ℕ)
   full-after R′ n true k h = h refl
   full-after R′ n false k h = full-kept R R′ k full f
 
-  pub run-stepped : {W′ R′ : List ℕ} {st : Effect} {on : Place} {rows′ : List ℕ} {known : ℕ} {S : List ℕ} → SteppedBy W R (place .setting) (seatOf (Readable l)) T st W′ R′ S → RowPut rows place (length T + 1) (rowIs (place .n) (st .who) (st .answer) (st .number)) on rows′
+  pub run-stepped : {W′ R′ : List ℕ} {st : Effect} {on : Place} {rows′ : List ℕ} {known : ℕ} {S A : List ℕ} → SteppedBy W R (place .setting) (seatOf (Readable l)) T st W′ R′ S A → RowPut rows place (length T + 1) (rowIs (place .n) (st .who) (st .answer) (st .number)) on rows′
       → known ≡ fullAfter (st .whole) (poolLen W′) full
-      → LineRun W R place (seatOf (Readable l)) T rows (record { place = record { setting = st .setting; at = on .at; n = on .n; out = on .out }; fresh = st .fresh; full = known }) W′ R′ rows′ S
-  run-stepped {W′} {R′} {st} {on} {rows′} {known} {S} a p z = record {
+      → LineRun W R place (seatOf (Readable l)) T rows (record { place = record { setting = st .setting; at = on .at; n = on .n; out = on .out }; fresh = st .fresh; full = known }) W′ R′ rows′ S A
+  run-stepped {W′} {R′} {st} {on} {rows′} {known} {S} {A} a p z = record {
     line = a .line;
     reads = a .reads;
     reply = replyIs W′ (st .who) (st .answer) (st .number);

@@ -19,6 +19,7 @@ use Rattle.protocol.specs.Pool.{numberOf, pooled, hasRoom}
 use Rattle.protocol.specs.Turn.{turn as turnOf}
 use Rattle.protocol.proofs.Numbered.{listOf-at}
 use Rattle.protocol.proofs.Asked.{says-same-stmt}
+use Rattle.protocol.proofs.Found.{either}
 use Rattle.protocol.proofs.Unchanged.{Idle, Stays, join-stays, leave-stays, send-stays, turn-stays}
 use Rattle.views.proofs.Tables.{any-zero, any-suc, any-at, map-listOf}
 use Rattle.views.proofs.Views.{passes}
@@ -39,8 +40,8 @@ use Rattle.pool.proofs.Records.{pool-length, record-length}
 use Rattle.bench.specs.declared.seat.Given.{Given}
 use Rattle.bench.specs.Bench as bench
 use Rattle.bench.specs.Bench.{Seat, emptySeat, Bench, Stepped, step}
-use Rattle.bench.specs.Seats.{seatIs, Terms, benchOf, Distinct, Sound, numbersIn, hasNumber, Full, Keeps, NumberMarks, unmarked, RecordFilled, refusedFor, takenAs, GivenAtSeat, Gives, GivesAll, changesIs, CalledAtSeat, IfIdle, Rests, turnAfter, CalledByLine}
-use Rattle.bench.proofs.Unchanged.{idle-answer, Unsigned, join-unsigned, leave-unsigned, send-unsigned, Resting, turn-rests}
+use Rattle.bench.specs.Seats.{seatIs, Terms, benchOf, Distinct, Sound, numbersIn, hasNumber, Full, Keeps, NumberMarks, unmarked, RecordFilled, refusedFor, takenAs, GivenAtSeat, Gives, GivesAll, changesIs, CalledAtSeat, IfIdle, Rests, turnAfter, waitsAt, turnKnown, minuteIn, CalledByLine}
+use Rattle.bench.proofs.Unchanged.{idle-answer, Unsigned, join-unsigned, leave-unsigned, send-unsigned, Resting, Waits, turn-rests}
 use Rattle.bench.proofs.Records.{ids, keeps-same, keeps-pushed, below-pushed, within-pool, pool-within, pool-most, keeps-filled, full-filled, filter-append, filter-one, numbers-pushed}
 
 -- ---- a statement is in a record just where its number is
@@ -427,44 +428,48 @@ resting-idle : (a : controller.Answer) → Resting a → Idle a
 resting-idle controller.left r = tt
 resting-idle controller.quiet r = tt
 
+waits-as : (c : Controller) (minute : ℕ) → waitsAt c minute ≡ false → Waits (controllerIs c) [] minute ≡ false
+unfolding waitsAt controllerIs
+waits-as c minute e = e
+
 same-outcome : {o : controller.Outcome} {a : controller.Answer} {d : controller.Controller} {X : List Stmt} → o .answer ≡ a → o .controller ≡ d → o .statements ≡ X → o ≡ record { answer = a; controller = d; statements = X }
 same-outcome {o} {a} e f g = ap (λ x. record { answer = x; controller = o .controller; statements = o .statements }) e ∙ ap₂ (λ d X. record { answer = a; controller = d; statements = X }) f g
 
-module _ (W R W′ R′ : List ℕ) (c : Controller) (k : ℕ) (ro : Outcome) (s : Sound W R) where
+module _ (W R W′ R′ : List ℕ) (c : Controller) (k minute : ℕ) (ro : Outcome) (s : Sound W R) where
   abbrev outcome : controller.Outcome
-  outcome = turnOf (controllerIs c) (recordIn W R) (hasRoom (poolOf W))
+  outcome = turnOf (controllerIs c) (recordIn W R) (hasRoom (poolOf W)) minute
 
-  turns : Turns W R c outcome ro W′ R′ → CalledAtSeat W R c k (turn k) ro W′ R′
+  turns : Turns W R c outcome ro W′ R′ → CalledAtSeat W R c k (turn k minute) ro W′ R′
   unfolding step bench.turnAt
   turns m = record {
     steps = λ ready terms X x.
-        ap (λ (t : Seat). bench.afterTurn (benchOf ready terms X W) k (turnOf (t .controller) (t .statements) (hasRoom (poolOf W))) (turnOf (t .controller) (t .statements) (hasRoom (poolOf W)) .answer)) x
+        ap (λ (t : Seat). bench.afterTurn (benchOf ready terms X W) k (turnOf (t .controller) (t .statements) (hasRoom (poolOf W)) minute) (turnOf (t .controller) (t .statements) (hasRoom (poolOf W)) minute .answer)) x
         ∙ after-turn (benchOf ready terms X W) k outcome (outcome .answer)
         ∙ replied k ready terms (sym (m .answer)) (number-then W W′ (ro .answer) (outcome .answer) (m .answer) (m .number))
         (ap (λ t. set X k t) (seat-of m (s .whole))) (sym (pool-then W W′ (outcome .answer) (m .pool)));
     sound = record { distinct = turn-keeps W W′ (outcome .answer) (pool-then W W′ (outcome .answer) (m .pool)) (s .distinct) .0; whole = m .statements (s .whole) .1 };
     grows = turn-keeps W W′ (outcome .answer) (pool-then W W′ (outcome .answer) (m .pool)) (s .distinct) .1;
     keeps = keeps-after W R R′ (outcome .answer) (m .numbers);
-    same = stays-so m (turn-stays (controllerIs c) (recordIn W R) (hasRoom (poolOf W)));
+    same = stays-so m (turn-stays (controllerIs c) (recordIn W R) (hasRoom (poolOf W)) minute);
   }
 
   -- one that found nothing to do
-  turn-rested : Turns W R c outcome ro W′ R′ → IfIdle (turnAfter (ro .answer)) (Rests W′ R′ (ro .controller))
+  turn-rested : waitsAt c minute ≡ false → Turns W R c outcome ro W′ R′ → IfIdle (turnAfter (ro .answer)) (Rests W′ R′ (ro .controller))
   unfolding answerIs
-  turn-rested m = go (ro .answer) refl
+  turn-rested w m = go (ro .answer) refl
     where
       same-controller : Resting (outcome .answer) → outcome .controller ≡ controllerIs c
-      same-controller r = turn-stays (controllerIs c) (recordIn W R) (hasRoom (poolOf W)) .stays (resting-idle (outcome .answer) r) .0
+      same-controller r = turn-stays (controllerIs c) (recordIn W R) (hasRoom (poolOf W)) minute .stays (resting-idle (outcome .answer) r) .0
 
       same-statements : Resting (outcome .answer) → outcome .statements ≡ recordIn W R
-      same-statements r = turn-stays (controllerIs c) (recordIn W R) (hasRoom (poolOf W)) .stays (resting-idle (outcome .answer) r) .1
+      same-statements r = turn-stays (controllerIs c) (recordIn W R) (hasRoom (poolOf W)) minute .stays (resting-idle (outcome .answer) r) .1
 
       again : (a : Answer) → changesIs a ≡ false → outcome .answer ≡ answerIs W′ a → Resting (answerIs W′ a) → Rests W′ R′ (ro .controller) a
       again a i e r = record {
         idle = i;
-        turns = λ room.
-            ap₂ (λ d X. turnOf d X room) (m .controller ∙ same-controller (subst Resting (sym e) r)) (m .statements (s .whole) .0 ∙ same-statements (subst Resting (sym e) r))
-            ∙ turn-rests (controllerIs c) (recordIn W R) (hasRoom (poolOf W)) room (subst Resting (sym e) r)
+        turns = λ room minute′ l.
+            ap₂ (λ d X. turnOf d X room minute′) (m .controller ∙ same-controller (subst Resting (sym e) r)) (m .statements (s .whole) .0 ∙ same-statements (subst Resting (sym e) r))
+            ∙ turn-rests (controllerIs c) (recordIn W R) (hasRoom (poolOf W)) room minute minute′ (waits-as c minute w) l (subst Resting (sym e) r)
             ∙ same-outcome e (sym (m .controller)) (sym (m .statements (s .whole) .0));
       }
 
@@ -476,6 +481,11 @@ module _ (W R W′ R′ : List ℕ) (c : Controller) (k : ℕ) (ro : Outcome) (s
       go Left e = again Left refl (sym (m .answer) ∙ ap (answerIs W′) e) tt
       go Quiet e = again Quiet refl (sym (m .answer) ∙ ap (answerIs W′) e) tt
       go (Refused r) e = tt
+
+  -- what is known of its next turn
+  turn-known : Turns W R c outcome ro W′ R′ → IfIdle (turnKnown c minute (ro .answer)) (Rests W′ R′ (ro .controller))
+  unfolding turnKnown
+  turn-known m = either (λ v. IfIdle v (Rests W′ R′ (ro .controller))) (waitsAt c minute) (λ w. tt) (λ w. turn-rested w m)
 
 -- the line that calls
 module _ (W R : List ℕ) (c : Controller) (o : Outcome) (s : Sound W R) {l : Held} {k : ℕ} where
@@ -492,5 +502,7 @@ module _ (W R : List ℕ) (c : Controller) (o : Outcome) (s : Sound W R) {l : He
   calls-send {i} {payload} e m = subst (λ x. CalledByLine W R c x o W R) (sym e)
       (record { line = send k i payload; means = refl; called = asked W R c k (send k i payload) o s (λ d X. requestSend d X i payload) (λ d X. send-stays d X i payload) (λ d X. send-unsigned d X i payload) m (λ b. refl); rests = tt })
 
-  pub calls-turn : {W′ R′ : List ℕ} → l ≡ is.Turn k → Turns W R c (turnOf (controllerIs c) (recordIn W R) (hasRoom (poolOf W))) o W′ R′ → CalledByLine W R c l o W′ R′
-  calls-turn {W′} {R′} e m = subst (λ x. CalledByLine W R c x o W′ R′) (sym e) (record { line = turn k; means = refl; called = turns W R W′ R′ c k o s m; rests = turn-rested W R W′ R′ c k o s m })
+  pub calls-turn : {W′ R′ : List ℕ} (minute : ℕ) → l ≡ is.Turn k (minuteIn l) → minute ≡ minuteIn l → Turns W R c (turnOf (controllerIs c) (recordIn W R) (hasRoom (poolOf W)) minute) o W′ R′ → CalledByLine W R c l o W′ R′
+  calls-turn {W′} {R′} minute e f m =
+      let m′ : Turns W R c (turnOf (controllerIs c) (recordIn W R) (hasRoom (poolOf W)) (minuteIn l)) o W′ R′ = subst (λ n. Turns W R c (turnOf (controllerIs c) (recordIn W R) (hasRoom (poolOf W)) n) o W′ R′) f m in
+      subst (λ x. CalledByLine W R c x o W′ R′) (sym e) (record { line = turn k (minuteIn l); means = refl; called = turns W R W′ R′ c k (minuteIn l) o s m′; rests = turn-known W R W′ R′ c k (minuteIn l) o s m′ })

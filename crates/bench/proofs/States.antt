@@ -1,6 +1,6 @@
 -- What a line comes to that calls no controller: on one record, on the pool, or on all.
 -- Assumes nothing.
-use mathlib.Core.Path.{_≡_, refl, sym, ap, subst, _∙_}
+use mathlib.Core.Path.{_≡_, refl, sym, ap, ap₂, subst, _∙_}
 use mathlib.Core.Bool.{Bool, true, false, not, _&&_, _||_, true≢false}
 use mathlib.Core.List.{List, [], _∷_, _++_}
 use mathlib.Core.Option.{some, none}
@@ -18,6 +18,8 @@ use Rattle.protocol.specs.Lists.{if_then_else_, any, listOf}
 use Rattle.protocol.specs.View.{controllers, member}
 use Rattle.protocol.specs.Statement.{Stmt, sameStmt}
 use Rattle.protocol.specs.Controller as controller
+use Rattle.protocol.specs.Window.{Window, windowsAllowed}
+use Rattle.protocol.specs.Call as call
 use Rattle.protocol.specs.Call.{setupAllowed, started}
 use Rattle.protocol.proofs.Bits.{bit-zero}
 use Rattle.protocol.proofs.Found.{none≢some, if-true, if-false}
@@ -33,6 +35,8 @@ use Rattle.pool.specs.Pool.{stmtAt, poolLen, recordUpTo, recordLen, recordIn, p
 use Rattle.pool.specs.Changes as memory
 use Rattle.pool.specs.Steps.{foundOf}
 use Rattle.pool.proofs.Searches.{found-at, full≢at, at-injective}
+use Rattle.windows.specs.Windows.{windowsIn}
+use Rattle.windows.proofs.Windows.{few-windows}
 use Rattle.engine.specs.declared.Refusal.{Refusal}
 use Rattle.engine.specs.declared.Refusal.the-variants as refusal
 use Rattle.engine.specs.declared.Answer.the-variants.{Taken}
@@ -50,9 +54,10 @@ use Rattle.bench.specs.declared.state.Effect.{Effect}
 use Rattle.schedule.specs.Line.{Line, setup, all, lie, noStatement, ended}
 use Rattle.schedule.specs.Reading.{aLine, meant, Tells, Lying, LiedOf, SettingUp, SendersIn, ReadsSetup, SetupOf}
 use Rattle.schedule.proofs.Lies.{lie-untold}
+use Rattle.schedule.proofs.Windows.{windows-are, windows-allowed}
 use Rattle.bench.specs.Bench as bench
 use Rattle.bench.specs.Bench.{Seat, emptySeat, Bench, step}
-use Rattle.bench.specs.Seats.{termsOf, benchOf, Distinct, Sound, Full, Keeps, sendersIn, replyIs, refusedFor, takenAs, GivenAtSeat, Gives, GivesAll, ReadFrom, seatOf, isCall, ToldAs, SteppedAs, SteppedBy, SteppedOnPool, SteppedOnPoolBy, SetUpBy, shownIn, NoStatement, LacksNothing}
+use Rattle.bench.specs.Seats.{termsOf, benchOf, Distinct, Sound, Full, Keeps, setupIn, minuteIn, replyIs, refusedFor, takenAs, GivenAtSeat, Gives, GivesAll, ReadFrom, seatOf, isCall, ToldAs, SteppedAs, SteppedBy, SteppedOnPool, SteppedOnPoolBy, SetUpBy, shownIn, NoStatement, LacksNothing}
 use Rattle.bench.proofs.Records.{keeps-same}
 use Rattle.bench.proofs.Seats.{grows-same, seat-same, one-grows, one-distinct, all-needless}
 
@@ -66,17 +71,17 @@ pub told-as : {g : Setting} {who : ℕ} {r r′ : Given} {s : Effect} → r ≡ 
 told-as {g} {who} {r} {r′} {s} e t = subst (λ x. ToldAs g who x s) e t
 
 -- a line that was answered so and leaves all settings as they were: what it does to every bench that has the record R at seat k
-told-on : {W W′ R R′ : List ℕ} (S : List ℕ) {g : Setting} {k who : ℕ} {l : Line} {r : Given} {s : Effect} → who ≤ 16 → ToldAs g who r s → Sound W′ R′ → Grows W W′ → Keeps R R′ → (r .whole ≡ true → Full R′ (poolLen W′))
+told-on : {W W′ R R′ : List ℕ} (S A : List ℕ) {g : Setting} {k who : ℕ} {l : Line} {r : Given} {s : Effect} → who ≤ 16 → ToldAs g who r s → Sound W′ R′ → Grows W W′ → Keeps R R′ → (r .whole ≡ true → Full R′ (poolLen W′))
     → ((X : List Seat) → getD X k emptySeat .statements ≡ recordIn W R
     → step (benchOf (g .ready) (termsOf g) X W) (some l)
     ≡ record { reply = replyIs W′ who (r .answer) (r .number); bench = benchOf (g .ready) (termsOf g) (set X k (record { controller = getD X k emptySeat .controller; statements = recordIn W′ R′ })) W′ })
-    → SteppedAs W R g k l s W′ R′ S
-told-on {W} {W′} {R} {R′} S {g} {k} {who} {l} {r} {s} b e sound grows keeps full steps = record {
+    → SteppedAs W R g k l s W′ R′ S A
+told-on {W} {W′} {R} {R′} S A {g} {k} {who} {l} {r} {s} b e sound grows keeps full steps = record {
   who = omega (arith, e .who-is);
   advanced = record {
     steps = λ X x. steps X x
         ∙ stepped (sym (e .who-is)) (sym (ap (answerIs W′) (e .answer))) (sym (e .number)) (sym (ap (λ (t : Setting). t .ready) (e .setting))) (sym (ap (λ (t : Setting). t .faulty) (e .setting))) (sym (ap (λ (t : Setting). min (t .notices) 64) (e .setting)))
-        (sym (if-false (s .fresh) (listOf controllers (λ j. record { controller = started j (s .setting .members) (sendersIn (s .setting) S); statements = [] })) (set X k (record { controller = getD X k emptySeat .controller; statements = recordIn W′ R′ })) (e .fresh))) refl;
+        (sym (if-false (s .fresh) (listOf controllers (λ j. record { controller = started j (setupIn (s .setting) S A); statements = [] })) (set X k (record { controller = getD X k emptySeat .controller; statements = recordIn W′ R′ })) (e .fresh))) refl;
     sound = λ h. sound;
     grows = λ h. grows;
     keeps = λ h. keeps;
@@ -86,8 +91,8 @@ told-on {W} {W′} {R} {R′} S {g} {k} {who} {l} {r} {s} b e sound grows keeps 
 }
 
 -- a line that was answered on its record
-stepped-seated : {W R R′ : List ℕ} (S : List ℕ) {g : Setting} {k : ℕ} {l : Line} {r : Given} {s : Effect} → k < 16 → Distinct W → GivenAtSeat W R (g .ready) k l r R′ → ToldAs g k r s → SteppedAs W R g k l s W R′ S
-stepped-seated {W} S {g = g} b d m e = told-on S (omega arith) e (record { distinct = d; whole = m .whole }) (grows-same W) (m .keeps) (m .full) (λ X x. m .steps (termsOf g) X x)
+stepped-seated : {W R R′ : List ℕ} (S A : List ℕ) {g : Setting} {k : ℕ} {l : Line} {r : Given} {s : Effect} → k < 16 → Distinct W → GivenAtSeat W R (g .ready) k l r R′ → ToldAs g k r s → SteppedAs W R g k l s W R′ S A
+stepped-seated {W} S A {g = g} b d m e = told-on S A (omega arith) e (record { distinct = d; whole = m .whole }) (grows-same W) (m .keeps) (m .full) (λ X x. m .steps (termsOf g) X x)
 
 -- a line on the pool that was refused
 module _ {W : List ℕ} {g : Setting} {l : Line} {s : Effect} where
@@ -95,7 +100,7 @@ module _ {W : List ℕ} {g : Setting} {l : Line} {s : Effect} where
       → ((X : List Seat) → step (benchOf (g .ready) (termsOf g) X W) (some l) ≡ bench.refuseLine (benchOf (g .ready) (termsOf g) X W) who (refusalIs q)) → SteppedOnPool W g l s W
   unfolding answerIs
   pools-refused who q b d e h = record {
-    over = λ R S w. told-on S b e (record { distinct = d; whole = w }) (grows-same W) (keeps-same R) (λ t. absurd (true≢false (sym t)))
+    over = λ R S A w. told-on S A b e (record { distinct = d; whole = w }) (grows-same W) (keeps-same R) (λ t. absurd (true≢false (sym t)))
         (λ X x. h X ∙ ap (λ Y. bench.refuseLine (benchOf (g .ready) (termsOf g) Y W) who (refusalIs q)) (sym (seat-same X 0 x)));
   }
 
@@ -162,31 +167,36 @@ allowed-few : (members : ℕ) (L : List ℕ) → setupAllowed 0 members L ≡ tr
 unfolding setupAllowed
 allowed-few members L e = let a : T (setupAllowed 0 members L) = subst T (sym e) tt in let b : T (leb (length L) 64) = search (and-first, and-second) in leb→le (length L) 64 b
 
-module _ (members : ℕ) (L : List ℕ) (faulty : ℕ) where
+module _ (p : call.Setup) (faulty : ℕ) where
   -- the tests, over plain values
-  abbrev settled : Bench → Bool → Bool → bench.Stepped
-  settled b ready allowed =
-      if ready || not allowed then bench.refuseLine b (bench.shownSender L) controller.badSetup
+  abbrev settled : Bench → Bool → Bool → Bool → bench.Stepped
+  settled b ready allowed windows =
+      if ready || not allowed then bench.refuseLine b (bench.shownSender (p .senders)) controller.badSetup
+      else if not windows then bench.refuseLine b (bench.shownSender (p .senders)) controller.badWindow
       else record {
-        reply = record { who = bench.shownSender L; answer = controller.taken; number = 0 };
-        bench = record { isSetUp = true; faulty = faulty; notices = length L; seats = listOf controllers (λ k. record { controller = started k members L; statements = [] }); pool = [] };
+        reply = record { who = bench.shownSender (p .senders); answer = controller.taken; number = 0 };
+        bench = record { isSetUp = true; faulty = faulty; notices = length (p .senders); seats = listOf controllers (λ k. record { controller = started k p; statements = [] }); pool = [] };
       }
 
-  setup-is : (b : Bench) {ready allowed : Bool} → b .isSetUp ≡ ready → setupAllowed 0 members L ≡ allowed → step b (some (setup members L faulty)) ≡ settled b ready allowed
+  setup-is : (b : Bench) {ready allowed windows : Bool} → b .isSetUp ≡ ready → setupAllowed 0 (p .members) (p .senders) ≡ allowed → windowsAllowed (p .windows) ≡ windows → step b (some (setup p faulty)) ≡ settled b ready allowed windows
   unfolding step bench.setUp
-  setup-is b {ready} {allowed} e f = ap (λ t. settled b t (setupAllowed 0 members L)) e ∙ ap (settled b ready) f
+  setup-is b {ready} {allowed} {windows} e f g =
+      ap (λ t. settled b t (setupAllowed 0 (p .members) (p .senders)) (windowsAllowed (p .windows))) e ∙ ap (λ t. settled b ready t (windowsAllowed (p .windows))) f ∙ ap (settled b ready allowed) g
 
-module _ (W : List ℕ) (g : Setting) (T′ S : List ℕ) (r : ReadSetup) (of : SetupOf T′ S r) (by : SettingUp T′) where
+module _ (W : List ℕ) (g : Setting) (T′ S A : List ℕ) (r : ReadSetup) (of : SetupOf T′ S A r) (by : SettingUp T′) where
   -- the line is the setup that was read
-  said : ReadsSetup T′ S r
+  said : ReadsSetup T′ S A r
   said = go (r .ok) refl
     where
-      go : (b : Bool) → r .ok ≡ b → ReadsSetup T′ S r
+      go : (b : Bool) → r .ok ≡ b → ReadsSetup T′ S A r
       go true e = of .told e
-      go false e = absurd (of .untold e 0 (by .tells .0) (by .tells .1) (by .tells .2) (by .tells .3 0))
+      go false e = absurd (of .untold e 0 (by .tells .0) (by .tells .1) (by .tells .2 0))
 
   abbrev L₀ : List ℕ
   L₀ = said .senders
+
+  abbrev P₀ : call.Setup
+  P₀ = record { members = r .members; senders = L₀; windows = said .windows }
 
   who-is : shownIn S (r .count) ≡ bench.shownSender L₀
   who-is = ap (shownIn S) (sym (said .count)) ∙ shown-same S L₀ (said .stand)
@@ -194,19 +204,30 @@ module _ (W : List ℕ) (g : Setting) (T′ S : List ℕ) (r : ReadSetup) (of : 
   few-are : r .count ≤ 64 → firstSenders S (r .count) ≡ L₀
   few-are h = ap (firstSenders S) (sym (said .count)) ∙ first-are S L₀ (said .stand) (omega (arith, said .count))
 
-  as-setup : {s : Effect} {W′ : List ℕ} → ((R : List ℕ) → AllIn W R → SteppedAs W R g 0 (setup (r .members) L₀ (r .faulty)) s W′ R S) → SetUpBy W g T′ s W′ S
-  as-setup h = record { over = λ R w. record { line = setup (r .members) L₀ (r .faulty); reads = said .written (min (g .notices) 64); stepped = h R w } }
+  as-setup : {s : Effect} {W′ : List ℕ} → ((R : List ℕ) → AllIn W R → SteppedAs W R g 0 (setup P₀ (r .faulty)) s W′ R S A) → SetUpBy W g T′ s W′ S A
+  as-setup h = record { over = λ R w. record { line = setup P₀ (r .faulty); reads = said .written (min (g .notices) 64); stepped = h R w } }
+
+  -- the senders in memory are those of the line
+  module _ (a : setupAllowed 0 (r .members) (firstSenders S (r .count)) ≡ true) where
+    senders-are : firstSenders S (r .count) ≡ L₀
+    senders-are = few-are (omega (arith, allowed-few (r .members) (firstSenders S (r .count)) a, first-long S (r .count)))
+
+    allowed-so : setupAllowed 0 (r .members) L₀ ≡ true
+    allowed-so = ap (setupAllowed 0 (r .members)) (sym senders-are) ∙ a
 
   module _ (s : Effect) (d : Distinct W) where
-    refuses : {who : ℕ} → who ≡ shownIn S (r .count) → ToldAs g who (refusedFor refusal.BadSetup) s → (g .ready || not (setupAllowed 0 (r .members) L₀)) ≡ true → SetUpBy W g T′ s W S
-    refuses ew e o = as-setup (λ R w. pools-refused (bench.shownSender L₀) refusal.BadSetup (shown-most L₀) d (subst (λ k. ToldAs g k (refusedFor refusal.BadSetup) s) (ew ∙ who-is) e)
-        (λ X. setup-is (r .members) L₀ (r .faulty) (benchOf (g .ready) (termsOf g) X W) refl refl ∙ rw o) .over R S w)
+    refuses : (q : Refusal) {who : ℕ} → who ≡ shownIn S (r .count) → ToldAs g who (refusedFor q) s
+        → ((X : List Seat) → step (benchOf (g .ready) (termsOf g) X W) (some (setup P₀ (r .faulty))) ≡ bench.refuseLine (benchOf (g .ready) (termsOf g) X W) (bench.shownSender L₀) (refusalIs q)) → SetUpBy W g T′ s W S A
+    refuses q ew e h = as-setup (λ R w. pools-refused (bench.shownSender L₀) q (shown-most L₀) d (subst (λ k. ToldAs g k (refusedFor q) s) (ew ∙ who-is) e) h .over R S A w)
 
-    pub setup-again : {who : ℕ} → who ≡ shownIn S (r .count) → ToldAs g who (refusedFor refusal.BadSetup) s → g .ready ≡ true → SetUpBy W g T′ s W S
-    setup-again ew e q = refuses ew e (ap (λ t. t || not (setupAllowed 0 (r .members) L₀)) q)
+    bars : {who : ℕ} → who ≡ shownIn S (r .count) → ToldAs g who (refusedFor refusal.BadSetup) s → (g .ready || not (setupAllowed 0 (r .members) L₀)) ≡ true → SetUpBy W g T′ s W S A
+    bars ew e o = refuses refusal.BadSetup ew e (λ X. setup-is P₀ (r .faulty) (benchOf (g .ready) (termsOf g) X W) refl refl refl ∙ rw o)
 
-    pub setup-barred : {who : ℕ} → who ≡ shownIn S (r .count) → ToldAs g who (refusedFor refusal.BadSetup) s → setupAllowed 0 (r .members) (firstSenders S (r .count)) ≡ false → SetUpBy W g T′ s W S
-    setup-barred ew e q = refuses ew e (ap (λ t. g .ready || not t) barred ∙ or-both (g .ready))
+    pub setup-again : {who : ℕ} → who ≡ shownIn S (r .count) → ToldAs g who (refusedFor refusal.BadSetup) s → g .ready ≡ true → SetUpBy W g T′ s W S A
+    setup-again ew e q = bars ew e (ap (λ t. t || not (setupAllowed 0 (r .members) L₀)) q)
+
+    pub setup-barred : {who : ℕ} → who ≡ shownIn S (r .count) → ToldAs g who (refusedFor refusal.BadSetup) s → setupAllowed 0 (r .members) (firstSenders S (r .count)) ≡ false → SetUpBy W g T′ s W S A
+    setup-barred ew e q = bars ew e (ap (λ t. g .ready || not t) barred ∙ or-both (g .ready))
       where
         or-both : (b : Bool) → (b || true) ≡ true
         or-both true = refl
@@ -219,22 +240,26 @@ module _ (W : List ℕ) (g : Setting) (T′ S : List ℕ) (r : ReadSetup) (of : 
             go false h = refl
             go true h = absurd (true≢false (sym h ∙ ap (setupAllowed 0 (r .members)) (sym (few-are (omega (arith, said .count, allowed-few (r .members) L₀ h)))) ∙ q))
 
-  pub setup-taken : {who : ℕ} (W′ : List ℕ) → who ≡ shownIn S (r .count) → memory.Cleared W W′ → g .ready ≡ false → setupAllowed 0 (r .members) (firstSenders S (r .count)) ≡ true
-      → SetUpBy W g T′ (record { who = who; answer = Taken; number = 0; setting = record { ready = true; faulty = r .faulty; members = r .members; notices = r .count }; fresh = true; whole = false }) W′ S
+    pub setup-shut : {who : ℕ} → who ≡ shownIn S (r .count) → ToldAs g who (refusedFor refusal.BadWindow) s → g .ready ≡ false → setupAllowed 0 (r .members) (firstSenders S (r .count)) ≡ true
+        → windowsAllowed (windowsIn A (r .windows)) ≡ false → SetUpBy W g T′ s W S A
+    setup-shut ew e q a h = refuses refusal.BadWindow ew e (λ X. setup-is P₀ (r .faulty) (benchOf (g .ready) (termsOf g) X W) q (allowed-so a) (windows-allowed T′ S A r said ∙ h))
+
+  pub setup-taken : {who : ℕ} (W′ : List ℕ) → who ≡ shownIn S (r .count) → memory.Cleared W W′ → g .ready ≡ false → setupAllowed 0 (r .members) (firstSenders S (r .count)) ≡ true → windowsAllowed (windowsIn A (r .windows)) ≡ true
+      → SetUpBy W g T′ (record { who = who; answer = Taken; number = 0; setting = record { ready = true; faulty = r .faulty; members = r .members; notices = r .count; windows = r .windows }; fresh = true; whole = false }) W′ S A
   unfolding answerIs
-  setup-taken {who} W′ ew n q a =
+  setup-taken {who} W′ ew n q a v =
       let few : r .count ≤ 64 = omega (arith, allowed-few (r .members) (firstSenders S (r .count)) a, first-long S (r .count)) in
-      let same : firstSenders S (r .count) ≡ L₀ = few-are few in
-      let ok : setupAllowed 0 (r .members) L₀ ≡ true = ap (setupAllowed 0 (r .members)) (sym same) ∙ a in
+      let same : windowsIn A (r .windows) ≡ said .windows = windows-are T′ S A r said (few-windows A (r .windows) true (sym v) refl) in
       as-setup (λ R w. record {
         who = omega (arith, ew, who-is, shown-most L₀);
         advanced = record {
-          steps = λ X x. setup-is (r .members) L₀ (r .faulty) (benchOf (g .ready) (termsOf g) X W) q ok
-              ∙ stepped (sym (ew ∙ who-is)) refl refl refl refl (omega (arith, said .count)) (ap (λ (l : List ℕ). listOf controllers (λ k. record { controller = started k (r .members) l; statements = [] })) (sym same)) (no-pool W′ (n .len));
+          steps = λ X x. setup-is P₀ (r .faulty) (benchOf (g .ready) (termsOf g) X W) q (allowed-so a) (ap windowsAllowed (sym same) ∙ v)
+              ∙ stepped (sym (ew ∙ who-is)) refl refl refl refl (omega (arith, said .count))
+              (ap₂ (λ (l : List ℕ) (u : List Window). listOf controllers (λ k. record { controller = started k (record { members = r .members; senders = l; windows = u }); statements = [] })) (sym (senders-are a)) (sym same)) (no-pool W′ (n .len));
           sound = λ t. absurd (subst T t tt);
           grows = λ t. absurd (subst T t tt);
           keeps = λ t. absurd (subst T t tt);
-          begun = λ t. (n .len, a);
+          begun = λ t. (n .len, record { allowed = a; windows = v });
         };
         full = λ t. absurd (true≢false (sym t));
       })
@@ -354,7 +379,7 @@ module _ (W W′ : List ℕ) (g : Setting) (st : Statement) (B : List ℕ) (d : 
   pub lie-taken : (s : Effect) → ToldAs g (st .origin) (takenAs n false) s → SteppedOnPool W g (lie (stmtOf st B)) s W′
   unfolding stmtOf answerIs
   lie-taken s e = record {
-    over = λ R S w. told-on S (omega arith) e
+    over = λ R S A w. told-on S A (omega arith) e
         (record { distinct = one-distinct W W′ (stmtOf st B) longer (absent-in W (stmtOf st B) z) d; whole = whole-kept (one-grows W W′ (stmtOf st B) longer) R w }) (one-grows W W′ (stmtOf st B) longer) (keeps-same R) (λ t. absurd (true≢false (sym t)))
         (λ X x. lie-is (benchOf (g .ready) (termsOf g) X W) (stmtOf st B) q b k (absent-in W (stmtOf st B) z) (lt-leb 512 (length (poolOf W)) (omega (arith, pool-length W, room)))
         ∙ stepped refl refl (pool-length W ∙ sym placed-at) refl refl refl (sym (seat-same X 0 (x ∙ sym (record-kept (one-grows W W′ (stmtOf st B) longer) R w)))) (sym longer));
@@ -375,15 +400,25 @@ needless W g full k l e q b = subst (LacksNothing W g full) (sym e) (record {
 
 -- ---- what a line is that is none of the others
 
-pub last-call : (l : Held) → OneOf (0 ∷ 4 ∷ 5 ∷ 6 ∷ 7 ∷ []) (tagOf line.the-type l) → isCall l ≡ true → l ≡ is.Turn (seatOf (Readable l))
+pub last-call : (l : Held) → OneOf (0 ∷ 4 ∷ 5 ∷ 6 ∷ 7 ∷ []) (tagOf line.the-type l) → isCall l ≡ true → l ≡ is.Turn (seatOf (Readable l)) (minuteIn l)
 last-call is.Setup t e = absurd (true≢false (sym e))
 last-call (is.Join k) t e = absurd (miss (0 ∷ 4 ∷ 5 ∷ 6 ∷ 7 ∷ []) 1 tt t)
 last-call (is.Leave k) t e = absurd (miss (0 ∷ 4 ∷ 5 ∷ 6 ∷ 7 ∷ []) 2 tt t)
 last-call (is.Send k i m) t e = absurd (miss (0 ∷ 4 ∷ 5 ∷ 6 ∷ 7 ∷ []) 3 tt t)
 last-call (is.Give k n) t e = absurd (true≢false (sym e))
 last-call (is.All k) t e = absurd (true≢false (sym e))
-last-call (is.Turn k) t e = refl
+last-call (is.Turn k m) t e = refl
 last-call is.Lie t e = absurd (true≢false (sym e))
+
+pub no-minute : (l : Held) → OneOf (0 ∷ 1 ∷ 2 ∷ 3 ∷ 4 ∷ 5 ∷ 7 ∷ []) (tagOf line.the-type l) → 0 ≡ minuteIn l
+no-minute is.Setup t = refl
+no-minute (is.Join k) t = refl
+no-minute (is.Leave k) t = refl
+no-minute (is.Send k i m) t = refl
+no-minute (is.Give k n) t = refl
+no-minute (is.All k) t = refl
+no-minute (is.Turn k m) t = absurd (miss (0 ∷ 1 ∷ 2 ∷ 3 ∷ 4 ∷ 5 ∷ 7 ∷ []) 6 tt t)
+no-minute is.Lie t = refl
 
 pub last-other : (l : Held) → OneOf (1 ∷ 2 ∷ 3 ∷ 6 ∷ 7 ∷ []) (tagOf line.the-type l) → isCall l ≡ false → l ≡ is.Lie
 last-other is.Setup t e = absurd (miss (1 ∷ 2 ∷ 3 ∷ 6 ∷ 7 ∷ []) 0 tt t)
@@ -392,7 +427,7 @@ last-other (is.Leave k) t e = absurd (true≢false e)
 last-other (is.Send k i m) t e = absurd (true≢false e)
 last-other (is.Give k n) t e = absurd (miss (1 ∷ 2 ∷ 3 ∷ 6 ∷ 7 ∷ []) 4 tt t)
 last-other (is.All k) t e = absurd (miss (1 ∷ 2 ∷ 3 ∷ 6 ∷ 7 ∷ []) 5 tt t)
-last-other (is.Turn k) t e = absurd (true≢false e)
+last-other (is.Turn k m) t e = absurd (true≢false e)
 last-other is.Lie t e = refl
 
 -- ---- the line that was read
@@ -405,7 +440,7 @@ module _ {T′ : List ℕ} where
   fit-seat (is.Send k i m) t = t .tells 0 .0
   fit-seat (is.Give k n) t = t .tells 0 .0
   fit-seat (is.All k) t = t .tells 0 .0
-  fit-seat (is.Turn k) t = t .tells 0 .0
+  fit-seat (is.Turn k m) t = t .tells 0 .0
   fit-seat is.Lie t = omega arith
 
   pub fit-at : {l m : Held} → ReadFrom l T′ → l ≡ m → seatOf (Readable m) < 16
@@ -418,30 +453,30 @@ module _ {T′ : List ℕ} where
   fit-setup f e = record { tells = subst (λ x. Tells (meant x) (ended T′)) e (f .tells) }
 
 module _ {W W′ : List ℕ} {g : Setting} {s : Effect} (T′ : List ℕ) where
-  at-line : {R R′ S : List ℕ} {l m : Held} {line : Line} → ReadFrom l T′ → l ≡ m → meant m ≡ aLine line → SteppedAs W R g (seatOf (Readable m)) line s W′ R′ S → SteppedBy W R g (seatOf (Readable l)) T′ s W′ R′ S
-  at-line {R} {R′} {S} {l} {m} {line} f e q a = record {
+  at-line : {R R′ S A : List ℕ} {l m : Held} {line : Line} → ReadFrom l T′ → l ≡ m → meant m ≡ aLine line → SteppedAs W R g (seatOf (Readable m)) line s W′ R′ S A → SteppedBy W R g (seatOf (Readable l)) T′ s W′ R′ S A
+  at-line {R} {R′} {S} {A} {l} {m} {line} f e q a = record {
     line = line;
     reads = subst (λ o. Tells o (ended T′)) (ap meant e ∙ q) (f .tells) _;
-    stepped = subst (λ x. SteppedAs W R g (seatOf (Readable x)) line s W′ R′ S) (sym e) a;
+    stepped = subst (λ x. SteppedAs W R g (seatOf (Readable x)) line s W′ R′ S A) (sym e) a;
   }
 
-  pub at-setup : {S : List ℕ} {l : Held} → l ≡ is.Setup → SetUpBy W g T′ s W′ S → (R : List ℕ) → AllIn W R → SteppedBy W R g (seatOf (Readable l)) T′ s W′ R S
-  at-setup {S} e a R w = subst (λ x. SteppedBy W R g (seatOf (Readable x)) T′ s W′ R S) (sym e) (a .over R w)
+  pub at-setup : {S A : List ℕ} {l : Held} → l ≡ is.Setup → SetUpBy W g T′ s W′ S A → (R : List ℕ) → AllIn W R → SteppedBy W R g (seatOf (Readable l)) T′ s W′ R S A
+  at-setup {S} {A} e a R w = subst (λ x. SteppedBy W R g (seatOf (Readable x)) T′ s W′ R S A) (sym e) (a .over R w)
 
-  pub at-lie : {l : Held} → l ≡ is.Lie → SteppedOnPoolBy W g T′ s W′ → (R S : List ℕ) → AllIn W R → SteppedBy W R g (seatOf (Readable l)) T′ s W′ R S
-  at-lie e a R S w = subst (λ x. SteppedBy W R g (seatOf (Readable x)) T′ s W′ R S) (sym e) (a .over R S w)
+  pub at-lie : {l : Held} → l ≡ is.Lie → SteppedOnPoolBy W g T′ s W′ → (R S A : List ℕ) → AllIn W R → SteppedBy W R g (seatOf (Readable l)) T′ s W′ R S A
+  at-lie e a R S A w = subst (λ x. SteppedBy W R g (seatOf (Readable x)) T′ s W′ R S A) (sym e) (a .over R S A w)
 
   module _ (B : List ℕ) (l : ReadStatement) (of : LiedOf T′ (g .notices) B l) where
     pub at-told : l .ok ≡ true → SteppedOnPool W g (lie (stmtOf (l .statement) B)) s W′ → SteppedOnPoolBy W g T′ s W′
-    at-told e a = record { over = λ R S w. record { line = lie (stmtOf (l .statement) B); reads = of .told e; stepped = a .over R S w } }
+    at-told e a = record { over = λ R S A w. record { line = lie (stmtOf (l .statement) B); reads = of .told e; stepped = a .over R S A w } }
 
     pub at-untold : Lying T′ → l .ok ≡ false → SteppedOnPool W g noStatement s W′ → SteppedOnPoolBy W g T′ s W′
-    at-untold t e a = record { over = λ R S w. record { line = noStatement; reads = lie-untold T′ t (min (g .notices) 64) (of .untold e); stepped = a .over R S w } }
+    at-untold t e a = record { over = λ R S A w. record { line = noStatement; reads = lie-untold T′ t (min (g .notices) 64) (of .untold e); stepped = a .over R S A w } }
 
 -- a gift, to one record
-module _ {W R R′ : List ℕ} (S : List ℕ) {g : Setting} {s : Effect} {r : Given} (T′ : List ℕ) (d : Distinct W) {l : Held} {k : ℕ} (f : ReadFrom l T′) where
-  pub at-give : {n : ℕ} → l ≡ is.Give k n → Gives W R (g .ready) n r R′ → ToldAs g k r s → SteppedBy W R g (seatOf (Readable l)) T′ s W R′ S
-  at-give e m t = at-line T′ f e refl (stepped-seated S (fit-at f e) d (m .to k) t)
+module _ {W R R′ : List ℕ} (S A : List ℕ) {g : Setting} {s : Effect} {r : Given} (T′ : List ℕ) (d : Distinct W) {l : Held} {k : ℕ} (f : ReadFrom l T′) where
+  pub at-give : {n : ℕ} → l ≡ is.Give k n → Gives W R (g .ready) n r R′ → ToldAs g k r s → SteppedBy W R g (seatOf (Readable l)) T′ s W R′ S A
+  at-give e m t = at-line T′ f e refl (stepped-seated S A (fit-at f e) d (m .to k) t)
 
-  pub at-all : l ≡ is.All k → GivesAll W R (g .ready) r R′ → ToldAs g k r s → SteppedBy W R g (seatOf (Readable l)) T′ s W R′ S
-  at-all e m t = at-line T′ f e refl (stepped-seated S (fit-at f e) d (m .to k) t)
+  pub at-all : l ≡ is.All k → GivesAll W R (g .ready) r R′ → ToldAs g k r s → SteppedBy W R g (seatOf (Readable l)) T′ s W R′ S A
+  at-all e m t = at-line T′ f e refl (stepped-seated S A (fit-at f e) d (m .to k) t)

@@ -4,29 +4,32 @@ use mathlib.Core.Path.{_≡_, refl, sym, ap, subst, _∙_}
 use mathlib.Core.Bool.{Bool, true, false, not, true≢false, _||_}
 use mathlib.Core.List.{List}
 use mathlib.Core.Option.{some}
-use Prim.Native.Nat.{ℕ, _<_, min}
+use Prim.Native.Nat.{ℕ, _≤_, _<_, min}
 use native.Mathlib.Omega.{arith}
 use lib.Dec.{eqb, ltb}
 use lib.ListN.{length, getD}
-use borrow.Author.Tests.{eqb-true, ltb-true, eq-eqb, ne-eqb}
+use borrow.Author.Tests.{eqb-true, ltb-true, ltb-false, eq-eqb, ne-eqb, lt-ltb, le-ltb}
 use Rattle.protocol.specs.Sets.{bit}
 use Rattle.protocol.specs.Lists.{if_then_else_, isSome, when, listOf}
 use Rattle.protocol.specs.View.{member}
 use Rattle.protocol.specs.Statement.{Stmt}
 use Rattle.protocol.specs.Evidence.{senderOf}
+use Rattle.protocol.specs.Window.{lastMinute, isOpen}
 use Rattle.protocol.specs.Controller as controller
 use Rattle.protocol.specs.Call.{refuse, requestJoin, requestLeave, requestSend}
 use Rattle.protocol.specs.Pool.{hasRoom}
 use Rattle.protocol.specs.Turn.{turn as turnOf}
-use Rattle.protocol.proofs.Additions.{send-unready, send-unknown, send-barred}
+use Rattle.protocol.proofs.Additions.{turn-unready, turn-late, send-unready, send-unknown, send-barred}
+use Rattle.protocol.proofs.Found.{either}
 use Rattle.protocol.proofs.Numbered.{listOf-length, listOf-at}
 use Rattle.views.specs.Held.{viewIs, viewsIs}
 use Rattle.views.proofs.Held.{none-held}
 use Rattle.pool.specs.Pool.{recordIn}
 use Rattle.evidence.specs.Notices.{sendersOf}
+use Rattle.windows.specs.Windows.{windowsIn}
 use Rattle.engine.specs.declared.Controller.{Controller}
 use Rattle.engine.specs.declared.Refusal.{Refusal}
-use Rattle.engine.specs.declared.Refusal.the-variants.{BadRequest, OutOfPlace, UnknownNotice}
+use Rattle.engine.specs.declared.Refusal.the-variants.{BadRequest, OutOfPlace, UnknownNotice, BadMinute}
 use Rattle.engine.specs.declared.Answer.{Answer}
 use Rattle.engine.specs.declared.Answer.the-variants.{Taken, Signed, Entered, Delivered, Left, Quiet, Refused}
 use Rattle.engine.specs.Meaning.{controllerIs, signedNumber, answerIs, refusalIs}
@@ -37,11 +40,11 @@ use Rattle.bench.specs.declared.state.Verdict.{Verdict}
 use Rattle.bench.specs.declared.state.Verdict.the-variants.{Idle, Open}
 use Rattle.bench.specs.Bench as bench
 use Rattle.bench.specs.Bench.{Seat, Bench, Stepped, step}
-use Rattle.bench.specs.Seats.{seatIs, benchOf, Sound, isCall, changesIs, CalledAtSeat, IfIdle, Rests, turnAfter, CalledByLine, denied, joinVerdict, leaveVerdict, sendVerdict, Judged}
+use Rattle.bench.specs.Seats.{seatIs, benchOf, Sound, isCall, changesIs, CalledAtSeat, IfIdle, Rests, turnAfter, waitsAt, turnKnown, CalledByLine, denied, minuteIn, turnVerdict, joinVerdict, leaveVerdict, sendVerdict, Judged}
 use Rattle.bench.proofs.Records.{keeps-same}
 use Rattle.bench.proofs.Seats.{grows-same}
 
--- ---- refused requests and turns, of the protocol's controller
+-- ---- refused requests, of the protocol's controller
 
 module _ (d : controller.Controller) (X : List Stmt) where
   join-early : d .isSetUp ≡ false → requestJoin d X ≡ refuse d X controller.outOfPlace
@@ -60,10 +63,6 @@ module _ (d : controller.Controller) (X : List Stmt) where
   unfolding requestLeave
   leave-barred e f = rw (e, f)
 
-  turn-early : (room : Stmt → Bool) → d .isSetUp ≡ false → turnOf d X room ≡ refuse d X controller.outOfPlace
-  unfolding turnOf
-  turn-early room e = rw e
-
 or-true : (b : Bool) → (b || true) ≡ true
 or-true true = refl
 or-true false = refl
@@ -76,6 +75,15 @@ repeated : (b r : Bool) (m : ℕ) → r ≡ true → (b || isSome (when r m)) �
 repeated b r m e = rw e (or-true b)
 
 -- ---- the same in the bench
+
+-- what a turn does to seat k
+abbrev taking : ℕ → ℕ → Bench → Seat → Stepped
+taking k minute b u = bench.afterTurn b k (turnOf (u .controller) (u .statements) (hasRoom (b .pool)) minute) (turnOf (u .controller) (u .statements) (hasRoom (b .pool)) minute .answer)
+
+-- nothing is known after a refused turn
+known-refused : (P : Answer → Type 0) (c : Controller) (minute : ℕ) (q : Refusal) → IfIdle (turnKnown c minute (Refused q)) P
+unfolding turnKnown
+known-refused P c minute q = either (λ v. IfIdle v P) (waitsAt c minute) (λ w. tt) (λ w. tt)
 
 module _ (W R : List ℕ) (c : Controller) (s : Sound W R) where
   abbrev d₀ : controller.Controller
@@ -113,12 +121,11 @@ module _ (W R : List ℕ) (c : Controller) (s : Sound W R) where
   early (is.Send k i m) t e = record { line = send k i m; means = refl; called = asked OutOfPlace k (send k i m) (λ d X. requestSend d X i m) (λ b. refl) (send-unready d₀ X₀ i m e); rests = tt }
   early (is.Give k n) t e = absurd (true≢false (sym t))
   early (is.All k) t e = absurd (true≢false (sym t))
-  early (is.Turn k) t e = record {
-    line = turn k;
+  early (is.Turn k minute) t e = record {
+    line = turn k minute;
     means = refl;
-    called = refuses OutOfPlace k (turn k) (λ b u. bench.afterTurn b k (turnOf (u .controller) (u .statements) (hasRoom (b .pool))) (turnOf (u .controller) (u .statements) (hasRoom (b .pool)) .answer)) (λ b. refl)
-        (λ b. ap (λ (o : controller.Outcome). bench.afterTurn b k o (o .answer)) (turn-early d₀ X₀ (hasRoom (b .pool)) e));
-    rests = tt;
+    called = refuses OutOfPlace k (turn k minute) (taking k minute) (λ b. refl) (λ b. ap (λ (o : controller.Outcome). bench.afterTurn b k o (o .answer)) (turn-unready d₀ X₀ (hasRoom (b .pool)) minute e));
+    rests = known-refused (Rests W R c) c minute OutOfPlace;
   }
   early is.Lie t e = absurd (true≢false (sym t))
 
@@ -186,16 +193,26 @@ still-rests Left r = r
 still-rests Quiet r = r
 still-rests (Refused q) r = tt
 
-turn-rest : (W R : List ℕ) (c : Controller) (s : Sound W R) (k : ℕ) (t : Verdict) → IfIdle t (Rests W R c) → IfIdle t (λ a. CalledByLine W R c (is.Turn k) (record { answer = a; controller = c }) W R)
-unfolding step bench.turnAt
-turn-rest W R c s k (Idle a) r = record {
-  line = turn k;
+turn-rest : (W R : List ℕ) (c : Controller) (s : Sound W R) (k minute : ℕ) → minute ≤ lastMinute → (t : Verdict) → IfIdle t (Rests W R c) → IfIdle t (λ a. CalledByLine W R c (is.Turn k minute) (record { answer = a; controller = c }) W R)
+unfolding step bench.turnAt turnKnown
+turn-rest W R c s k minute l (Idle a) r = record {
+  line = turn k minute;
   means = refl;
-  called = idles W R c s a k (turn k) (λ b u. bench.afterTurn b k (turnOf (u .controller) (u .statements) (hasRoom (b .pool))) (turnOf (u .controller) (u .statements) (hasRoom (b .pool)) .answer)) (λ b. refl)
-      (λ b. ap (λ (o : controller.Outcome). bench.afterTurn b k o (o .answer)) (r .turns (hasRoom (b .pool))) ∙ after-idle W b k _ a (r .idle));
-  rests = still-rests a r;
+  called = idles W R c s a k (turn k minute) (taking k minute) (λ b. refl)
+      (λ b. ap (λ (o : controller.Outcome). bench.afterTurn b k o (o .answer)) (r .turns (hasRoom (b .pool)) minute l) ∙ after-idle W b k _ a (r .idle));
+  rests = either (λ v. IfIdle v (Rests W R c)) (waitsAt c minute) (λ w. tt) (λ w. still-rests a r);
 }
-turn-rest W R c s k Open r = tt
+turn-rest W R c s k minute l Open r = tt
+
+-- at a minute that no week has
+late : (W R : List ℕ) (c : Controller) (s : Sound W R) (k minute : ℕ) → c .ready ≡ true → ltb lastMinute minute ≡ true → CalledByLine W R c (is.Turn k minute) (record { answer = Refused BadMinute; controller = c }) W R
+unfolding step bench.turnAt bench.afterTurn controllerIs
+late W R c s k minute e f = record {
+  line = turn k minute;
+  means = refl;
+  called = refuses W R c s BadMinute k (turn k minute) (taking k minute) (λ b. refl) (λ b. ap (λ (o : controller.Outcome). bench.afterTurn b k o (o .answer)) (turn-late (controllerIs c) (recordIn W R) (hasRoom (b .pool)) minute e (ltb-true lastMinute minute f)));
+  rests = known-refused (Rests W R c) c minute BadMinute;
+}
 
 -- ---- the verdict on a line
 
@@ -213,10 +230,44 @@ module _ (c : Controller) (l : Held) (t : Verdict) where
     pub judged-send : {i m : ℕ} → l ≡ is.Send k i m → v ≡ sendVerdict c i → Judged c l t v
     judged-send {i} {m} e f = subst (λ x. Judged c x t v) (sym e) (subst (Judged c (is.Send k i m) t) (sym f) (record { answers = λ W R s r. send-denied W R c s ready k i m }))
 
-  pub judged-turn : {k : ℕ} → l ≡ is.Turn k → Judged c l t t
-  judged-turn {k} e = subst (λ x. Judged c x t t) (sym e) (record { answers = λ W R s r. turn-rest W R c s k t r })
+    pub judged-turn : l ≡ is.Turn k (minuteIn l) → (minute : ℕ) → minute ≡ minuteIn l → v ≡ turnVerdict minute t → Judged c l t v
+    unfolding turnVerdict
+    judged-turn e minute f g = subst (λ x. Judged c x t v) (sym e) (subst (Judged c (is.Turn k (minuteIn l)) t) (sym (g ∙ ap (λ n. turnVerdict n t) f)) (record { answers = λ W R s r. answers W R s r (ltb lastMinute (minuteIn l)) refl }))
+      where
+        answers : (W R : List ℕ) → Sound W R → IfIdle t (Rests W R c) → (b : Bool) → ltb lastMinute (minuteIn l) ≡ b
+            → IfIdle (turnVerdict (minuteIn l) t) (λ a. CalledByLine W R c (is.Turn k (minuteIn l)) (record { answer = a; controller = c }) W R)
+        answers W R s r true h = rw h (late W R c s k (minuteIn l) ready h)
+        answers W R s r false h = rw h (turn-rest W R c s k (minuteIn l) (ltb-false lastMinute (minuteIn l) h) t r)
 
 -- the tests of each
+
+module _ (minute : ℕ) (t : Verdict) where
+  pub turn-past : 10079 < minute → denied BadMinute ≡ turnVerdict minute t
+  unfolding turnVerdict
+  turn-past h = rw (lt-ltb 10079 minute h)
+
+  pub turn-open : minute ≤ 10079 → t ≡ turnVerdict minute t
+  unfolding turnVerdict
+  turn-open h = rw (le-ltb 10079 minute h)
+
+module _ (c : Controller) (minute : ℕ) where
+  pub waits-never : c .leaving ≡ false → false ≡ waitsAt c minute
+  unfolding waitsAt
+  waits-never e = rw e
+
+  pub waits-outside : (b : Bool) → c .leaving ≡ true → b ≡ isOpen (windowsIn (c .times) (min (c .windows) 8)) minute → not b ≡ waitsAt c minute
+  unfolding waitsAt controllerIs
+  waits-outside b e f = ap not f ∙ rw e
+
+  module _ (b : Bool) (e : b ≡ waitsAt c minute) (a : Answer) where
+    pub known-open : b ≡ true → Open ≡ turnKnown c minute a
+    unfolding turnKnown
+    known-open h = rw (sym e ∙ h)
+
+    pub known-after : b ≡ false → turnAfter a ≡ turnKnown c minute a
+    unfolding turnKnown
+    known-after h = rw (sym e ∙ h)
+
 module _ (c : Controller) where
   module _ (m : Bool) (e : m ≡ member (viewIs (c .init)) (c .number)) where
     pub join-member : m ≡ true → denied BadRequest ≡ joinVerdict c

@@ -1,4 +1,4 @@
--- The bench: sixteen controllers over one pool, and what a line does to it (document 01, "Bench schedule" and "Returned on refusal"; document 02, A1).
+-- The bench: sixteen controllers over one pool, and what a line does to it (document 01, "Bench schedule" and "Returned on refusal"; document 02, A1, A4).
 -- Assumes nothing.
 use mathlib.Core.Bool.{Bool, true, false, not, _||_}
 use mathlib.Core.List.{List, [], _∷_, _++_}
@@ -10,8 +10,9 @@ use Rattle.protocol.specs.Sets.{bit}
 use Rattle.protocol.specs.Lists.{if_then_else_, any, filter, listOf}
 use Rattle.protocol.specs.View.{controllers}
 use Rattle.protocol.specs.Statement.{Stmt, sameStmt, noStmt}
-use Rattle.protocol.specs.Controller.{Controller, notSetUp, Refusal, badSetup, badStatement, repeated, full, outOfPlace, unknownNotice, Answer, taken, signed, entered, delivered, left, quiet, refused, Outcome}
-use Rattle.protocol.specs.Call.{setupAllowed, started, requestJoin, requestLeave, requestSend}
+use Rattle.protocol.specs.Controller.{Controller, notSetUp, Refusal, badSetup, badStatement, repeated, full, outOfPlace, unknownNotice, badWindow, Answer, taken, signed, entered, delivered, left, quiet, refused, Outcome}
+use Rattle.protocol.specs.Window.{windowsAllowed}
+use Rattle.protocol.specs.Call.{Setup, setupAllowed, started, requestJoin, requestLeave, requestSend}
 use Rattle.protocol.specs.Pool.{numberOf, pooled, hasRoom}
 use Rattle.protocol.specs.Turn.{turn as turnOf}
 use Rattle.schedule.specs.Line.{Line, setup, join, leave, send, give, all, turn, lie, noStatement}
@@ -76,12 +77,13 @@ module _ (b : Bench) where
   onceSetUp who s = if b .isSetUp then s else refuseLine who outOfPlace
 
   -- "a setup that is taken starts all sixteen controllers on an empty pool".
-  unfoldable pub setUp : ℕ → List ℕ → ℕ → Stepped
-  setUp members senders faulty =
-      if b .isSetUp || not (setupAllowed 0 members senders) then refuseLine (shownSender senders) badSetup
+  unfoldable pub setUp : Setup → ℕ → Stepped
+  setUp s faulty =
+      if b .isSetUp || not (setupAllowed 0 (s .members) (s .senders)) then refuseLine (shownSender (s .senders)) badSetup
+      else if not (windowsAllowed (s .windows)) then refuseLine (shownSender (s .senders)) badWindow
       else record {
-        reply = record { who = shownSender senders; answer = taken; number = 0 };
-        bench = record { isSetUp = true; faulty = faulty; notices = length senders; seats = listOf controllers (λ k. record { controller = started k members senders; statements = [] }); pool = [] };
+        reply = record { who = shownSender (s .senders); answer = taken; number = 0 };
+        bench = record { isSetUp = true; faulty = faulty; notices = length (s .senders); seats = listOf controllers (λ k. record { controller = started k s; statements = [] }); pool = [] };
       }
 
   -- "Give adds statement n to k's record". "Give: 8, 3, 4." (Nothing in the pool would get 9.)
@@ -111,9 +113,9 @@ module _ (b : Bench) where
   afterTurn k o quiet = at k o (b .pool) 0
   afterTurn k o (refused r) = at k o (b .pool) 0
 
-  unfoldable pub turnAt : ℕ → Stepped
-  turnAt k =
-      let o : Outcome = turnOf (seat k .controller) (seat k .statements) (hasRoom (b .pool)) in
+  unfoldable pub turnAt : ℕ → ℕ → Stepped
+  turnAt k minute =
+      let o : Outcome = turnOf (seat k .controller) (seat k .statements) (hasRoom (b .pool)) minute in
       afterTurn k o (o .answer)
 
   -- "a lie changes the pool alone". "A lie line after setup: 2, 8 for its origin, 3, 4." (2 is the case of noStatement.) "a notice number not in the setup gets 9 ..,
@@ -132,12 +134,12 @@ module _ (b : Bench) where
   -- What a line does. A line that reads as none is refused with 8.
   unfoldable pub step : Option Line → Stepped
   step none = refuseLine nobody outOfPlace
-  step (some (setup members senders faulty)) = setUp members senders faulty
+  step (some (setup s faulty)) = setUp s faulty
   step (some (join k)) = at k (requestJoin (seat k .controller) (seat k .statements)) (b .pool) 0
   step (some (leave k)) = at k (requestLeave (seat k .controller) (seat k .statements)) (b .pool) 0
   step (some (send k notice payload)) = at k (requestSend (seat k .controller) (seat k .statements) notice payload) (b .pool) 0
   step (some (give k n)) = giveTo k n
   step (some (all k)) = giveAll k
-  step (some (turn k)) = turnAt k
+  step (some (turn k minute)) = turnAt k minute
   step (some (lie s)) = lieOf s
   step (some noStatement) = onceSetUp nobody (refuseLine nobody badStatement)

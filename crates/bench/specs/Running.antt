@@ -7,7 +7,7 @@ use mathlib.Core.Option.{Option, some}
 use Prim.Native.Nat.{ℕ, _+_, _*_, _<_, _≤_}
 use lib.ListN.{length, getD, drop}
 use Rattle.protocol.specs.Lists.{listOf}
-use Rattle.protocol.specs.Call.{started}
+use Rattle.protocol.specs.Call.{Setup, started}
 use Rattle.text.specs.Written.{Wrote}
 use Rattle.pool.specs.Pool.{recordLen, AllIn}
 use Rattle.engine.specs.declared.Controller.{Controller}
@@ -54,10 +54,10 @@ pub record Turnings (W : List ℕ) (cs : List Controller) (Rs : List (List ℕ))
   pub each : (k : ℕ) → k < 16 → IfIdle (getD vs k Open) (Rests W (getD Rs k []) (getD cs k blank))
 
 -- Every controller has just started, with an empty record.
-pub record Started (members : ℕ) (senders : List ℕ) (cs : List Controller) (Rs : List (List ℕ)) : Type 0 where
+pub record Started (p : Setup) (cs : List Controller) (Rs : List (List ℕ)) : Type 0 where
   pub long : length cs ≡ 16
   pub records : length Rs ≡ 16
-  pub each : (k : ℕ) → k < 16 → (controllerIs (getD cs k blank) ≡ started k members senders) × (recordLen (getD Rs k []) ≡ 0)
+  pub each : (k : ℕ) → k < 16 → (controllerIs (getD cs k blank) ≡ started k p) × (recordLen (getD Rs k []) ≡ 0)
 
 -- The whole schedule reads so, and its rows are those printed and then those of the rest.
 pub record Reading (S : List ℕ) (printed rest : List ℕ) : Type 0 where
@@ -106,13 +106,13 @@ abbrev pub fullAfter : Bool → ℕ → ℕ → ℕ
 fullAfter true n full = n
 fullAfter false n full = full
 
--- The line in the text T, which calls no controller, was run on the record R at seat k; the senders of a setup stand in the memory S after it.
-pub record LineRun (W R : List ℕ) (place : Place) (k : ℕ) (T : List ℕ) (rows : List ℕ) (s : Moved) (W′ R′ rows′ S : List ℕ) : Type 0 where
+-- The line in the text T, which calls no controller, was run on the record R at seat k; the senders and windows of a setup stand in the memory S and A after it.
+pub record LineRun (W R : List ℕ) (place : Place) (k : ℕ) (T : List ℕ) (rows : List ℕ) (s : Moved) (W′ R′ rows′ S A : List ℕ) : Type 0 where
   pub line : Line
   pub reads : Reads (termsOf (place .setting) .notices) (ended T) (some line)
   pub reply : Reply
   pub passed : RowWritten rows place (length T + 1) (rowText (place .n) reply) (s .place) rows′
-  pub advanced : Advanced W R (place .setting) k line reply (s .place .setting) (s .fresh) W′ R′ S
+  pub advanced : Advanced W R (place .setting) k line reply (s .place .setting) (s .fresh) W′ R′ S A
   pub full-is : s .fresh ≡ false → Full R′ (s .full)
 
 -- The rows of a schedule stand after the header.

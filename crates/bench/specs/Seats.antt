@@ -1,7 +1,7 @@
 -- The bench in memory: controllers and records over the pool's memory W, and what a line on one of them promises. R is the memory of a record.
 -- Assumes nothing.
 use mathlib.Core.Path.{_≡_}
-use mathlib.Core.Bool.{Bool, true, false, not}
+use mathlib.Core.Bool.{Bool, true, false, not, _&&_}
 use mathlib.Core.List.{List, [], _++_}
 use mathlib.Core.Option.{some}
 use Prim.Native.Nat.{ℕ, _+_, _<_, _≤_, min}
@@ -11,7 +11,8 @@ use Rattle.protocol.specs.Lists.{if_then_else_, any, filter, listOf}
 use Rattle.protocol.specs.Sets.{bit}
 use Rattle.protocol.specs.View.{controllers, member}
 use Rattle.protocol.specs.Statement.{Stmt, sameStmt}
-use Rattle.protocol.specs.Call.{setupAllowed, started}
+use Rattle.protocol.specs.Window.{lastMinute, windowsAllowed, isOpen}
+use Rattle.protocol.specs.Call.{Setup, setupAllowed, started}
 use Rattle.protocol.specs.Turn.{turn as turnOf}
 use Rattle.views.specs.Held.{viewIs}
 use Rattle.pool.specs.Pool.{stmtAt, poolLen, recordLen, recordIn, poolOf, AllIn, Grows}
@@ -19,9 +20,9 @@ use Rattle.engine.specs.declared.Controller.{Controller}
 use Rattle.engine.specs.declared.Outcome.{Outcome}
 use Rattle.engine.specs.declared.Answer.{Answer}
 use Rattle.engine.specs.declared.Refusal.{Refusal}
-use Rattle.engine.specs.declared.Refusal.the-variants.{BadRequest, UnknownNotice}
+use Rattle.engine.specs.declared.Refusal.the-variants.{BadRequest, UnknownNotice, BadMinute}
 use Rattle.engine.specs.declared.Answer.the-variants.{Taken, Signed, Entered, Delivered, Left, Quiet, Refused}
-use Rattle.engine.specs.Meaning.{firstSenders, controllerIs, signedNumber, answerIs, refusalIs}
+use Rattle.engine.specs.Meaning.{setupIs, controllerIs, signedNumber, answerIs, refusalIs}
 use Rattle.protocol.specs.Controller.{refusalNumber, taken}
 use Rattle.schedule.specs.declared.line.Line.{Line as Held}
 use Rattle.schedule.specs.declared.line.Line.the-variants as is
@@ -56,6 +57,8 @@ blank = record {
   requested = 0;
   joining = false;
   leaving = false;
+  windows = 0;
+  times = [];
 }
 
 -- A controller and its record.
@@ -186,7 +189,7 @@ seatOf (Readable (is.Leave k)) = k
 seatOf (Readable (is.Send k i m)) = k
 seatOf (Readable (is.Give k n)) = k
 seatOf (Readable (is.All k)) = k
-seatOf (Readable (is.Turn k)) = k
+seatOf (Readable (is.Turn k m)) = k
 seatOf (Readable is.Lie) = 0
 seatOf Unreadable = 0
 
@@ -198,7 +201,7 @@ isCall (is.Leave k) = true
 isCall (is.Send k i m) = true
 isCall (is.Give k n) = false
 isCall (is.All k) = false
-isCall (is.Turn k) = true
+isCall (is.Turn k m) = true
 isCall is.Lie = false
 
 -- The line l was read from the text T.
@@ -212,10 +215,10 @@ abbrev pub IfIdle : Verdict → (Answer → Type 0) → Type 0
 IfIdle (Idle a) P = P a
 IfIdle Open P = Unit {0}
 
--- A turn of the controller c with the record R answers a and changes nothing, whatever room the pool has.
+-- A turn of the controller c with the record R answers a and changes nothing, at every minute of the week and whatever room the pool has.
 pub record Rests (W R : List ℕ) (c : Controller) (a : Answer) : Type 0 where
   pub idle : changesIs a ≡ false
-  pub turns : (room : Stmt → Bool) → turnOf (controllerIs c) (recordIn W R) room ≡ record { answer = answerIs W a; controller = controllerIs c; statements = recordIn W R }
+  pub turns : (room : Stmt → Bool) (minute : ℕ) → minute ≤ lastMinute → turnOf (controllerIs c) (recordIn W R) room minute ≡ record { answer = answerIs W a; controller = controllerIs c; statements = recordIn W R }
 
 -- What is known of the next turn of a controller whose turn answered so: it answers the same where nothing was to do.
 abbrev pub turnAfter : Answer → Verdict
@@ -227,27 +230,40 @@ turnAfter Left = Idle Left
 turnAfter Quiet = Idle Quiet
 turnAfter (Refused r) = Open
 
--- The same after any line.
-abbrev pub nextTurn : Held → Answer → Verdict
-nextTurn is.Setup a = Open
-nextTurn (is.Join k) a = Open
-nextTurn (is.Leave k) a = Open
-nextTurn (is.Send k i m) a = Open
-nextTurn (is.Give k n) a = Open
-nextTurn (is.All k) a = Open
-nextTurn (is.Turn k) a = turnAfter a
-nextTurn is.Lie a = Open
+-- The controller c asked to leave, and the minute is outside its windows.
+unfoldable pub waitsAt : Controller → ℕ → Bool
+waitsAt c minute = c .leaving && not (isOpen (controllerIs c .windows) minute)
+
+-- What is known of the next turn of c, which had a turn at this minute: nothing where it waits for a window, since a later turn may find that open.
+unfoldable pub turnKnown : Controller → ℕ → Answer → Verdict
+turnKnown c minute a = if waitsAt c minute then Open else turnAfter a
+
+-- The same after any line that calls c.
+abbrev pub nextTurn : Controller → Held → Answer → Verdict
+nextTurn c is.Setup a = Open
+nextTurn c (is.Join k) a = Open
+nextTurn c (is.Leave k) a = Open
+nextTurn c (is.Send k i m) a = Open
+nextTurn c (is.Give k n) a = Open
+nextTurn c (is.All k) a = Open
+nextTurn c (is.Turn k minute) a = turnKnown c minute a
+nextTurn c is.Lie a = Open
 
 -- The line l calls the controller c, which has the record R.
 pub record CalledByLine (W R : List ℕ) (c : Controller) (l : Held) (o : Outcome) (W′ R′ : List ℕ) : Type 0 where
   pub line : Line
   pub means : meant l ≡ aLine line
   pub called : CalledAtSeat W R c (seatOf (Readable l)) line o W′ R′
-  pub rests : IfIdle (nextTurn l (o .answer)) (Rests W′ R′ (o .controller))
+  pub rests : IfIdle (nextTurn c l (o .answer)) (Rests W′ R′ (o .controller))
 
--- The senders that a setup read into the memory S.
-abbrev pub sendersIn : Setting → List ℕ → List ℕ
-sendersIn g S = firstSenders S (g .notices)
+-- What a setup names, of which the senders and the windows were read into the memory S and A.
+abbrev pub setupIn : Setting → List ℕ → List ℕ → Setup
+setupIn g S A = setupIs (record { members = g .members; notices = g .notices; windows = g .windows }) S A
+
+-- A ring may start so, with controller 0 as with every other.
+pub record MayStart (p : Setup) : Type 0 where
+  pub allowed : setupAllowed 0 (p .members) (p .senders) ≡ true
+  pub windows : windowsAllowed (p .windows) ≡ true
 
 abbrev pub denied : Refusal → Verdict
 denied q = Idle (Refused q)
@@ -263,51 +279,65 @@ sendVerdict c notice =
     if not (ltb notice (min (c .notices) 64)) then denied UnknownNotice
     else if not (eqb (c .number) (getD (c .senders) notice 0)) then denied BadRequest else if bit (c .requested) notice then denied BadRequest else Open
 
+-- The minute of a turn; 0 in any other line.
+abbrev pub minuteIn : Held → ℕ
+minuteIn is.Setup = 0
+minuteIn (is.Join k) = 0
+minuteIn (is.Leave k) = 0
+minuteIn (is.Send k i m) = 0
+minuteIn (is.Give k n) = 0
+minuteIn (is.All k) = 0
+minuteIn (is.Turn k minute) = minute
+minuteIn is.Lie = 0
+
+unfoldable pub turnVerdict : ℕ → Verdict → Verdict
+turnVerdict minute turn = if ltb lastMinute minute then denied BadMinute else turn
+
 -- The call of the line l on the controller c, of whose turn `turn` is known, answers so and changes nothing, if that is known of it.
 pub record Judged (c : Controller) (l : Held) (turn v : Verdict) : Type 0 where
   pub answers : (W R : List ℕ) → Sound W R → IfIdle turn (Rests W R c) → IfIdle v (λ a. CalledByLine W R c l (record { answer = a; controller = c }) W R)
 
 -- The seats after a line that calls no controller: a setup that is taken starts all of them, every other line changes at most one record.
-abbrev pub seatsAfter : Bool → Setting → List ℕ → List ℕ → List ℕ → ℕ → List Seat → List Seat
-seatsAfter fresh g S W′ R′ k X =
-    if fresh then listOf controllers (λ j. record { controller = started j (g .members) (sendersIn g S); statements = [] })
+abbrev pub seatsAfter : Bool → Setup → List ℕ → List ℕ → ℕ → List Seat → List Seat
+seatsAfter fresh p W′ R′ k X =
+    if fresh then listOf controllers (λ j. record { controller = started j p; statements = [] })
     else set X k (record { controller = getD X k emptySeat .controller; statements = recordIn W′ R′ })
 
 abbrev pub replyIs : List ℕ → ℕ → Answer → ℕ → Reply
 replyIs W who a number = record { who = who; answer = answerIs W a; number = number }
 
 -- The line l, which calls no controller, on a bench that has the record R at seat k: its reply is y, and what the setup said is h after it. `fresh` tells that every controller is to start,
--- with the senders in the memory S.
-pub record Advanced (W R : List ℕ) (g : Setting) (k : ℕ) (l : Line) (y : Reply) (h : Setting) (fresh : Bool) (W′ R′ S : List ℕ) : Type 0 where
+-- with the senders and windows in the memory S and A.
+pub record Advanced (W R : List ℕ) (g : Setting) (k : ℕ) (l : Line) (y : Reply) (h : Setting) (fresh : Bool) (W′ R′ S A : List ℕ) : Type 0 where
   pub steps : (X : List Seat) → getD X k emptySeat .statements ≡ recordIn W R
-      → step (benchOf (g .ready) (termsOf g) X W) (some l) ≡ record { reply = y; bench = benchOf (h .ready) (termsOf h) (seatsAfter fresh h S W′ R′ k X) W′ }
+      → step (benchOf (g .ready) (termsOf g) X W) (some l) ≡ record { reply = y; bench = benchOf (h .ready) (termsOf h) (seatsAfter fresh (setupIn h S A) W′ R′ k X) W′ }
   pub sound : fresh ≡ false → Sound W′ R′
   pub grows : fresh ≡ false → Grows W W′
   pub keeps : fresh ≡ false → Keeps R R′
-  pub begun : fresh ≡ true → (poolLen W′ ≡ 0) × (setupAllowed 0 (h .members) (sendersIn h S) ≡ true)
+  pub begun : fresh ≡ true → (poolLen W′ ≡ 0) × MayStart (setupIn h S A)
 
 -- What `step` answers of a line.
-pub record SteppedAs (W R : List ℕ) (g : Setting) (k : ℕ) (l : Line) (s : Effect) (W′ R′ S : List ℕ) : Type 0 where
+pub record SteppedAs (W R : List ℕ) (g : Setting) (k : ℕ) (l : Line) (s : Effect) (W′ R′ S A : List ℕ) : Type 0 where
   pub who : s .who ≤ 16
-  pub advanced : Advanced W R g k l (replyIs W′ (s .who) (s .answer) (s .number)) (s .setting) (s .fresh) W′ R′ S
+  pub advanced : Advanced W R g k l (replyIs W′ (s .who) (s .answer) (s .number)) (s .setting) (s .fresh) W′ R′ S A
   pub full : s .whole ≡ true → Full R′ (poolLen W′)
 
 -- The text T reads as a line, which does this.
-pub record SteppedBy (W R : List ℕ) (g : Setting) (k : ℕ) (T : List ℕ) (s : Effect) (W′ R′ S : List ℕ) : Type 0 where
+pub record SteppedBy (W R : List ℕ) (g : Setting) (k : ℕ) (T : List ℕ) (s : Effect) (W′ R′ S A : List ℕ) : Type 0 where
   pub line : Line
   pub reads : Reads (termsOf g .notices) (ended T) (some line)
-  pub stepped : SteppedAs W R g k line s W′ R′ S
+  pub stepped : SteppedAs W R g k line s W′ R′ S A
 
 -- The same of a lie, which goes to the pool alone: whatever record stands at the first seat stays.
 pub record SteppedOnPool (W : List ℕ) (g : Setting) (l : Line) (s : Effect) (W′ : List ℕ) : Type 0 where
-  pub over : (R S : List ℕ) → AllIn W R → SteppedAs W R g 0 l s W′ R S
+  pub over : (R S A : List ℕ) → AllIn W R → SteppedAs W R g 0 l s W′ R S A
 
 pub record SteppedOnPoolBy (W : List ℕ) (g : Setting) (T : List ℕ) (s : Effect) (W′ : List ℕ) : Type 0 where
-  pub over : (R S : List ℕ) → AllIn W R → SteppedBy W R g 0 T s W′ R S
+  pub over : (R S A : List ℕ) → AllIn W R → SteppedBy W R g 0 T s W′ R S A
 
--- And of a setup, whose senders stand in the memory S after it.
-pub record SetUpBy (W : List ℕ) (g : Setting) (T : List ℕ) (s : Effect) (W′ S : List ℕ) : Type 0 where
-  pub over : (R : List ℕ) → AllIn W R → SteppedBy W R g 0 T s W′ R S
+-- And of a setup, whose senders and windows stand in the memory S and A after it.
+pub record SetUpBy (W : List ℕ) (g : Setting) (T : List ℕ) (s : Effect) (W′ S A : List ℕ) : Type 0 where
+  pub over : (R : List ℕ) → AllIn W R → SteppedBy W R g 0 T s W′ R S A
 
 -- Whom the row of a setup shows, by the senders in the memory S and their count.
 unfoldable pub shownIn : List ℕ → ℕ → ℕ

@@ -3,12 +3,11 @@ ghost use mathlib.Core.Path.{_≡_};
 ghost use mathlib.Core.Bool.{true, false};
 ghost use Prim.Native.Nat.{_+_, _<_, _≤_};
 ghost use lib.ListN.{length};
-ghost use Rattle.protocol.specs.Call.{setupAllowed};
 ghost use Rattle.text.specs.Written.{Wrote};
-ghost use Rattle.engine.specs.Meaning.{firstSenders};
+ghost use Rattle.engine.specs.Meaning.{setupIs};
 ghost use Rattle.schedule.specs.declared.line.Parsed.the-variants.{Readable};
 ghost use Rattle.bench.specs.Rows.{refusedRow, Answered};
-ghost use Rattle.bench.specs.Seats.{Sound, Full, ReadFrom, seatOf, isCall, wordOfAnswer, valueOfAnswer};
+ghost use Rattle.bench.specs.Seats.{Sound, Full, ReadFrom, seatOf, isCall, wordOfAnswer, valueOfAnswer, MayStart};
 ghost use Rattle.bench.specs.Writing.{rowOf};
 ghost use Rattle.bench.specs.Running.{rowIs, Started, HasRoom, RowPut, fullAfter, LineRun, AtStart, Ran, PrintedInto, Long};
 ghost use Rattle.pool.specs.Pool.{poolLen};
@@ -21,6 +20,7 @@ use crate::state::Setting;
 use crate::state::Verdict;
 use engine::Answer;
 use engine::Controller;
+use engine::Setup;
 use pool::POOL_WORDS;
 use pool::RECORD;
 use schedule::line;
@@ -28,6 +28,7 @@ use schedule::line::Line;
 use schedule::line::Parsed;
 use statements::NOTICES;
 use views::View;
+use windows::WINDOWS;
 
 // A seat for each controller.
 const SEATS: usize = View::WIDTH as usize;
@@ -132,7 +133,7 @@ fn seat_of(line: Line) -> usize
         Line::Send(k, _, _) => k as usize,
         Line::Give(k, _) => k as usize,
         Line::All(k) => k as usize,
-        Line::Turn(k) => k as usize,
+        Line::Turn(k, _) => k as usize,
         Line::Lie => 0,
     }
 }
@@ -148,19 +149,19 @@ fn seats_of(records: &[[u16; RECORD]; SEATS]) -> usize
 // Sixteen controllers that have just started, and their records emptied.
 fn start_all(
     records: &mut [[u16; RECORD]; SEATS],
-    members: u16,
-    count: usize,
+    s: Setup,
     senders: &[u8; NOTICES],
+    windows: &[u64; WINDOWS],
 ) -> [Controller; SEATS]
-    requires { ⌜ setupAllowed 0 members (firstSenders (now senders) count) ≡ true ⌝ }
-    ensures { λ r. ⌜ Started members (firstSenders (now (senders .entry)) count) r (now (records .exit)) ⌝ }
+    requires { ⌜ MayStart (setupIs s (now senders) (now windows)) ⌝ }
+    ensures { λ r. ⌜ Started (setupIs s (now (senders .entry)) (now (windows .entry))) r (now (records .exit)) ⌝ }
 {
     seats_of(records);
     let c = Controller::new();
     let mut seats = [c; SEATS];
     let mut k = 0usize;
     while k < SEATS {
-        let o = c.setup(&mut records[k], k as u8, members, count, senders);
+        let o = c.setup(&mut records[k], k as u8, s, senders, windows);
         let d = o.controller;
         seats[k] = d;
         k += 1;
@@ -178,7 +179,7 @@ fn known(words: &[u64; POOL_WORDS], whole: bool, full: usize) -> usize
     full
 }
 
-// A line that calls no controller: what it does, and its row. The senders of a setup go to the memory.
+// A line that calls no controller: what it does, and its row. The senders and windows of a setup go to the memory.
 fn run_line(
     rows: &mut [u8],
     place: Place,
@@ -188,13 +189,14 @@ fn run_line(
     text: &[u8],
     full: usize,
     senders: &mut [u8; NOTICES],
+    windows: &mut [u64; WINDOWS],
 ) -> Moved
     requires { ⌜ Sound (now words) (now ids) × ReadFrom line (now text) × (isCall line ≡ false) × HasRoom place (length (now text) + 1) × Full (now ids) full ⌝ }
-    ensures { λ r. ⌜ LineRun (now (words .entry)) (now (ids .entry)) place (seatOf (Readable line)) (now (text .entry)) (now (rows .entry)) r (now (words .exit)) (now (ids .exit)) (now (rows .exit)) (now (senders .exit)) ⌝ }
+    ensures { λ r. ⌜ LineRun (now (words .entry)) (now (ids .entry)) place (seatOf (Readable line)) (now (text .entry)) (now (rows .entry)) r (now (words .exit)) (now (ids .exit)) (now (rows .exit)) (now (senders .exit)) (now (windows .exit)) ⌝ }
 {
     let next = text.len() + 1;
     let g = place.setting;
-    let s = state::step(ids, words, g, line, text, senders);
+    let s = state::step(ids, words, g, line, text, senders, windows);
     let a = s.answer;
     let h = s.setting;
     let on = put_step(rows, place, next, s.who, a, s.number);
@@ -214,6 +216,7 @@ fn first() -> Place
         faulty: 0,
         members: 0,
         notices: 1,
+        windows: 0,
     };
     Place {
         setting: none,
@@ -233,7 +236,7 @@ fn run_lines(schedule: &[u8], rows: &mut [u8]) -> usize
     let mut records = [[0u16; RECORD]; SEATS];
     // The record of controller k is known to have every number below full[k].
     let mut full = [0usize; SEATS];
-    // A turn that finds nothing to do finds nothing again until its controller or its record changes.
+    // A turn that finds nothing to do, and waits for no window, finds nothing again until its controller or its record changes.
     let mut turns = [Verdict::Open; SEATS];
     let mut words = [0u64; POOL_WORDS];
     pool::clear(&mut words);
@@ -266,7 +269,7 @@ fn run_lines(schedule: &[u8], rows: &mut [u8]) -> usize
                 let d = o.controller;
                 seats[k] = d;
             }
-            turns[k] = state::next_turn(line, a);
+            turns[k] = state::next_turn(named, line, a);
             let on = put_step(rows, place, next, k as u64, a, state::number_of(a));
             place = on;
             continue;
@@ -281,6 +284,7 @@ fn run_lines(schedule: &[u8], rows: &mut [u8]) -> usize
         }
         let text = &schedule[at..at + next - 1];
         let mut senders = [0u8; NOTICES];
+        let mut windows = [0u64; WINDOWS];
         let s = run_line(
             rows,
             place,
@@ -290,6 +294,7 @@ fn run_lines(schedule: &[u8], rows: &mut [u8]) -> usize
             text,
             below,
             &mut senders,
+            &mut windows,
         );
         let on = s.place;
         place = on;
@@ -297,7 +302,12 @@ fn run_lines(schedule: &[u8], rows: &mut [u8]) -> usize
         turns[k] = Verdict::Open;
         if s.fresh {
             let g = on.setting;
-            let all = start_all(&mut records, g.members, g.notices, &senders);
+            let named = Setup {
+                members: g.members,
+                notices: g.notices,
+                windows: g.windows,
+            };
+            let all = start_all(&mut records, named, &senders, &windows);
             seats = all;
             full = [0usize; SEATS];
             turns = [Verdict::Open; SEATS];

@@ -8,13 +8,14 @@ ghost use Rattle.engine.specs.Meaning.{signedNumber};
 ghost use Rattle.schedule.specs.declared.line.Parsed.the-variants.{Readable};
 ghost use Rattle.schedule.specs.Line as lines;
 ghost use Rattle.schedule.specs.Reading.{Lying, SettingUp};
-ghost use Rattle.bench.specs.Seats.{Distinct, Sound, ReadFrom, seatOf, isCall, changesIs, refusedFor, turnAfter, nextTurn, joinVerdict, leaveVerdict, sendVerdict, Judged, CalledByLine, ToldAs, SteppedBy, SteppedOnPool, SteppedOnPoolBy, SetUpBy, shownIn, NoStatement, LacksNothing};
+ghost use Rattle.bench.specs.Seats.{Distinct, Sound, ReadFrom, seatOf, isCall, changesIs, refusedFor, minuteIn, turnVerdict, turnAfter, waitsAt, turnKnown, nextTurn, joinVerdict, leaveVerdict, sendVerdict, Judged, CalledByLine, ToldAs, SteppedBy, SteppedOnPool, SteppedOnPoolBy, SetUpBy, shownIn, NoStatement, LacksNothing};
 use crate::seat;
 use crate::seat::Given;
 use engine::Answer;
 use engine::Controller;
 use engine::Outcome;
 use engine::Refusal;
+use engine::Setup;
 use pool::Found;
 use pool::POOL_WORDS;
 use pool::Placed;
@@ -25,16 +26,19 @@ use statements::BLOCK;
 use statements::NOTICES;
 use statements::Statement;
 use views::View;
+use windows::LAST_MINUTE;
+use windows::WINDOWS;
 
 // The number in a row that names no controller.
 pub const NOBODY: u64 = View::WIDTH as u64;
 
-// What a setup says, but for the senders of its notices.
+// What a setup says, but for the senders of its notices and when its windows are.
 pub struct Setting {
     pub ready: bool,
     pub faulty: u16,
     pub members: u16,
     pub notices: usize,
+    pub windows: usize,
 }
 
 // What a line that calls no controller answers, and what it leaves: `fresh` where every controller is to start, and `whole` where the record
@@ -59,7 +63,7 @@ pub fn is_call(line: Line) -> bool
         Line::Send(_, _, _) => true,
         Line::Give(_, _) => false,
         Line::All(_) => false,
-        Line::Turn(_) => true,
+        Line::Turn(_, _) => true,
         Line::Lie => false,
     }
 }
@@ -112,7 +116,27 @@ fn send_verdict(c: Controller, notice: u64) -> Verdict
     Verdict::Open
 }
 
-// Whether a request is refused, or a turn before a setup, or one of which `turn` is known. It looks at a few fields alone, so that a compiler copies no whole controller for it.
+// The minute of a turn; 0 in any other line.
+fn minute_of(line: Line) -> u16
+    ensures { λ r. ⌜ r ≡ minuteIn line ⌝ }
+{
+    let Line::Turn(_, minute) = line else {
+        return 0;
+    };
+    minute
+}
+
+// A turn at a minute that no week has, or one of which `turn` is known.
+fn turn_verdict(minute: u16, turn: Verdict) -> Verdict
+    ensures { λ v. ⌜ v ≡ turnVerdict minute turn ⌝ }
+{
+    if minute > LAST_MINUTE {
+        return Verdict::Idle(Answer::Refused(Refusal::BadMinute));
+    }
+    turn
+}
+
+// Whether a request is refused, or a turn before a setup or at no minute of a week, or one of which `turn` is known. It looks at a few fields alone, so that a compiler copies no whole controller for it.
 pub fn judge(c: Controller, line: Line, turn: Verdict) -> Verdict
     requires { ⌜ isCall line ≡ true ⌝ }
     ensures { λ v. ⌜ Judged c line turn v ⌝ }
@@ -124,7 +148,7 @@ pub fn judge(c: Controller, line: Line, turn: Verdict) -> Verdict
         Line::Join(_) => join_verdict(c),
         Line::Leave(_) => leave_verdict(c),
         Line::Send(_, notice, _) => send_verdict(c, notice as u64),
-        _ => turn,
+        _ => turn_verdict(minute_of(line), turn),
     }
 }
 
@@ -143,9 +167,30 @@ fn turn_after(a: Answer) -> Verdict
     }
 }
 
-// What is known of the next turn of a controller after a call on it.
-pub fn next_turn(line: Line, a: Answer) -> Verdict
-    ensures { λ v. ⌜ v ≡ nextTurn line a ⌝ }
+// Whether the controller asked to leave and the minute is outside its windows: then a later turn may find something to do although nothing else changed.
+fn waits(c: Controller, minute: u16) -> bool
+    ensures { λ r. ⌜ r ≡ waitsAt c minute ⌝ }
+{
+    if !c.leaving {
+        return false;
+    }
+    let times = c.times;
+    !windows::is_open(&times, c.windows, minute)
+}
+
+// What is known of the next turn of the controller c after a turn at this minute that answered so.
+fn turn_known(c: Controller, minute: u16, a: Answer) -> Verdict
+    ensures { λ v. ⌜ v ≡ turnKnown c minute a ⌝ }
+{
+    if waits(c, minute) {
+        return Verdict::Open;
+    }
+    turn_after(a)
+}
+
+// What is known of the next turn of the controller c after a call on it that answered so.
+pub fn next_turn(c: Controller, line: Line, a: Answer) -> Verdict
+    ensures { λ v. ⌜ v ≡ nextTurn c line a ⌝ }
 {
     match line {
         Line::Setup => Verdict::Open,
@@ -154,7 +199,7 @@ pub fn next_turn(line: Line, a: Answer) -> Verdict
         Line::Send(_, _, _) => Verdict::Open,
         Line::Give(_, _) => Verdict::Open,
         Line::All(_) => Verdict::Open,
-        Line::Turn(_) => turn_after(a),
+        Line::Turn(_, minute) => turn_known(c, minute, a),
         Line::Lie => Verdict::Open,
     }
 }
@@ -173,7 +218,7 @@ pub fn call(
         Line::Join(_) => c.join(),
         Line::Leave(_) => c.leave(),
         Line::Send(_, notice, m) => c.send(notice as u64, m),
-        _ => lent::lend_turn(c, ids, words),
+        _ => lent::lend_turn(c, ids, words, minute_of(line)),
     }
 }
 
@@ -242,23 +287,32 @@ fn shown_sender(senders: &[u8; NOTICES], count: usize) -> u64
     NOBODY
 }
 
-// A setup that is taken starts every controller on an empty pool. Its senders are read here, into the memory.
+// A setup that is taken starts every controller on an empty pool. Its senders and windows are read here, into the memory.
 fn set_up(
     words: &mut [u64; POOL_WORDS],
     g: Setting,
     text: &[u8],
     senders: &mut [u8; NOTICES],
+    windows: &mut [u64; WINDOWS],
 ) -> Effect
     requires { ⌜ Distinct (now words) × SettingUp (now text) ⌝ }
-    ensures { λ s. ⌜ SetUpBy (now (words .entry)) g (now (text .entry)) s (now (words .exit)) (now (senders .exit)) ⌝ }
+    ensures { λ s. ⌜ SetUpBy (now (words .entry)) g (now (text .entry)) s (now (words .exit)) (now (senders .exit)) (now (windows .exit)) ⌝ }
 {
-    let said = line::read_setup(text, senders);
+    let said = line::read_setup(text, senders, windows);
     let who = shown_sender(senders, said.count);
     if g.ready {
         return refused(g, who, Refusal::BadSetup);
     }
-    if !engine::is_allowed(0, said.members, said.count, senders) {
+    let named = Setup {
+        members: said.members,
+        notices: said.count,
+        windows: said.windows,
+    };
+    if !engine::is_allowed(0, named, senders) {
         return refused(g, who, Refusal::BadSetup);
+    }
+    if !windows::are_allowed(windows, said.windows) {
+        return refused(g, who, Refusal::BadWindow);
     }
     pool::clear(words);
     Effect {
@@ -270,6 +324,7 @@ fn set_up(
             faulty: said.faulty,
             members: said.members,
             notices: said.count,
+            windows: said.windows,
         },
         fresh: true,
         whole: false,
@@ -354,7 +409,7 @@ pub fn lacks_nothing(line: Line, g: Setting, words: &[u64; POOL_WORDS], full: us
 }
 
 // What a line does that calls no controller: a setup, a gift, or else a lie. It was read from the text, and the record is that of the controller that it names, or any other
-// where it names none. The senders of a setup go to the memory.
+// where it names none. The senders and windows of a setup go to the memory.
 pub fn step(
     ids: &mut [u16; RECORD],
     words: &mut [u64; POOL_WORDS],
@@ -362,12 +417,13 @@ pub fn step(
     line: Line,
     text: &[u8],
     senders: &mut [u8; NOTICES],
+    windows: &mut [u64; WINDOWS],
 ) -> Effect
     requires { ⌜ Sound (now words) (now ids) × ReadFrom line (now text) × (isCall line ≡ false) ⌝ }
-    ensures { λ s. ⌜ SteppedBy (now (words .entry)) (now (ids .entry)) g (seatOf (Readable line)) (now (text .entry)) s (now (words .exit)) (now (ids .exit)) (now (senders .exit)) ⌝ }
+    ensures { λ s. ⌜ SteppedBy (now (words .entry)) (now (ids .entry)) g (seatOf (Readable line)) (now (text .entry)) s (now (words .exit)) (now (ids .exit)) (now (senders .exit)) (now (windows .exit)) ⌝ }
 {
     match line {
-        Line::Setup => set_up(words, g, text, senders),
+        Line::Setup => set_up(words, g, text, senders, windows),
         Line::Give(k, n) => told(g, k as u64, seat::give(ids, words, g.ready, n)),
         Line::All(k) => told(g, k as u64, seat::all(ids, words, g.ready)),
         _ => lie_line(words, g, text),

@@ -107,6 +107,8 @@ changed c h H d = record {
   requested = c .requested;
   joining = c .joining;
   leaving = c .leaving;
+  times = c .times;
+  windows = c .windows;
 }
 
 -- notice j is bound to m

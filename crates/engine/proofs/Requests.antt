@@ -13,11 +13,13 @@ use Rattle.protocol.specs.Sets.{bit}
 use Rattle.protocol.specs.Lists.{if_then_else_, listOf}
 use Rattle.protocol.specs.View.{View, member}
 use Rattle.protocol.specs.Statement.{Stmt}
+use Rattle.protocol.specs.Window.{windowsAllowed}
 use Rattle.protocol.specs.Controller as controller
 use Rattle.protocol.specs.Call as call
 use Rattle.protocol.specs.Turn.{enteredAfter}
 use Rattle.protocol.proofs.Bits.{bit-zero}
 use Rattle.protocol.proofs.Numbered.{listOf-length}
+use Rattle.protocol.proofs.Additions as checks
 use Rattle.protocol.proofs.Additions.{notToSend, send-unready, send-unknown, send-barred, send-taken}
 use Rattle.views.specs.Held.{viewIs, viewsIs, heldAt}
 use Rattle.views.specs.declared.View as held
@@ -27,13 +29,15 @@ use Rattle.pool.specs.Changes.{Emptied}
 use Rattle.statements.specs.declared.Binding.the-variants.{Unbound}
 use Rattle.statements.specs.Sets.{PutBit}
 use Rattle.evidence.specs.Notices.{sendersOf}
+use Rattle.windows.specs.Windows.{windowsIn}
 use Rattle.engine.specs.declared.Controller.{Controller}
+use Rattle.engine.specs.declared.Setup.{Setup}
 use Rattle.engine.specs.declared.Outcome.{Outcome}
 use Rattle.engine.specs.declared.Refusal.{Refusal}
 use Rattle.engine.specs.declared.Refusal.the-variants.{BadRequest, OutOfPlace, UnknownNotice}
 use Rattle.engine.specs.declared.Answer.{Answer}
 use Rattle.engine.specs.declared.Answer.the-variants.{Taken, Refused}
-use Rattle.engine.specs.Meaning.{initialIs, firstSenders, controllerIs, refusalIs, answerIs}
+use Rattle.engine.specs.Meaning.{initialIs, firstSenders, setupIs, controllerIs, refusalIs, answerIs}
 use Rattle.engine.specs.Promise.{unchanged, Meets, IsRefused, Calls, startedOf, Starts}
 use Rattle.engine.specs.Steps.{areNumbers}
 use Rattle.engine.proofs.Numbers.{is-notice, sender-at, some-when, requested-put, none-bound, none-delivered, none-asked}
@@ -138,6 +142,8 @@ module _ (c : Controller) where
     requested = requested;
     joining = join;
     leaving = leave;
+    times = c .times;
+    windows = c .windows;
   }
 
   abbrev pub joining : Controller
@@ -208,19 +214,24 @@ entered-some h n = ne-eqb (length (listOf (min (h .len) 16) (heldAt (h .views)))
 
 -- ---- setup
 
-module _ (c : Controller) (X : List Stmt) (number members : ℕ) (senders : List ℕ) where
-  pub setup-again : c .ready ≡ true → call.setup (controllerIs c) X number members senders ≡ call.refuse (controllerIs c) X controller.badSetup
-  unfolding call.setup controllerIs
-  setup-again e = rw e
+module _ (c : Controller) (X : List Stmt) (number : ℕ) (s : call.Setup) where
+  pub setup-again : c .ready ≡ true → call.setup (controllerIs c) X number s ≡ call.refuse (controllerIs c) X controller.badSetup
+  unfolding controllerIs
+  setup-again e = checks.setup-again (controllerIs c) X number s e
 
-  pub setup-barred : (b : Bool) → c .ready ≡ false → b ≡ call.setupAllowed number members senders → b ≡ false → call.setup (controllerIs c) X number members senders ≡ call.refuse (controllerIs c) X controller.badSetup
-  unfolding call.setup controllerIs
-  setup-barred b e f g = rw (e, sym f ∙ g)
+  module _ (b : Bool) (e : c .ready ≡ false) (f : b ≡ call.setupAllowed number (s .members) (s .senders)) where
+    pub setup-barred : b ≡ false → call.setup (controllerIs c) X number s ≡ call.refuse (controllerIs c) X controller.badSetup
+    unfolding controllerIs
+    setup-barred g = checks.setup-bad (controllerIs c) X number s e (sym f ∙ g)
 
-  pub setup-taken : (b : Bool) → c .ready ≡ false → b ≡ call.setupAllowed number members senders → b ≡ true
-      → call.setup (controllerIs c) X number members senders ≡ record { answer = controller.taken; controller = call.started number members senders; statements = [] }
-  unfolding call.setup controllerIs
-  setup-taken b e f g = rw (e, sym f ∙ g)
+    module _ (g : b ≡ true) (d : Bool) (h : d ≡ windowsAllowed (s .windows)) where
+      pub setup-shut : d ≡ false → call.setup (controllerIs c) X number s ≡ call.refuse (controllerIs c) X controller.badWindow
+      unfolding controllerIs
+      setup-shut k = checks.setup-shut (controllerIs c) X number s e (sym f ∙ g) (sym h ∙ k)
+
+      pub setup-taken : d ≡ true → call.setup (controllerIs c) X number s ≡ record { answer = controller.taken; controller = call.started number s; statements = [] }
+      unfolding controllerIs
+      setup-taken k = checks.setup-taken (controllerIs c) X number s e (sym f ∙ g) (sym h ∙ k)
 
 -- the tests of a setup, one after the other; the first that fails decides
 module _ (number members : ℕ) (S : List ℕ) (count : ℕ) where
@@ -290,13 +301,16 @@ pub new-is : (h : History) → viewsIs h ≡ [] → controllerIs (record {
   requested = 0;
   joining = false;
   leaving = false;
+  windows = 0;
+  times = replicate 8 0;
 }) ≡ controller.notSetUp
-unfolding controllerIs sendersOf listOf
+unfolding controllerIs sendersOf windowsIn listOf
 new-is h e i = record {
   isSetUp = false;
   number = 0;
   ring = record { width = 16; init = record { joined = 0; left = 0 } };
   senders = 0 ∷ [];
+  windows = [];
   entered = e i;
   binding = none-bound 64 i;
   delivered = none-delivered i;
@@ -305,12 +319,12 @@ new-is h e i = record {
   sendRequested = none-asked (replicate 64 0) i;
 }
 
-pub start-is : (number members : ℕ) (S : List ℕ) (count : ℕ) (h : History) (blank : Controller) → controllerIs blank ≡ controller.notSetUp → members < 65536 → count ≤ 64
-    → viewsIs h ≡ initialIs (record { joined = members; left = 0 }) number → controllerIs (record {
+pub start-is : (number : ℕ) (s : Setup) (S A : List ℕ) (h : History) (blank : Controller) → controllerIs blank ≡ controller.notSetUp → s .members < 65536 → (s .notices ≤ 64) × (s .windows ≤ 8)
+    → viewsIs h ≡ initialIs (record { joined = s .members; left = 0 }) number → controllerIs (record {
       ready = true;
       number = number;
-      init = record { joined = members; left = 0 };
-      notices = count;
+      init = record { joined = s .members; left = 0 };
+      notices = s .notices;
       senders = S;
       entered = h;
       held = blank .held;
@@ -319,14 +333,17 @@ pub start-is : (number members : ℕ) (S : List ℕ) (count : ℕ) (h : History)
       requested = blank .requested;
       joining = blank .joining;
       leaving = blank .leaving;
-    }) ≡ call.started number members (firstSenders S count)
+      windows = s .windows;
+      times = A;
+    }) ≡ call.started number (setupIs s S A)
 unfolding controllerIs call.started sendersOf firstSenders
-start-is number members S count h blank n l k e i = record {
+start-is number s S A h blank n l k e i = record {
   isSetUp = true;
   number = number;
-  ring = record { width = 16; init = record { joined = (let q : members % 65536 ≡ members = omega arith in q) i; left = 0 } };
-  senders = listOf ((let q : min count 64 ≡ count = omega arith in q) i) (λ j. getD S j 0);
-  entered = entered-start members number h l e i;
+  ring = record { width = 16; init = record { joined = (let q : s .members % 65536 ≡ s .members = omega arith in q) i; left = 0 } };
+  senders = listOf ((let q : min (s .notices) 64 ≡ s .notices = omega (arith, k .0) in q) i) (λ j. getD S j 0);
+  windows = windowsIn A ((let q : min (s .windows) 8 ≡ s .windows = omega (arith, k .1) in q) i);
+  entered = entered-start (s .members) number h l e i;
   binding = ap (λ d. d .binding) n i;
   delivered = ap (λ d. d .delivered) n i;
   joinRequested = ap (λ d. d .joinRequested) n i;

@@ -1,7 +1,7 @@
 -- What the rules look at is what the record shows.
 -- Assumes nothing.
 use mathlib.Core.Path.{_≡_, refl, sym, ap, ap₂, subst, _∙_}
-use mathlib.Core.Bool.{Bool, not, _&&_}
+use mathlib.Core.Bool.{Bool, true, false, not, _&&_}
 use mathlib.Core.List.{List}
 use mathlib.Core.Option.{some}
 use Prim.Native.Nat.{ℕ, _-_, _<_, min}
@@ -14,6 +14,7 @@ use Rattle.protocol.specs.View.{View, Ring, sameView, below}
 use Rattle.protocol.specs.History.{top}
 use Rattle.protocol.specs.Statement.{Stmt}
 use Rattle.protocol.specs.Evidence.{isStored}
+use Rattle.protocol.specs.Window.{isOpen}
 use Rattle.protocol.specs.Controller as protocol
 use Rattle.protocol.specs.Turn as turn
 use Rattle.protocol.proofs.Bits.{Fits}
@@ -30,11 +31,12 @@ use Rattle.evidence.specs.declared.Ring as declared
 use Rattle.evidence.specs.Evidence.{ringIs, certificateAt, EvidenceOf, Settled, Narrow}
 use Rattle.evidence.specs.Notices.{sendersOf}
 use Rattle.order.proofs.Counts.{some-view}
+use Rattle.windows.specs.Windows.{windowsIn}
 use Rattle.engine.specs.declared.Controller.{Controller}
 use Rattle.rules.specs.declared.Situation.{Situation}
 use Rattle.engine.specs.Meaning.{controllerIs}
 use Rattle.rules.specs.Rules.{SituationOf}
-use Rattle.engine.specs.Situation.{notAbove, RingOf, Situated}
+use Rattle.engine.specs.Situation.{notAbove, RingOf, leavesAt, Situated}
 use Rattle.engine.proofs.Numbers.{senders-count, some-when}
 
 views-count : (h : History) → length (viewsIs h) ≡ min (h .len) 16
@@ -67,6 +69,17 @@ pub read-whole : {list : List ℕ} {n : ℕ} → Narrow list n → viewsIn list 
 unfolding viewsIn viewsOf
 read-whole {list} {n} k = listOf-cong n (λ i. viewIn (getD list i 0)) (λ i. viewOf (getD list i 0)) (k .at)
 
+-- ---- a leave inside a window
+
+module _ (c : Controller) (minute : ℕ) where
+  pub leaves-never : c .leaving ≡ false → false ≡ leavesAt c minute
+  unfolding leavesAt
+  leaves-never e = rw e
+
+  pub leaves-inside : (b : Bool) → c .leaving ≡ true → b ≡ isOpen (windowsIn (c .times) (min (c .windows) 8)) minute → b ≡ leavesAt c minute
+  unfolding leavesAt controllerIs
+  leaves-inside b e f = f ∙ rw e
+
 -- ---- what the rules look at
 
 module _ (X : List Stmt) (C G P : List ℕ) (c : Controller) (r : declared.Ring) (q : RingOf c r) (e : Evidence) (k : Settled (ringIs r) (sendersOf (c .senders) (r .notices)) X C G P e) where
@@ -81,7 +94,7 @@ module _ (X : List Stmt) (C G P : List ℕ) (c : Controller) (r : declared.Ring)
   unfolding turn.certificate
   the-certificate i l = sym (shown .certificate (k .agree) i l)
 
-  module _ (narrow : Narrow G (e .length)) (whole : viewIn (e .wished) ≡ viewOf (e .wished)) (s : Situation) (l : Situated c r G e s) where
+  module _ (narrow : Narrow G (e .length)) (whole : viewIn (e .wished) ≡ viewOf (e .wished)) (minute : ℕ) (s : Situation) (l : Situated c r G e minute s) where
     the-greatest : turn.G d X ≡ viewsOf G (e .length)
     unfolding turn.G
     the-greatest = sym (shown .greatest (k .agree))
@@ -125,6 +138,10 @@ module _ (X : List Stmt) (C G P : List ℕ) (c : Controller) (r : declared.Ring)
         let (b, y) = when-some (bit (e .certified) i) (sym (the-certificate i h) ∙ f) in
         ap (isStored (d .ring) X i) (sym y) ∙ sym (shown .stored (k .agree) i h (is-true (bit (e .certified) i) b)) ∙ ap (λ x. bit (x .stored) i) (sym (l .shown))
 
+    leaves : (d .leaveRequested && isOpen (d .windows) (s .minute)) ≡ s .leaving
+    unfolding leavesAt controllerIs
+    leaves = ap (λ m. c .leaving && isOpen (windowsIn (c .times) (min (c .windows) 8)) m) (l .minute) ∙ sym (l .leaving)
+
     pub situation : SituationOf d X s
     unfolding controllerIs
     situation = record {
@@ -133,7 +150,7 @@ module _ (X : List Stmt) (C G P : List ℕ) (c : Controller) (r : declared.Ring)
       notices = count-is;
       delivered = λ i h. ap (λ n. bit n i) (sym (l .delivered));
       joining = sym (l .joining);
-      leaving = sym (l .leaving);
+      leaving = leaves;
       active = some-entered;
       entered = the-entered;
       stands = it-stands;

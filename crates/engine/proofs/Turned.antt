@@ -10,6 +10,7 @@ use lib.Dec.{T, ltb}
 use denote.Enum.Declared.{tagOf}
 use types.Run.{OneOf, miss}
 use lib.ListN.{length, getD}
+use borrow.Author.Tests.{le-ltb}
 use Rattle.protocol.specs.Sets.{bit}
 use Rattle.protocol.specs.Lists.{when}
 use Rattle.protocol.specs.View.{View}
@@ -19,6 +20,7 @@ use Rattle.protocol.specs.Controller as controller
 use Rattle.protocol.specs.Call as call
 use Rattle.protocol.specs.Pool.{hasRoom}
 use Rattle.protocol.specs.Turn as turn
+use Rattle.protocol.proofs.Additions as checks
 use Rattle.protocol.proofs.Rules.{Signs, reports, agreesView, agreesHistory, acks, stores, joins, leaves, sends, Acts, acting}
 use Rattle.views.specs.View.{viewOf, viewsIn}
 use Rattle.views.specs.Held.{viewIs}
@@ -35,7 +37,7 @@ use Rattle.rules.proofs.Action as action
 use Rattle.rules.specs.declared.Action.the-variants.{Rest, Report, Enter, AgreeView, AgreeHistory, Ack, Store, Deliver, Join, Leave, Prepare}
 use Rattle.rules.specs.declared.Situation.{Situation}
 use Rattle.rules.specs.Actions.{statementOf, actionIs}
-use Rattle.rules.specs.Rules.{SituationOf, ToldOf, SendsOf, statements, candidateViews, greatestViews, mergedBy, Does}
+use Rattle.rules.specs.Rules.{SituationOf, ToldOf, SendsOf, statements, candidateViews, greatestViews, mergedBy, firstRuleAt, Does}
 use Rattle.rules.specs.Rules as lent
 use Rattle.engine.specs.declared.Controller.{Controller}
 use Rattle.engine.specs.declared.Outcome.{Outcome}
@@ -51,24 +53,32 @@ use Rattle.engine.proofs.Numbers.{senders-count}
 use Rattle.engine.proofs.Performs.{rest-is}
 use Rattle.engine.proofs.Situations.{senders-of, of-controller, init-fits, read-whole, the-certificate, situation}
 
-module _ (c : Controller) (X : List Stmt) (room : Stmt → Bool) where
-  pub turn-unready : c .ready ≡ false → turn.turn (controllerIs c) X room ≡ call.refuse (controllerIs c) X controller.outOfPlace
-  unfolding turn.turn controllerIs
-  turn-unready e = rw e
+module _ (c : Controller) (X : List Stmt) (room : Stmt → Bool) (minute : ℕ) where
+  pub turn-unready : c .ready ≡ false → turn.turn (controllerIs c) X room minute ≡ call.refuse (controllerIs c) X controller.outOfPlace
+  unfolding controllerIs
+  turn-unready e = checks.turn-unready (controllerIs c) X room minute e
 
-  turn-conflict : c .ready ≡ true → isConflict (controllerIs c .ring) (controllerIs c .senders) X ≡ true → turn.turn (controllerIs c) X room ≡ call.refuse (controllerIs c) X controller.conflict
-  unfolding turn.turn controllerIs
-  turn-conflict e f = rw (e, f)
+  pub turn-late : c .ready ≡ true → 10079 < minute → turn.turn (controllerIs c) X room minute ≡ call.refuse (controllerIs c) X controller.badMinute
+  unfolding controllerIs
+  turn-late e h = checks.turn-late (controllerIs c) X room minute e h
 
-  turn-many : c .ready ≡ true → isConflict (controllerIs c .ring) (controllerIs c .senders) X ≡ false → ltb 16 (length (candidates (controllerIs c .ring) X)) ≡ true
-      → turn.turn (controllerIs c) X room ≡ call.refuse (controllerIs c) X controller.manyCandidates
-  unfolding turn.turn controllerIs
-  turn-many e f g = rw (e, f, g)
+  -- it is set up, and the minute is one of a week
+  abbrev pub InTime : Type 0
+  InTime = (c .ready ≡ true) × (minute ≤ 10079)
 
-  turn-goes : c .ready ≡ true → isConflict (controllerIs c .ring) (controllerIs c .senders) X ≡ false → ltb 16 (length (candidates (controllerIs c .ring) X)) ≡ false
-      → turn.turn (controllerIs c) X room ≡ turn.perform (controllerIs c) X room (turn.firstRule (controllerIs c) X)
+  turn-conflict : InTime → isConflict (controllerIs c .ring) (controllerIs c .senders) X ≡ true → turn.turn (controllerIs c) X room minute ≡ call.refuse (controllerIs c) X controller.conflict
   unfolding turn.turn controllerIs
-  turn-goes e f g = rw (e, f, g)
+  turn-conflict (e, h) f = rw (e, le-ltb 10079 minute h, f)
+
+  turn-many : InTime → isConflict (controllerIs c .ring) (controllerIs c .senders) X ≡ false → ltb 16 (length (candidates (controllerIs c .ring) X)) ≡ true
+      → turn.turn (controllerIs c) X room minute ≡ call.refuse (controllerIs c) X controller.manyCandidates
+  unfolding turn.turn controllerIs
+  turn-many (e, h) f g = rw (e, le-ltb 10079 minute h, f, g)
+
+  turn-goes : InTime → isConflict (controllerIs c .ring) (controllerIs c .senders) X ≡ false → ltb 16 (length (candidates (controllerIs c .ring) X)) ≡ false
+      → turn.turn (controllerIs c) X room minute ≡ turn.perform (controllerIs c) X room (turn.firstRule (controllerIs c) X minute)
+  unfolding turn.turn controllerIs
+  turn-goes (e, h) f g = rw (e, le-ltb 10079 minute h, f, g)
 
 -- the ring that a turn makes
 pub ring-is : (c : Controller) (w : ℕ) → viewOf w ≡ viewIs (c .init) → RingOf c (record { init = w; notices = c .notices })
@@ -76,13 +86,13 @@ unfolding controllerIs
 ring-is c w e = record { is = ap (λ v. record { width = 16; init = v }) e; notices = refl }
 
 -- a turn that is refused for q
-pub turn-refused : (W R : List ℕ) (c : Controller) (r : Outcome) (q : Refusal) → turn.turn (controllerIs c) (recordIn W R) (hasRoom (poolOf W)) ≡ call.refuse (controllerIs c) (recordIn W R) (refusalIs q)
-    → r .answer ≡ Refused q → r .controller ≡ c → Turns W R c (turn.turn (controllerIs c) (recordIn W R) (hasRoom (poolOf W))) r W R
-turn-refused W R c r q e a h = subst (λ o. Turns W R c o r W R) (sym e) (refused-so W R c r q a h)
+pub turn-refused : (W R : List ℕ) (c : Controller) (minute : ℕ) (r : Outcome) (q : Refusal) → turn.turn (controllerIs c) (recordIn W R) (hasRoom (poolOf W)) minute ≡ call.refuse (controllerIs c) (recordIn W R) (refusalIs q)
+    → r .answer ≡ Refused q → r .controller ≡ c → Turns W R c (turn.turn (controllerIs c) (recordIn W R) (hasRoom (poolOf W)) minute) r W R
+turn-refused W R c minute r q e a h = subst (λ o. Turns W R c o r W R) (sym e) (refused-so W R c r q a h)
 
 -- ---- from the evidence of the record
 
-module _ (W R : List ℕ) (c : Controller) (r : Ring) (q : RingOf c r) (C G P : List ℕ) (e : Evidence) (o : EvidenceOf (ringIs r) (sendersOf (c .senders) (r .notices)) (recordIn W R) C G P e) (y : c .ready ≡ true) where
+module _ (W R : List ℕ) (c : Controller) (r : Ring) (q : RingOf c r) (C G P : List ℕ) (e : Evidence) (o : EvidenceOf (ringIs r) (sendersOf (c .senders) (r .notices)) (recordIn W R) C G P e) (minute : ℕ) (y : InTime c (recordIn W R) (hasRoom (poolOf W)) minute) where
   abbrev d : controller.Controller
   d = controllerIs c
 
@@ -96,19 +106,19 @@ module _ (W R : List ℕ) (c : Controller) (r : Ring) (q : RingOf c r) (C G P : 
   many-is b h k = sym (of-controller q o .many h) ∙ k
 
   module _ (x : Outcome) where
-    pub turn-split : e .conflict ≡ true → x .answer ≡ Refused Conflict → x .controller ≡ c → Turns W R c (turn.turn d X (hasRoom (poolOf W))) x W R
-    turn-split h a b = turn-refused W R c x Conflict (turn-conflict c X (hasRoom (poolOf W)) y (conflict-is true h)) a b
+    pub turn-split : e .conflict ≡ true → x .answer ≡ Refused Conflict → x .controller ≡ c → Turns W R c (turn.turn d X (hasRoom (poolOf W)) minute) x W R
+    turn-split h a b = turn-refused W R c minute x Conflict (turn-conflict c X (hasRoom (poolOf W)) minute y (conflict-is true h)) a b
 
-    pub turn-crowded : e .conflict ≡ false → e .many ≡ true → x .answer ≡ Refused ManyCandidates → x .controller ≡ c → Turns W R c (turn.turn d X (hasRoom (poolOf W))) x W R
-    turn-crowded h k a b = turn-refused W R c x ManyCandidates (turn-many c X (hasRoom (poolOf W)) y (conflict-is false h) (many-is true h k)) a b
+    pub turn-crowded : e .conflict ≡ false → e .many ≡ true → x .answer ≡ Refused ManyCandidates → x .controller ≡ c → Turns W R c (turn.turn d X (hasRoom (poolOf W)) minute) x W R
+    turn-crowded h k a b = turn-refused W R c minute x ManyCandidates (turn-many c X (hasRoom (poolOf W)) minute y (conflict-is false h) (many-is true h k)) a b
 
   module _ (h : e .conflict ≡ false) (k : e .many ≡ false) where
     -- what acting asks
     pub acts-on : RingOf c r × Settled (ringIs r) (sendersOf (c .senders) (r .notices)) X C G P e
     acts-on = (q, record { of = o; agree = h; few = k })
 
-    pub turn-acts : (W′ R′ : List ℕ) (x : Outcome) → Turns W R c (turn.perform d X (hasRoom (poolOf W)) (turn.firstRule d X)) x W′ R′ → Turns W R c (turn.turn d X (hasRoom (poolOf W))) x W′ R′
-    turn-acts W′ R′ x t = subst (λ o. Turns W R c o x W′ R′) (sym (turn-goes c X (hasRoom (poolOf W)) y (conflict-is false h) (many-is false h k))) t
+    pub turn-acts : (W′ R′ : List ℕ) (x : Outcome) → Turns W R c (turn.perform d X (hasRoom (poolOf W)) (turn.firstRule d X minute)) x W′ R′ → Turns W R c (turn.turn d X (hasRoom (poolOf W)) minute) x W′ R′
+    turn-acts W′ R′ x t = subst (λ o. Turns W R c o x W′ R′) (sym (turn-goes c X (hasRoom (poolOf W)) minute y (conflict-is false h) (many-is false h k))) t
 
 -- ---- the first rule that applies
 
@@ -135,9 +145,9 @@ module _ (W R : List ℕ) (c : Controller) (r : Ring) (q : RingOf c r) (C G P : 
   narrow-greatest : Narrow G (e .length)
   narrow-greatest = greatest-narrow (r .init) (sendersOf (c .senders) (r .notices)) W R C G P e (init-fits q) k
 
-  module _ (s : Situation) (l : Situated c r G e s) where
+  module _ (minute : ℕ) (s : Situation) (l : Situated c r G e minute s) where
     situated : SituationOf (controllerIs c) (recordIn W R) s
-    situated = situation (recordIn W R) C G P c r q e k narrow-greatest (wished-narrow (r .init) (sendersOf (c .senders) (r .notices)) W R C G P e (k .of)) s l
+    situated = situation (recordIn W R) C G P c r q e k narrow-greatest (wished-narrow (r .init) (sendersOf (c .senders) (r .notices)) W R C G P e (k .of)) minute s l
 
     -- what the first rule asks
     pub choosing : Settled (ringIs (s .ring)) (sendersOf (c .senders) (s .ring .notices)) (recordIn W R) C G P (s .shown)
@@ -173,21 +183,22 @@ module _ (W R : List ℕ) (c : Controller) (r : Ring) (q : RingOf c r) (C G P : 
       unfolding controllerIs
       sends-of = record { at = λ i h. ap (λ q. when (bit q i) (getD (c .sends) i 0)) (sym (l .requested)) }
 
-      module _ (a : Action) (m : Does (statements (recordIn W R) ∷ candidateViews C ∷ greatestViews G ∷ lent.senders (c .senders) ∷ lent.told B ∷ lent.sends (c .sends) ∷ []) s turn.firstRule a) where
+      module _ (a : Action) (m : Does (statements (recordIn W R) ∷ candidateViews C ∷ greatestViews G ∷ lent.senders (c .senders) ∷ lent.told B ∷ lent.sends (c .sends) ∷ []) s (firstRuleAt (s .minute)) a) where
         -- what the first rule promises, of this controller
-        chosen : doneBy c (recordIn W R) C B s a ≡ turn.firstRule (controllerIs c) (recordIn W R)
+        chosen : doneBy c (recordIn W R) C B s a ≡ turn.firstRule (controllerIs c) (recordIn W R) minute
         chosen =
             ap (λ H. actionIs s H B (mergedBy (controllerIs c) (recordIn W R)) a) listed
             ∙ m .means (controllerIs c) (recordIn W R) B situated told-of (refl, (listed, (tops, (sym (senders-of ring-of), (told-of, (sends-of, tt))))))
+            ∙ ap (turn.firstRule (controllerIs c) (recordIn W R)) (l .minute)
 
-        acted : {b : turn.Action} → turn.firstRule (controllerIs c) (recordIn W R) ≡ some b → Acts (controllerIs c) (recordIn W R) b
-        acted = acting (controllerIs c) (recordIn W R) (subst (λ b. T (not b)) (sym (k .agree) ∙ of-controller q (k .of) .conflict) tt)
+        acted : {b : turn.Action} → turn.firstRule (controllerIs c) (recordIn W R) minute ≡ some b → Acts (controllerIs c) (recordIn W R) b
+        acted = acting (controllerIs c) (recordIn W R) (subst (λ b. T (not b)) (sym (k .agree) ∙ of-controller q (k .of) .conflict) tt) minute
 
         at-most : length (controllerIs c .senders) ≤ 64
         unfolding controllerIs
         at-most = omega (arith, senders-count (c .senders) (c .notices))
 
-        known : (b : Action) → (b ≡ Rest → ⊥) → doneBy c (recordIn W R) C B s b ≡ turn.firstRule (controllerIs c) (recordIn W R) → Known b
+        known : (b : Action) → (b ≡ Rest → ⊥) → doneBy c (recordIn W R) C B s b ≡ turn.firstRule (controllerIs c) (recordIn W R) minute → Known b
         unfolding actionIs statementOf
         known Rest n f = n refl
         known (Report u) n f = tt
@@ -207,9 +218,9 @@ module _ (W R : List ℕ) (c : Controller) (r : Ring) (q : RingOf c r) (C G P : 
         performing n = (doing, known a n chosen)
 
         pub performed : (W′ R′ : List ℕ) (x : Outcome) → Turns W R c (turn.perform (controllerIs c) (recordIn W R) (hasRoom (poolOf W)) (doneBy c (recordIn W R) C B s a)) x W′ R′
-            → Turns W R c (turn.perform (controllerIs c) (recordIn W R) (hasRoom (poolOf W)) (turn.firstRule (controllerIs c) (recordIn W R))) x W′ R′
+            → Turns W R c (turn.perform (controllerIs c) (recordIn W R) (hasRoom (poolOf W)) (turn.firstRule (controllerIs c) (recordIn W R) minute)) x W′ R′
         performed W′ R′ x = subst (λ z. Turns W R c (turn.perform (controllerIs c) (recordIn W R) (hasRoom (poolOf W)) z) x W′ R′) chosen
 
         pub rested : (x : Outcome) → a ≡ Rest → x .answer ≡ restIs (s .left) → x .controller ≡ c
-            → Turns W R c (turn.perform (controllerIs c) (recordIn W R) (hasRoom (poolOf W)) (turn.firstRule (controllerIs c) (recordIn W R))) x W R
+            → Turns W R c (turn.perform (controllerIs c) (recordIn W R) (hasRoom (poolOf W)) (turn.firstRule (controllerIs c) (recordIn W R) minute)) x W R
         rested x f g h = performed W R x (rest-is W R c s (viewsIn C (s .shown .count)) B (mergedBy (controllerIs c) (recordIn W R)) a x situated f g h)

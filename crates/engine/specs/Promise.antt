@@ -117,12 +117,12 @@ pub record AddsFor (ready : Bool) (notices : ℕ) (W R : List ℕ) (s : Stmt) (a
 
 -- What a call that answers so does to the record.
 unfoldable pub changeOf : Call → controller.Answer → Change
-changeOf (setupCall number members senders) a = startedOf a
+changeOf (setupCall number s) a = startedOf a
 changeOf joinCall a = unchanged
 changeOf leaveCall a = unchanged
 changeOf (sendCall notice payload) a = unchanged
 changeOf (addCall s) a = addedOf a s
-changeOf turnCall a = signedOf a
+changeOf (turnCall minute) a = signedOf a
 
 -- The engine was called so, over the pool W and the record R, and returned r with the pool W′ and the record R′. Every contract of the engine's calls is of this form.
 abbrev pub Called : List ℕ → List ℕ → Controller → Call → Outcome → List ℕ → List ℕ → Type 0

@@ -11,6 +11,7 @@ use Rattle.protocol.specs.Sets.{bit}
 use Rattle.protocol.specs.Lists.{any, all}
 use Rattle.protocol.specs.View.{View, sameView, below}
 use Rattle.protocol.specs.Statement.{Stmt, tells}
+use Rattle.protocol.specs.Window.{isOpen}
 use Rattle.protocol.specs.Controller.{withEntered, withBinding}
 use Rattle.protocol.specs.Turn as turn
 use Rattle.views.specs.View.{viewIn, viewsIn}
@@ -42,14 +43,19 @@ pub record RingOf (c : held.Controller) (r : Ring) : Type 0 where
   pub is : ringIs r ≡ controllerIs c .ring
   pub notices : r .notices ≡ c .notices
 
--- s is the situation of the controller c in its ring r, with a record whose evidence is e and whose greatest history is in G.
-pub record Situated (c : held.Controller) (r : Ring) (G : List ℕ) (e : Evidence) (s : Situation) : Type 0 where
+-- The controller c asked to leave, and the minute is inside a window.
+unfoldable pub leavesAt : held.Controller → ℕ → Bool
+leavesAt c minute = c .leaving && isOpen (controllerIs c .windows) minute
+
+-- s is the situation of the controller c in its ring r at the minute m, with a record whose evidence is e and whose greatest history is in G.
+pub record Situated (c : held.Controller) (r : Ring) (G : List ℕ) (e : Evidence) (m : ℕ) (s : Situation) : Type 0 where
   pub number : s .number ≡ c .number
   pub ring : s .ring ≡ r
   pub delivered : s .delivered ≡ c .delivered
   pub requested : s .requested ≡ c .requested
   pub joining : s .joining ≡ c .joining
-  pub leaving : s .leaving ≡ c .leaving
+  pub minute : s .minute ≡ m
+  pub leaving : s .leaving ≡ leavesAt c m
   pub shown : s .shown ≡ e
   pub top : viewIs (s .top) ≡ viewIn (getD G (e .length - 1) 0)
   pub entered : s .entered ≡ any (sameView (viewIs (s .top))) (viewsIs (c .entered))

@@ -7,18 +7,19 @@ mod add;
 mod calls;
 mod keep;
 mod perform;
-mod setup;
 mod situation;
+mod start;
 mod turn;
 
 pub use add::add_statement;
 pub use calls::is_notice;
 pub use calls::refuse;
 use evidence::Notice;
-pub use setup::is_allowed;
+pub use start::is_allowed;
 use statements::NOTICES;
 use views::History;
 use views::View;
+use windows::WINDOWS;
 
 // Of notice j there are the sender, the binding, whether it was delivered, and the payload to send where that was requested: bits and places j.
 pub struct Controller {
@@ -35,6 +36,16 @@ pub struct Controller {
     pub requested: u64,
     pub joining: bool,
     pub leaving: bool,
+    // How many service windows the setup named, and when they are.
+    pub windows: usize,
+    pub times: [u64; WINDOWS],
+}
+
+// What a setup names in numbers: the initial members, and how many notices and windows there are. Senders and windows are lent beside it.
+pub struct Setup {
+    pub members: u16,
+    pub notices: usize,
+    pub windows: usize,
 }
 
 // Why a call is refused, in the order of the table of refusals.
@@ -48,6 +59,8 @@ pub enum Refusal {
     Conflict,
     OutOfPlace,
     UnknownNotice,
+    BadWindow,
+    BadMinute,
 }
 
 // A signed statement is answered by its number in the pool, a delivery by the notice and its payload.
@@ -80,5 +93,7 @@ pub fn refusal_number(r: Refusal) -> u64
         Refusal::Conflict => 7,
         Refusal::OutOfPlace => 8,
         Refusal::UnknownNotice => 9,
+        Refusal::BadWindow => 10,
+        Refusal::BadMinute => 11,
     }
 }

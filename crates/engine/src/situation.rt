@@ -3,7 +3,7 @@ ghost use mathlib.Core.Path.{_≡_};
 ghost use Prim.Native.Nat.{_≤_, _<_};
 ghost use Rattle.protocol.specs.Lists.{all};
 ghost use Rattle.views.specs.Held.{viewIs, viewsIs};
-ghost use Rattle.engine.specs.Situation.{notAbove, Situated};
+ghost use Rattle.engine.specs.Situation.{notAbove, leavesAt, Situated};
 use crate::Controller;
 use evidence::Evidence;
 use evidence::Ring;
@@ -28,15 +28,27 @@ fn none_above(h: History, t: View) -> bool
     true
 }
 
-// The situation of the controller c in its ring, with the evidence e of its record. It reads a few fields alone, so that a compiler copies no whole controller for it.
+// Whether the controller c asked to leave and the minute is inside a window.
+fn may_leave(c: Controller, minute: u16) -> bool
+    ensures { λ r. ⌜ r ≡ leavesAt c minute ⌝ }
+{
+    if !c.leaving {
+        return false;
+    }
+    let times = c.times;
+    windows::is_open(&times, c.windows, minute)
+}
+
+// The situation of the controller c in its ring at a minute of the week, with the evidence e of its record. It reads a few fields alone, so that a compiler copies no whole controller for it.
 pub fn of_controller(
     c: Controller,
     ring: Ring,
     e: Evidence,
     greatest: &[u64; View::LIMIT],
+    minute: u16,
 ) -> Situation
     requires { ⌜ (0 < e .length) × (e .length ≤ 16) ⌝ }
-    ensures { λ r. ⌜ Situated c ring (now (greatest .entry)) e r ⌝ }
+    ensures { λ r. ⌜ Situated c ring (now (greatest .entry)) e minute r ⌝ }
 {
     let t = View::of_word(greatest[e.length - 1]);
     let h = c.entered;
@@ -46,7 +58,8 @@ pub fn of_controller(
         ring: ring,
         delivered: c.delivered,
         joining: c.joining,
-        leaving: c.leaving,
+        minute: minute,
+        leaving: may_leave(c, minute),
         requested: c.requested,
         active: h.count() > 0,
         entered: entered,

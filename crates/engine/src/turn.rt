@@ -25,6 +25,7 @@ use statements::Binding;
 use statements::NOTICES;
 use statements::Told;
 use views::View;
+use windows::LAST_MINUTE;
 
 // How many notices there are: at most 64.
 fn notice_count(notices: usize) -> usize
@@ -67,7 +68,7 @@ fn ring_of(c: Controller) -> Ring
 }
 
 impl Controller {
-    // The first rule that applies is done, by the evidence e of the record. The block `told` is what a report of this turn would tell: of each notice the binding, and the
+    // The first rule that applies at the minute of the week is done, by the evidence e of the record. The block `told` is what a report of this turn would tell: of each notice the binding, and the
     // certificate's payload. It is filled here and not in a function of its own, since each that is given a controller's bindings by value copies them. The votes are
     // gathered in memory that is lent, and that may hold anything.
     pub fn turn_in(
@@ -76,11 +77,15 @@ impl Controller {
         words: &mut [u64; POOL_WORDS],
         keys: &mut [u64; KEYS],
         groups: &mut [u64; GROUPS],
+        minute: u16,
     ) -> Outcome
-        ensures { λ r. ⌜ Turns (now (words .entry)) (now (ids .entry)) self (protocol.turn (controllerIs self) (recordIn (now (words .entry)) (now (ids .entry))) (hasRoom (poolOf (now (words .entry))))) r (now (words .exit)) (now (ids .exit)) ⌝ }
+        ensures { λ r. ⌜ Turns (now (words .entry)) (now (ids .entry)) self (protocol.turn (controllerIs self) (recordIn (now (words .entry)) (now (ids .entry))) (hasRoom (poolOf (now (words .entry)))) minute) r (now (words .exit)) (now (ids .exit)) ⌝ }
     {
         if !self.ready {
             return calls::refuse(self, Refusal::OutOfPlace);
+        }
+        if minute > LAST_MINUTE {
+            return calls::refuse(self, Refusal::BadMinute);
         }
         let ring = ring_of(self);
         let senders = self.senders;
@@ -113,7 +118,7 @@ impl Controller {
             tell_notice(&mut told, j, b, e.certified, &certs);
             j += 1;
         }
-        let s = situation::of_controller(self, ring, e, &greatest);
+        let s = situation::of_controller(self, ring, e, &greatest, minute);
         let a = order::first_rule(
             words,
             ids,
@@ -145,11 +150,16 @@ impl Controller {
     }
 
     // The same in memory of its own, which is cleared first.
-    pub fn turn(self, ids: &mut [u16; RECORD], words: &mut [u64; POOL_WORDS]) -> Outcome
-        ensures { λ r. ⌜ Turns (now (words .entry)) (now (ids .entry)) self (protocol.turn (controllerIs self) (recordIn (now (words .entry)) (now (ids .entry))) (hasRoom (poolOf (now (words .entry))))) r (now (words .exit)) (now (ids .exit)) ⌝ }
+    pub fn turn(
+        self,
+        ids: &mut [u16; RECORD],
+        words: &mut [u64; POOL_WORDS],
+        minute: u16,
+    ) -> Outcome
+        ensures { λ r. ⌜ Turns (now (words .entry)) (now (ids .entry)) self (protocol.turn (controllerIs self) (recordIn (now (words .entry)) (now (ids .entry))) (hasRoom (poolOf (now (words .entry)))) minute) r (now (words .exit)) (now (ids .exit)) ⌝ }
     {
         let mut keys = [0u64; KEYS];
         let mut groups = [0u64; GROUPS];
-        self.turn_in(ids, words, &mut keys, &mut groups)
+        self.turn_in(ids, words, &mut keys, &mut groups, minute)
     }
 }

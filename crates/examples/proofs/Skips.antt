@@ -8,12 +8,12 @@ use Rattle.protocol.specs.Statement.{Stmt, join, agreeView, agreeHistory, Bindi
 use Rattle.protocol.specs.Controller.{Controller, entered, quiet}
 use Rattle.protocol.specs.Call.{started}
 use Rattle.protocol.specs.Turn.{remaining, turn}
-use Rattle.examples.proofs.Opened.{opened}
+use Rattle.examples.proofs.Opened.{plain, opened}
 use Rattle.examples.proofs.Refusals.{alone, wide, any-room}
 
 -- controller 2, which joins a ring of one: controller 0 is its first member and the sender
 abbrev two : Controller
-two = started 2 1 (0 ∷ [])
+two = started 2 (plain 1 (0 ∷ []))
 
 -- 0 agreed to the view with 1, which stays silent, and to the view with 2 besides
 abbrev chosen : List Stmt
@@ -34,11 +34,11 @@ abbrev told : View → Binding → List Stmt
 told u b = report 0 u (wide 7) (tells b none ∷ []) all-views ∷ []
 
 -- without a report nobody enters; skipped, the view needs none; listed by each history with a greater top, it needs those of both its members
-answers : (turn two (chosen ++ skipping) any-room .answer
-    ∷ turn two (chosen ++ skipping ++ told alone unbound) any-room .answer
-    ∷ turn two (chosen ++ listed ++ told alone unbound) any-room .answer
-    ∷ turn two (chosen ++ listed ++ told alone unbound ++ told (wide 3) unbound) any-room .answer
-    ∷ turn two (chosen ++ listed ++ told alone unbound ++ told (wide 3) unbound ++ (report 1 (wide 3) (wide 7) (tells unbound none ∷ []) all-views ∷ [])) any-room .answer ∷ [])
+answers : (turn two (chosen ++ skipping) any-room 0 .answer
+    ∷ turn two (chosen ++ skipping ++ told alone unbound) any-room 0 .answer
+    ∷ turn two (chosen ++ listed ++ told alone unbound) any-room 0 .answer
+    ∷ turn two (chosen ++ listed ++ told alone unbound ++ told (wide 3) unbound) any-room 0 .answer
+    ∷ turn two (chosen ++ listed ++ told alone unbound ++ told (wide 3) unbound ++ (report 1 (wide 3) (wide 7) (tells unbound none ∷ []) all-views ∷ [])) any-room 0 .answer ∷ [])
     ≡ (quiet ∷ entered (wide 7) ∷ quiet ∷ quiet ∷ entered (wide 7) ∷ [])
 unfolding opened
 answers = refl
@@ -49,9 +49,9 @@ unfolding opened
 views = refl
 
 -- a report on the skipped view tells of 6: who enters is bound by the report on the first view alone
-bindings : (turn two (chosen ++ skipping ++ told alone unbound ++ told (wide 3) (bound 6)) any-room .controller .binding 0
-    ∷ turn two (chosen ++ skipping ++ told alone (bound 5) ++ told (wide 3) (bound 6)) any-room .controller .binding 0
-    ∷ turn two (chosen ++ skipping ++ told alone (bound 5) ++ told (wide 3) barred) any-room .controller .binding 0 ∷ [])
+bindings : (turn two (chosen ++ skipping ++ told alone unbound ++ told (wide 3) (bound 6)) any-room 0 .controller .binding 0
+    ∷ turn two (chosen ++ skipping ++ told alone (bound 5) ++ told (wide 3) (bound 6)) any-room 0 .controller .binding 0
+    ∷ turn two (chosen ++ skipping ++ told alone (bound 5) ++ told (wide 3) barred) any-room 0 .controller .binding 0 ∷ [])
     ≡ (unbound ∷ bound 5 ∷ bound 5 ∷ [])
 unfolding opened
 bindings = refl

@@ -16,6 +16,7 @@ use Rattle.protocol.specs.Lists.{_∈_, _⊆_, any}
 use Rattle.protocol.specs.View.{controllers}
 use Rattle.protocol.specs.Statement.{Stmt, sameStmt, fieldRules}
 use Rattle.protocol.specs.Pool.{hasRoom}
+use Rattle.protocol.specs.Call.{Setup}
 use Rattle.protocol.specs.Run.{Call, addCall, turnCall, Event, call, signing, signedIn}
 use Rattle.protocol.proofs.Found.{filter-out}
 use Rattle.protocol.proofs.Rules.{and-second}
@@ -23,12 +24,13 @@ use Rattle.schedule.specs.Line.{Line}
 use Rattle.bench.specs.Bench.{Seat, emptySeat, Bench, seat, missing, step}
 use Rattle.guarantee.specs.Events.{follower, isFollower, eventsOf}
 use Rattle.guarantee.proofs.Laws.{either}
-use Rattle.guarantee.proofs.Seats.{seatOf, Fit, Clean, Setup, InRing, Seated, Yields, Proper, keeps}
+use Rattle.guarantee.proofs.Seats.{seatOf, Fit, Clean, Taken, InRing, Seated, Yields, Proper, keeps}
 use Rattle.guarantee.proofs.Pools.{grown-more}
 use Rattle.guarantee.proofs.Lines.{Legible, Acts, NoTurn, turn-only, After, out, filled, Calls, Effect, rests, calls, gives, lies, Valid, yes-follows, no-follows, effect}
 
-module _ (u : Setup) {b : Bench} (ok : Valid u b) where
-  open Setup u using (members, senders, faulty)
+module _ (u : Taken) {b : Bench} (ok : Valid u b) where
+  open Taken u using (setting, faulty)
+  open Setup setting using (senders)
 
   fit-in : (s : Stmt) → Fit (b .notices) s → Fit (length senders) s
   fit-in s f = subst (λ n. Fit n s) (ok .notices) f
@@ -105,10 +107,10 @@ module _ (u : Setup) {b : Bench} (ok : Valid u b) where
     admitted (lies s c) = subst All (sym (c .events)) (λ e m. subst Admitted (sym (List·Memᴰ·eq-of-singleton m)) (marked-breaks (s .origin) (subst (λ x. T (bit x (s .origin))) (ok .marks) (c .marked)), fit-in s (c .clean) .fields))
 
     -- a row that only a turn prints comes of a line that is a turn
-    pub acting-line : Effect b l → Acts (step b l .reply .answer) → Calls b l (step b l .reply .who) turnCall
+    pub acting-line : Effect b l → Acts (step b l .reply .answer) → (minute : ℕ) × Calls b l (step b l .reply .who) (turnCall minute)
     acting-line (rests r) t = absurd (r .idle t)
     acting-line (calls k a c) t =
         let q = turn-only (hasRoom (b .pool)) (seat b k .controller) (seat b k .statements) a (subst Acts (c .answered) t) in
-        subst (λ k. Calls b l k turnCall) (sym (c .who)) (subst (Calls b l k) q c)
+        subst (λ k. (minute : ℕ) × Calls b l k (turnCall minute)) (sym (c .who)) (q .0, subst (Calls b l k) (q .1) c)
     acting-line (gives k c) t = absurd (subst Acts (c .answered) t)
     acting-line (lies s c) t = absurd (subst Acts (c .answered) t)

@@ -11,7 +11,8 @@ use lib.ListN.{length, getD}
 use Rattle.protocol.specs.Lists.{if_then_else_, any}
 use Rattle.protocol.specs.Statement.{Stmt, sameStmt}
 use Rattle.protocol.specs.Controller as controller
-use Rattle.protocol.specs.Call.{setupAllowed, started, setup}
+use Rattle.protocol.specs.Window.{windowsAllowed}
+use Rattle.protocol.specs.Call.{Setup, setupAllowed, started, setup}
 use Rattle.protocol.specs.Pool.{numberOf, pooled, hasRoom}
 use Rattle.protocol.specs.Run.{Call, turnCall, outcome, call, Run, event, returned, controllerOf, recordOf, TurnAnswers, IsRun}
 use Rattle.protocol.specs.Promises.{observed, Promises, NoConflict}
@@ -96,15 +97,18 @@ pub record Agrees (run : Run) (k : ℕ) (e : ℕ → Engine) (n : ℕ) : Type 0 
   pub whole : AllIn (e n .pool) (e n .ids)
 
 -- a setup that is taken leaves nothing of what was before
-setup-anew : (k members : ℕ) (senders : List ℕ) (X : List Stmt) → Start k members senders → setup controller.notSetUp X k members senders ≡ setup controller.notSetUp [] k members senders
+setup-anew : (k : ℕ) (p : Setup) (X : List Stmt) → Start k p → setup controller.notSetUp X k p ≡ setup controller.notSetUp [] k p
 unfolding setup
-setup-anew k members senders X (starts t e) = go (setupAllowed k members senders) t
+setup-anew k p X (starts t u e) = go (setupAllowed k (p .members) (p .senders)) (windowsAllowed (p .windows)) t u
   where
-    result : Bool → List Stmt → controller.Outcome
-    result b X = if not b then record { answer = controller.refused controller.badSetup; controller = controller.notSetUp; statements = X } else record { answer = controller.taken; controller = started k members senders; statements = [] }
+    result : Bool → Bool → List Stmt → controller.Outcome
+    result a b X =
+        if not a then record { answer = controller.refused controller.badSetup; controller = controller.notSetUp; statements = X }
+        else if not b then record { answer = controller.refused controller.badWindow; controller = controller.notSetUp; statements = X }
+        else record { answer = controller.taken; controller = started k p; statements = [] }
 
-    go : (b : Bool) → T b → result b X ≡ result b []
-    go true t = refl
+    go : (a b : Bool) → T a → T b → result a b X ≡ result a b []
+    go true true t u = refl
 
 module _ {run : Run} (is : IsRun run) {k : ℕ} (ok : T (run .follows k)) {e : ℕ → Engine} (engine : EngineRun run k e) where
   -- the call of event n, as the run has it
@@ -121,15 +125,15 @@ module _ {run : Run} (is : IsRun run) {k : ℕ} (ok : T (run .follows k)) {e : �
       let s = engine .started in
       let f = engine .fresh in
       let b = begun is k (is .numbered k ok) in
-      let o : setup (controllerIs (f .last .controller)) (recordIn (f .pool) (f .ids)) k (run .members) (run .senders) ≡ returned run k 0
-      = ap (λ d. setup d (recordIn (f .pool) (f .ids)) k (run .members) (run .senders)) (engine .unset) ∙ setup-anew k (run .members) (run .senders) _ b in
+      let o : setup (controllerIs (f .last .controller)) (recordIn (f .pool) (f .ids)) k (run .setting) ≡ returned run k 0
+      = ap (λ d. setup d (recordIn (f .pool) (f .ids)) k (run .setting)) (engine .unset) ∙ setup-anew k (run .setting) _ b in
       let t : returned run k 0 .answer ≡ controller.taken = is .started k (is .numbered k ok) in
       let n = subst (λ p. NumbersAfter (f .pool) (f .ids) (startedOf p) (e 0 .ids)) (ap (λ x. x .answer) o ∙ t) (s .called .numbers) in
       let (x, w) = no-numbers (e 0 .pool) (f .ids) (e 0 .ids) n in
       record { controller = s .called .controller ∙ ap (λ x. x .controller) o; statements = x ∙ sym (started-empty b); whole = w }
     where
-      started-empty : Start k (run .members) (run .senders) → returned run k 0 .statements ≡ []
-      started-empty (starts t e) = ap (λ x. x .statements) e
+      started-empty : Start k (run .setting) → returned run k 0 .statements ≡ []
+      started-empty (starts t u e) = ap (λ x. x .statements) e
 
   -- THE ENGINE RUNS THE PROTOCOL: after any number of events its controller and record are the run's
   pub agrees : (n : ℕ) → Agrees run k e n
@@ -153,18 +157,18 @@ module _ {run : Run} (is : IsRun run) {k : ℕ} (ok : T (run .follows k)) {e : �
           }
 
   -- and each turn answers what the run's turn answers
-  pub answers : (n : ℕ) → event run n ≡ some (call k turnCall) → answerIs (e (suc n) .pool) (e (suc n) .last .answer) ≡ returned run k (suc n) .answer
+  pub answers : (n minute : ℕ) → event run n ≡ some (call k (turnCall minute)) → answerIs (e (suc n) .pool) (e (suc n) .last .answer) ≡ returned run k (suc n) .answer
   unfolding changeOf
-  answers n h = let s = engine .called n turnCall h in same-answer (s .called) (s .grows) ∙ ap (λ x. x .answer) (engine-outcome n turnCall h (agrees n))
+  answers n minute h = let s = engine .called n (turnCall minute) h in same-answer (s .called) (s .grows) ∙ ap (λ x. x .answer) (engine-outcome n (turnCall minute) h (agrees n))
 
 -- ---- the promises
 
 module _ {run : Run} (is : IsRun run) (e : ℕ → ℕ → Engine) (engines : EngineRuns run e) where
   there : (n k : ℕ) (a : controller.Answer) → T (run .follows k) → EngineAnswers run e n k a → TurnAnswers run n k a
-  there n k a ok t = record { isTurn = t .isTurn; answers = sym (answers is ok (engines k ok) n (t .isTurn)) ∙ t .answers }
+  there n k a ok t = record { minute = t .minute; isTurn = t .isTurn; answers = sym (answers is ok (engines k ok) n (t .minute) (t .isTurn)) ∙ t .answers }
 
   back : (n k : ℕ) (s : Stmt) → T (run .follows k) → TurnAnswers run n k (controller.signed s) → EngineAnswers run e n k (controller.signed s)
-  back n k s ok t = record { isTurn = t .isTurn; answers = answers is ok (engines k ok) n (t .isTurn) ∙ t .answers }
+  back n k s ok t = record { minute = t .minute; isTurn = t .isTurn; answers = answers is ok (engines k ok) n (t .minute) (t .isTurn) ∙ t .answers }
 
   same : (k n : ℕ) → T (run .follows k) → recordOf run k n ≡ recordIn (e k n .pool) (e k n .ids)
   same k n ok = sym (agrees is ok (engines k ok) n .statements)

@@ -272,12 +272,12 @@ has-room P f x = ap (λ b. any (sameStmt x) P || b) (lt-ltb (length P) 512 (shor
 
 module _ (run : Run) (k : ℕ) (fresh s : State) (ts : List State) where
   -- THE CALLS ON CONTROLLER k ARE THE ENGINE'S: its setup and then the run's events, over states that are written out
-  pub engine-run : controllerIs (fresh .controller) ≡ controller.notSetUp → Path k (call k (setupCall k (run .members) (run .senders)) ∷ run .events) fresh (s ∷ ts)
+  pub engine-run : controllerIs (fresh .controller) ≡ controller.notSetUp → Path k (call k (setupCall k (run .setting)) ∷ run .events) fresh (s ∷ ts)
       → T (allAllowed fresh (s ∷ ts)) → ((n : ℕ) (x : Stmt) → run .room n x ≡ true) → EngineRun run k (λ n. engineIn (stateAt s ts n))
   engine-run e p u room = record {
     fresh = engineIn fresh;
     unset = e;
-    started = called 0 (setupCall k (run .members) (run .senders)) refl;
+    started = called 0 (setupCall k (run .setting)) refl;
     room = λ n c _ i x. (room n x ∙ sym (has-room _ (fit n) x) ∙ ap (λ P. hasRoom P x) (sym (pool-is _ (fit n)))) i;
     called = λ n c h. called (suc n) c h;
     others = λ n h.
@@ -290,7 +290,7 @@ module _ (run : Run) (k : ℕ) (fresh s : State) (ts : List State) where
   }
     where
       all-events : List Event
-      all-events = call k (setupCall k (run .members) (run .senders)) ∷ run .events
+      all-events = call k (setupCall k (run .setting)) ∷ run .events
 
       called : (n : ℕ) (c : Call) → getElem? all-events n ≡ some (call k c)
           → EngineCalls (engineIn (stateAt fresh (s ∷ ts) n)) c (engineIn (stateAt fresh (s ∷ ts) (suc n)))

@@ -1,11 +1,13 @@
 -- THE THEOREMS, in the order in which a buyer meets them: what is promised of the rows, of a host's calls, of the engine's calls, and of a run.
--- Each promises the same: `Promises`, demand 3 of document 01, and `NoConflict`, no refusal with 7; both are said in crates/protocol/specs/Promises.antt.
+-- Each of these promises the same: `Promises`, demand 3 of document 01, and `NoConflict`, no refusal with 7; both are said in crates/protocol/specs/Promises.antt.
 -- Assumes nothing.
 use Prim.Native.Nat.{ℕ}
 use Rattle.protocol.specs.Run.{Run, IsRun}
 use Rattle.protocol.specs.Promises.{observed, Promises, NoConflict, NeverBarred}
 use Rattle.protocol.proofs.Promises.{promises, no-conflict}
 use Rattle.protocol.proofs.Sender.{never-barred}
+use Rattle.protocol.specs.Alike.{MinutesApart}
+use Rattle.protocol.proofs.Alike.{minutes-apart}
 use Rattle.guarantee.specs.Hosts.{Host, HostRuns, hostCalls}
 use Rattle.guarantee.specs.Calls.{Engine, EngineRuns, engineCalls}
 use Rattle.guarantee.specs.Rows.{Guarantee, InMemory}
@@ -33,6 +35,10 @@ of-calls is e engines = (calls-keep is e engines, calls-no-conflict is e engines
 -- Any list of calls and lies in which nothing is forged and few break the rules.
 pub of-runs : {run : Run} → IsRun run → Promises (observed run) × NoConflict (observed run)
 of-runs is = (promises is, no-conflict is)
+
+-- Runs with no leave request that are alike but for their minutes, all in range, are equal in every answer, controller and record.
+pub of-minutes : MinutesApart
+of-minutes = minutes-apart
 
 -- And where the sender of a notice follows the rules, nobody who does is ever barred from it.
 pub never : {run : Run} → IsRun run → NeverBarred run

@@ -114,11 +114,11 @@ module _ {run : Run} (is : IsRun run) {k : ℕ} (ok : T (run .follows k)) {h : �
       go (waits _ f) = absurd (f c e)
 
   -- so they say what the run's turn answers
-  pub said-so : (n : ℕ) → event run n ≡ some (call k turnCall) → said (h (suc n) .pool) (h (suc n) .answer) (h (suc n) .value) (h (suc n) .notice) ≡ returned run k (suc n) .answer
-  said-so n e =
-      let a = answers is ok engine-run n e in
-      let (p, q, i) = numbers n turnCall e in
-      ap₂ (λ f x. f x) (ap₂ (said (h (suc n) .pool)) p q) i ∙ answer-said (h (suc n) .pool) (told (suc n)) (λ v f. entered-view v (record { isTurn = e; answers = sym a ∙ f })) ∙ a
+  pub said-so : (n minute : ℕ) → event run n ≡ some (call k (turnCall minute)) → said (h (suc n) .pool) (h (suc n) .answer) (h (suc n) .value) (h (suc n) .notice) ≡ returned run k (suc n) .answer
+  said-so n minute e =
+      let a = answers is ok engine-run n minute e in
+      let (p, q, i) = numbers n (turnCall minute) e in
+      ap₂ (λ f x. f x) (ap₂ (said (h (suc n) .pool)) p q) i ∙ answer-said (h (suc n) .pool) (told (suc n)) (λ v f. entered-view v (record { minute = minute; isTurn = e; answers = sym a ∙ f })) ∙ a
     where
       entered-view : (v : View) → TurnAnswers run n k (controller.entered v) → T (isView controllers v)
       entered-view v t = let (H, s, q) = entered-top is ok t in subst (λ u. T (isView controllers u)) q (top-is-view is s)
@@ -127,10 +127,10 @@ module _ {run : Run} (is : IsRun run) {k : ℕ} (ok : T (run .follows k)) {h : �
 
 module _ {run : Run} (is : IsRun run) (h : ℕ → ℕ → Host) (hosts : HostRuns run h) where
   there : (n k : ℕ) (a : controller.Answer) → T (run .follows k) → HostAnswers run h n k a → TurnAnswers run n k a
-  there n k a ok t = record { isTurn = t .isTurn; answers = sym (said-so is ok (hosts k ok) n (t .isTurn)) ∙ t .says }
+  there n k a ok t = record { minute = t .minute; isTurn = t .isTurn; answers = sym (said-so is ok (hosts k ok) n (t .minute) (t .isTurn)) ∙ t .says }
 
   back : (n k : ℕ) (s : Stmt) → T (run .follows k) → TurnAnswers run n k (controller.signed s) → HostAnswers run h n k (controller.signed s)
-  back n k s ok t = record { isTurn = t .isTurn; says = said-so is ok (hosts k ok) n (t .isTurn) ∙ t .answers }
+  back n k s ok t = record { minute = t .minute; isTurn = t .isTurn; says = said-so is ok (hosts k ok) n (t .minute) (t .isTurn) ∙ t .answers }
 
   same : (k n : ℕ) → T (run .follows k) → recordOf run k n ≡ recordIn (h k n .pool) (h k n .ids)
   same k n ok = sym (agrees is ok (engine-run is ok (hosts k ok)) n .statements)

@@ -15,17 +15,17 @@ use Rattle.protocol.specs.History.{last, top}
 use Rattle.protocol.specs.Statement.{isKind, prepare, ack, store}
 use Rattle.protocol.specs.Evidence.{Sealed, start, agreed}
 use Rattle.protocol.specs.Controller.{taken, signed, delivered}
-use Rattle.protocol.specs.Call.{initialView, ringOf}
+use Rattle.protocol.specs.Call.{Setup, initialView, ringOf}
 use Rattle.protocol.specs.Pool.{numberOf, pooled, hasRoom}
 use Rattle.protocol.proofs.Says.{says-not, says-all}
 use Rattle.protocol.proofs.Decided.{says-kind}
 use Rattle.protocol.proofs.Quorums.{someone}
 use Rattle.text.specs.Text.{digits, decText, hexText}
 use Rattle.statements.specs.Text.{parted, text, groupParts, viewText}
-use Rattle.schedule.specs.Line.{Line, setup, send, all, turn, lie, lines}
+use Rattle.schedule.specs.Line.{Line, setup, send, all, turn, lie, lines, windowNumbers}
 use Rattle.bench.specs.Bench.{newBench, shownSender, setUp, giveTo, giveAll, afterTurn, turnAt, lieOf, step}
 use Rattle.bench.specs.Rows.{rowText, rowsFrom, ReadAll, Printed}
-use Rattle.examples.proofs.Opened.{opened}
+use Rattle.examples.proofs.Opened.{plain, opened}
 use Rattle.guarantee.specs.Events.{afterLine, after}
 use Rattle.guarantee.specs.Rows.{InText, ShownRow, finalPool, FewFaulty, Says, SetupTaken, Kept, ReadOff}
 use Rattle.guarantee.proofs.Printed.{guaranteed}
@@ -37,23 +37,26 @@ four = initialView 15
 abbrev senders : List ℕ
 senders = 1 ∷ 0 ∷ []
 
+abbrev setting : Setup
+setting = plain 15 senders
+
 abbrev schedule : List ℕ
 schedule =
-    115 ∷ 101 ∷ 116 ∷ 117 ∷ 112 ∷ 44 ∷ 48 ∷ 48 ∷ 48 ∷ 102 ∷ 44 ∷ 50 ∷ 44 ∷ 49 ∷ 44 ∷ 48 ∷ 44 ∷ 48 ∷ 48 ∷ 48 ∷ 56 ∷ 10 ∷
+    115 ∷ 101 ∷ 116 ∷ 117 ∷ 112 ∷ 44 ∷ 48 ∷ 48 ∷ 48 ∷ 102 ∷ 44 ∷ 50 ∷ 44 ∷ 49 ∷ 44 ∷ 48 ∷ 44 ∷ 48 ∷ 48 ∷ 48 ∷ 56 ∷ 44 ∷ 48 ∷ 10 ∷
     115 ∷ 101 ∷ 110 ∷ 100 ∷ 44 ∷ 48 ∷ 44 ∷ 49 ∷ 44 ∷ 55 ∷ 10 ∷
-    116 ∷ 117 ∷ 114 ∷ 110 ∷ 44 ∷ 48 ∷ 10 ∷
+    116 ∷ 117 ∷ 114 ∷ 110 ∷ 44 ∷ 48 ∷ 44 ∷ 48 ∷ 10 ∷
     108 ∷ 105 ∷ 101 ∷ 44 ∷ 55 ∷ 44 ∷ 51 ∷ 44 ∷ 48 ∷ 48 ∷ 48 ∷ 102 ∷ 48 ∷ 48 ∷ 48 ∷ 48 ∷ 44 ∷ 48 ∷ 48 ∷ 48 ∷ 48 ∷ 48 ∷ 48 ∷ 48 ∷ 48 ∷ 44 ∷ 49 ∷ 44 ∷ 48 ∷ 44 ∷ 55 ∷ 44 ∷ 48 ∷ 44 ∷ 48 ∷ 44 ∷ 48 ∷ 10 ∷
     108 ∷ 105 ∷ 101 ∷ 44 ∷ 55 ∷ 44 ∷ 51 ∷ 44 ∷ 48 ∷ 48 ∷ 48 ∷ 102 ∷ 48 ∷ 48 ∷ 48 ∷ 48 ∷ 44 ∷ 48 ∷ 48 ∷ 48 ∷ 48 ∷ 48 ∷ 48 ∷ 48 ∷ 48 ∷ 44 ∷ 48 ∷ 44 ∷ 48 ∷ 44 ∷ 56 ∷ 44 ∷ 48 ∷ 44 ∷ 48 ∷ 44 ∷ 48 ∷ 10 ∷
-    116 ∷ 117 ∷ 114 ∷ 110 ∷ 44 ∷ 48 ∷ 10 ∷
+    116 ∷ 117 ∷ 114 ∷ 110 ∷ 44 ∷ 48 ∷ 44 ∷ 48 ∷ 10 ∷
     97 ∷ 108 ∷ 108 ∷ 44 ∷ 49 ∷ 10 ∷
-    116 ∷ 117 ∷ 114 ∷ 110 ∷ 44 ∷ 49 ∷ 10 ∷
+    116 ∷ 117 ∷ 114 ∷ 110 ∷ 44 ∷ 49 ∷ 44 ∷ 48 ∷ 10 ∷
     97 ∷ 108 ∷ 108 ∷ 44 ∷ 48 ∷ 10 ∷
-    116 ∷ 117 ∷ 114 ∷ 110 ∷ 44 ∷ 48 ∷ 10 ∷
+    116 ∷ 117 ∷ 114 ∷ 110 ∷ 44 ∷ 48 ∷ 44 ∷ 48 ∷ 10 ∷
     97 ∷ 108 ∷ 108 ∷ 44 ∷ 49 ∷ 10 ∷
-    116 ∷ 117 ∷ 114 ∷ 110 ∷ 44 ∷ 49 ∷ 10 ∷
+    116 ∷ 117 ∷ 114 ∷ 110 ∷ 44 ∷ 49 ∷ 44 ∷ 48 ∷ 10 ∷
     108 ∷ 105 ∷ 101 ∷ 44 ∷ 56 ∷ 44 ∷ 51 ∷ 44 ∷ 48 ∷ 48 ∷ 48 ∷ 102 ∷ 48 ∷ 48 ∷ 48 ∷ 48 ∷ 44 ∷ 48 ∷ 48 ∷ 48 ∷ 48 ∷ 48 ∷ 48 ∷ 48 ∷ 48 ∷ 44 ∷ 49 ∷ 44 ∷ 48 ∷ 44 ∷ 55 ∷ 44 ∷ 48 ∷ 44 ∷ 48 ∷ 44 ∷ 48 ∷ 10 ∷
     97 ∷ 108 ∷ 108 ∷ 44 ∷ 48 ∷ 10 ∷
-    116 ∷ 117 ∷ 114 ∷ 110 ∷ 44 ∷ 48 ∷ 10 ∷ []
+    116 ∷ 117 ∷ 114 ∷ 110 ∷ 44 ∷ 48 ∷ 44 ∷ 48 ∷ 10 ∷ []
 
 abbrev out : List ℕ
 out =
@@ -76,28 +79,28 @@ out =
 
 abbrev reading : List (Option Line)
 reading =
-    some (setup 15 senders 8) ∷ some (send 0 1 7) ∷ some (turn 0) ∷ some (lie (ack 3 four 1 7)) ∷ some (lie (ack 3 four 0 8)) ∷ some (turn 0) ∷ some (all 1) ∷ some (turn 1)
-    ∷ some (all 0) ∷ some (turn 0) ∷ some (all 1) ∷ some (turn 1) ∷ some (lie (store 3 four 1 7)) ∷ some (all 0) ∷ some (turn 0) ∷ []
+    some (setup setting 8) ∷ some (send 0 1 7) ∷ some (turn 0 0) ∷ some (lie (ack 3 four 1 7)) ∷ some (lie (ack 3 four 0 8)) ∷ some (turn 0 0) ∷ some (all 1) ∷ some (turn 1 0)
+    ∷ some (all 0) ∷ some (turn 0 0) ∷ some (all 1) ∷ some (turn 1 0) ∷ some (lie (store 3 four 1 7)) ∷ some (all 0) ∷ some (turn 0 0) ∷ []
 
 reads : ReadAll newBench (lines schedule) reading
-unfolding opened lines parted text groupParts viewText digits decText hexText
+unfolding opened lines windowNumbers parted text groupParts viewText digits decText hexText
 reads = (
-  (omega arith, omega arith, (omega arith, (omega arith, tt)), omega arith, refl),
+  (omega arith, omega arith, (omega arith, (omega arith, tt)), omega arith, omega arith, tt, refl),
   (
     (omega arith, omega arith, omega arith, refl),
     (
-      (omega arith, refl),
+      (omega arith, omega arith, refl),
       (
         (tt, refl),
         (
           (tt, refl),
           (
-            (omega arith, refl),
+            (omega arith, omega arith, refl),
             (
               (omega arith, refl),
               (
-                (omega arith, refl),
-                ((omega arith, refl), ((omega arith, refl), ((omega arith, refl), ((omega arith, refl), ((tt, refl), ((omega arith, refl), ((omega arith, refl), tt))))))),
+                (omega arith, omega arith, refl),
+                ((omega arith, refl), ((omega arith, omega arith, refl), ((omega arith, refl), ((omega arith, omega arith, refl), ((tt, refl), ((omega arith, refl), ((omega arith, omega arith, refl), tt))))))),
               ),
             ),
           ),
@@ -113,7 +116,7 @@ printed = record { reading = reading; reads = λ h. reads; prints = refl }
 
 -- in the first view one of four is marked, and nobody agrees on another
 tests : T (leb (count controllers (λ k. member four k && bit 8 k)) ((memberCount controllers four - 1) / 3)) × T (everyOne (λ s. not (isKind 4 s)) (finalPool reading)) × (getElem? (finalPool reading) 0 ≡ some (prepare 0 1 7))
-    × (step (after reading 14) (some (turn 0)) .reply ≡ record { who = 0; answer = delivered 1 7; number = 0 })
+    × (step (after reading 14) (some (turn 0 0)) .reply ≡ record { who = 0; answer = delivered 1 7; number = 0 })
 unfolding opened numberOf pooled hasRoom shownSender setUp giveTo giveAll afterTurn turnAt lieOf step afterLine after
 tests = (tt, tt, refl, refl)
 
@@ -135,26 +138,26 @@ rows : (getElem? (lines out) 1 ≡ some (rowText 1 (record { who = 1; answer = t
 unfolding lines rowText parted digits decText
 rows = (refl, refl, refl)
 
-begins : SetupTaken reading (InText out) 0 15 senders 8
+begins : SetupTaken reading (InText out) 0 setting 8
 begins = record { line = refl; taken = record { number = 0; row = rows .0; names = tt } }
 
 pub record Facts : Type 0 where
-  setUp : SetupTaken reading (InText out) 0 15 senders 8
+  setUp : SetupTaken reading (InText out) 0 setting 8
   few : FewFaulty reading 15 8
   prepared : Says reading (InText out) 2 0 (signed (prepare 0 1 7))
   delivers : Says reading (ShownRow reading out) 14 0 (delivered 1 7)
-  kept : Kept reading (ShownRow reading out) 15 senders 8
-  readOff : ReadOff reading out 15 senders 8
+  kept : Kept reading (ShownRow reading out) setting 8
+  readOff : ReadOff reading out setting 8
 
-holds : Kept reading (ShownRow reading out) 15 senders 8 × ReadOff reading out 15 senders 8
-holds = guaranteed schedule out printed (omega arith) reading reads 0 15 senders 8 begins few
+holds : Kept reading (ShownRow reading out) setting 8 × ReadOff reading out setting 8
+holds = guaranteed schedule out printed (omega arith) reading reads 0 setting 8 begins few
 
 pub facts : Facts
 facts = record {
   setUp = begins;
   few = few;
   prepared = record { number = 0; row = rows .1; names = tests .2 };
-  delivers = record { number = 0; row = record { reply = record { line = some (turn 0); there = refl; reply = tests .3 }; row = rows .2 }; names = tt };
+  delivers = record { number = 0; row = record { reply = record { line = some (turn 0 0); there = refl; reply = tests .3 }; row = rows .2 }; names = tt };
   kept = holds .0;
   readOff = holds .1;
 }

@@ -19,18 +19,20 @@ use Rattle.protocol.specs.Lists.{if_then_else_, _∈_, any, isSome, listOf}
 use Rattle.protocol.specs.Evidence.{senderOf}
 use Rattle.protocol.specs.View.{controllers, member}
 use Rattle.protocol.specs.Statement.{Stmt, noStmt, sameStmt, fieldRules}
-use Rattle.protocol.specs.Controller.{Controller, notSetUp, badSetup, repeated, full, outOfPlace, unknownNotice, Refusal, badStatement, Answer, taken, signed, entered, delivered, left, quiet, refused, refusalNumber, Outcome}
-use Rattle.protocol.specs.Call.{setupAllowed, started, isFull, setup as setupCalled, requestJoin, requestLeave, requestSend, add, refuse as refusedBy}
+use Rattle.protocol.specs.Controller.{Controller, notSetUp, badSetup, repeated, full, outOfPlace, unknownNotice, badWindow, Refusal, badStatement, Answer, taken, signed, entered, delivered, left, quiet, refused, refusalNumber, Outcome}
+use Rattle.protocol.specs.Window.{windowsAllowed}
+use Rattle.protocol.specs.Call.{Setup, setupAllowed, started, isFull, setup as setupCalled, requestJoin, requestLeave, requestSend, add, refuse as refusedBy}
 use Rattle.protocol.specs.Pool.{numberOf, pooled, hasRoom}
 use Rattle.protocol.specs.Turn.{turn as turnOf}
 use Rattle.protocol.specs.Run.{Call, setupCall, joinCall, leaveCall, sendCall, addCall, turnCall, outcome, call, signing, signedIn}
 use Rattle.protocol.proofs.Numbered.{listOf-length, listOf-at}
 use Rattle.protocol.proofs.Different.{Different}
+use Rattle.protocol.proofs.Moves.{IsTurn}
 use Rattle.schedule.specs.Line.{Line, setup, join, leave, send, give, all, turn, lie, noStatement, Reads}
 use Rattle.bench.specs.Bench.{Seat, emptySeat, Bench, newBench, Stepped, nobody, shownSender, seat, at, refuseLine, setUp, missing, giveTo, giveAll, afterTurn, turnAt, lieOf, step}
 use Rattle.guarantee.specs.Events.{follower, isFollower, callOn, eventsOf}
 use Rattle.guarantee.proofs.Laws.{either, getD-in}
-use Rattle.guarantee.proofs.Seats.{seatOf, Fit, Setup, Seated, Clean, started-in-ring, Proper}
+use Rattle.guarantee.proofs.Seats.{seatOf, Fit, Taken, Seated, Clean, started-in-ring, Proper}
 use Rattle.guarantee.proofs.Pools.{Grown, grown-none, grown-new, grown-pooled, numbered, added, add-is}
 
 -- ---- what reading a line gives
@@ -38,25 +40,25 @@ use Rattle.guarantee.proofs.Pools.{Grown, grown-none, grown-new, grown-
 -- in a ring with this number of notices
 abbrev pub Legible : ℕ → Option Line → Type 0
 Legible many none = Unit {0}
-Legible many (some (setup members senders faulty)) = Unit {0}
+Legible many (some (setup p faulty)) = Unit {0}
 Legible many (some (join k)) = k < 16
 Legible many (some (leave k)) = k < 16
 Legible many (some (send k notice payload)) = (k < 16) × (payload < 2 ^ 64)
 Legible many (some (give k n)) = k < 16
 Legible many (some (all k)) = k < 16
-Legible many (some (turn k)) = k < 16
+Legible many (some (turn k minute)) = k < 16
 Legible many (some (lie s)) = T (fieldRules controllers many s)
 Legible many (some noStatement) = Unit {0}
 
 pub legible : (many : ℕ) (S : List ℕ) (l : Option Line) → Reads many S l → Legible many l
 legible many S none r = tt
-legible many S (some (setup members senders faulty)) r = tt
+legible many S (some (setup p faulty)) r = tt
 legible many S (some (join k)) r = r .0
 legible many S (some (leave k)) r = r .0
 legible many S (some (send k notice payload)) r = (r .0, r .2)
 legible many S (some (give k n)) r = r .0
 legible many S (some (all k)) r = r .0
-legible many S (some (turn k)) r = r .0
+legible many S (some (turn k minute)) r = r .0
 legible many S (some (lie s)) r = r .0
 legible many S (some noStatement) r = tt
 
@@ -84,12 +86,12 @@ unsigned (refused r) f = refl
 
 -- no other call does
 abbrev pub NoTurn : Call → Type 0
-NoTurn (setupCall n m s) = Unit {0}
+NoTurn (setupCall n p) = Unit {0}
 NoTurn joinCall = Unit {0}
 NoTurn leaveCall = Unit {0}
 NoTurn (sendCall i m) = Unit {0}
 NoTurn (addCall s) = Unit {0}
-NoTurn turnCall = ⊥
+NoTurn (turnCall minute) = ⊥
 
 module _ (room : Stmt → Bool) (c : Controller) (X : List Stmt) where
   abbrev Idle : Outcome → Type 0
@@ -97,7 +99,7 @@ module _ (room : Stmt → Bool) (c : Controller) (X : List Stmt) where
 
   idle : (a : Call) → NoTurn a → Idle (outcome room c X a)
   unfolding outcome setupCalled requestJoin requestLeave requestSend add
-  idle (setupCall n m s) _ = either Idle (c .isSetUp || not (setupAllowed n m s)) (λ e t. t) (λ e t. t)
+  idle (setupCall n p) _ = either Idle (c .isSetUp || not (setupAllowed n (p .members) (p .senders))) (λ e t. t) (λ e. either Idle (not (windowsAllowed (p .windows))) (λ f t. t) (λ f t. t))
   idle joinCall _ = either Idle (c .isSetUp) (λ e. either Idle (member (c .ring .init) (c .number) || c .joinRequested) (λ f t. t) (λ f t. t)) (λ e t. t)
   idle leaveCall _ = either Idle (c .isSetUp) (λ e. either Idle (eqb (length (c .entered)) 0 || c .leaveRequested) (λ f t. t) (λ f t. t)) (λ e t. t)
   idle (sendCall i m) _ =
@@ -108,13 +110,13 @@ module _ (room : Stmt → Bool) (c : Controller) (X : List Stmt) where
       (λ f. either Idle (not (ltb (s .notice) (length (c .senders)))) (λ g t. t)
       (λ g. either Idle (any (sameStmt s) X) (λ h t. t) (λ h. either Idle (isFull room X s) (λ i t. t) (λ i t. t))))) (λ e t. t)
 
-  pub turn-only : (a : Call) → Acts (outcome room c X a .answer) → a ≡ turnCall
-  turn-only (setupCall n m s) t = absurd (idle (setupCall n m s) tt t)
+  pub turn-only : (a : Call) → Acts (outcome room c X a .answer) → IsTurn a
+  turn-only (setupCall n p) t = absurd (idle (setupCall n p) tt t)
   turn-only joinCall t = absurd (idle joinCall tt t)
   turn-only leaveCall t = absurd (idle leaveCall tt t)
   turn-only (sendCall i m) t = absurd (idle (sendCall i m) tt t)
   turn-only (addCall s) t = absurd (idle (addCall s) tt t)
-  turn-only turnCall t = refl
+  turn-only (turnCall minute) t = (minute, refl)
 
 -- ---- what a line does
 
@@ -216,30 +218,37 @@ new-seat k = elim (decLt k 16) [
 ]
 
 -- the bench after the setup
-abbrev pub startedBench : ℕ → List ℕ → ℕ → Bench
-startedBench members senders faulty = record { isSetUp = true; faulty = faulty; notices = length senders; seats = listOf controllers (λ k. record { controller = started k members senders; statements = [] }); pool = [] }
+abbrev pub startedBench : Setup → ℕ → Bench
+startedBench p faulty = record { isSetUp = true; faulty = faulty; notices = length (p .senders); seats = listOf controllers (λ k. record { controller = started k p; statements = [] }); pool = [] }
 
-pub record Starts (b : Bench) (members : ℕ) (senders : List ℕ) (faulty : ℕ) : Type 0 where
+pub record Starts (b : Bench) (p : Setup) (faulty : ℕ) : Type 0 where
   pub before : b .isSetUp ≡ false
-  pub allowed : T (setupAllowed 0 members senders)
-  pub after : step b (some (setup members senders faulty)) .bench ≡ startedBench members senders faulty
+  pub allowed : T (setupAllowed 0 (p .members) (p .senders))
+  pub windows : T (windowsAllowed (p .windows))
+  pub after : step b (some (setup p faulty)) .bench ≡ startedBench p faulty
 
-abbrev pub setupOf : {b : Bench} {members : ℕ} {senders : List ℕ} {faulty : ℕ} → Starts b members senders faulty → Setup
-setupOf {b} {members} {senders} {faulty} s = record { members = members; senders = senders; faulty = faulty; allowed = s .allowed }
+abbrev pub setupOf : {b : Bench} {p : Setup} {faulty : ℕ} → Starts b p faulty → Taken
+setupOf {b} {p} {faulty} s = record { setting = p; faulty = faulty; allowed = s .allowed; windows = s .windows }
 
-module _ (b : Bench) (members : ℕ) (senders : List ℕ) (faulty : ℕ) where
-  -- by whether the bench is set up, and whether the setup is allowed
-  abbrev setupBy : Bool → Bool → Stepped
-  setupBy x y = if x || not y then refuseLine b (shownSender senders) badSetup else record { reply = record { who = shownSender senders; answer = taken; number = 0 }; bench = startedBench members senders faulty }
+module _ (b : Bench) (p : Setup) (faulty : ℕ) where
+  -- by whether the bench is set up, and whether the setup and its windows are allowed
+  abbrev setupBy : Bool → Bool → Bool → Stepped
+  setupBy x y z =
+      if x || not y then refuseLine b (shownSender (p .senders)) badSetup else if not z then refuseLine b (shownSender (p .senders)) badWindow
+      else record { reply = record { who = shownSender (p .senders); answer = taken; number = 0 }; bench = startedBench p faulty }
 
-  pub setup-taken : step b (some (setup members senders faulty)) .reply .answer ≡ taken → Starts b members senders faulty
+  setup-by : {x y z : Bool} → b .isSetUp ≡ x → setupAllowed 0 (p .members) (p .senders) ≡ y → windowsAllowed (p .windows) ≡ z → step b (some (setup p faulty)) ≡ setupBy x y z
   unfolding step setUp
-  setup-taken e = go (b .isSetUp) (setupAllowed 0 members senders) refl refl e
+  setup-by {x} {y} {z} e f g = ap₂ (λ x y. setupBy x y (windowsAllowed (p .windows))) e f ∙ ap (setupBy x y) g
+
+  pub setup-taken : step b (some (setup p faulty)) .reply .answer ≡ taken → Starts b p faulty
+  setup-taken e = go (b .isSetUp) (setupAllowed 0 (p .members) (p .senders)) (windowsAllowed (p .windows)) refl refl refl
     where
-      go : (x y : Bool) → b .isSetUp ≡ x → setupAllowed 0 members senders ≡ y → setupBy x y .reply .answer ≡ taken → Starts b members senders faulty
-      go true y f g h = let z : _≡_ {A = ℕ} 0 1 = cc (h) in absurd (omega arith)
-      go false false f g h = let z : _≡_ {A = ℕ} 0 1 = cc (h) in absurd (omega arith)
-      go false true f g h = record { before = f; allowed = subst T (sym g) tt; after = ap₂ (λ x y. setupBy x y .bench) f g }
+      go : (x y z : Bool) → b .isSetUp ≡ x → setupAllowed 0 (p .members) (p .senders) ≡ y → windowsAllowed (p .windows) ≡ z → Starts b p faulty
+      go true y z f g k = let h : setupBy true y z .reply .answer ≡ taken = sym (ap (λ r. r .reply .answer) (setup-by f g k)) ∙ e in let z : _≡_ {A = ℕ} 0 1 = cc (h) in absurd (omega arith)
+      go false false z f g k = let h : setupBy false false z .reply .answer ≡ taken = sym (ap (λ r. r .reply .answer) (setup-by f g k)) ∙ e in let z : _≡_ {A = ℕ} 0 1 = cc (h) in absurd (omega arith)
+      go false true false f g k = let h : setupBy false true false .reply .answer ≡ taken = sym (ap (λ r. r .reply .answer) (setup-by f g k)) ∙ e in let z : _≡_ {A = ℕ} 0 1 = cc (h) in absurd (omega arith)
+      go false true true f g k = record { before = f; allowed = subst T (sym g) tt; windows = subst T (sym k) tt; after = ap (λ r. r .bench) (setup-by f g k) }
 
 -- a call on any controller is refused
 module _ (l : Option Line) (k : ℕ) where
@@ -254,29 +263,36 @@ module _ (l : Option Line) (k : ℕ) where
   }
 
 -- until a setup is taken nothing changes
-pub new-line : (l : Option Line) → Rests newBench l ⊎ ((members : ℕ) × (senders : List ℕ) × (faulty : ℕ) × (l ≡ some (setup members senders faulty)) × Starts newBench members senders faulty)
+pub new-line : (l : Option Line) → Rests newBench l ⊎ ((p : Setup) × (faulty : ℕ) × (l ≡ some (setup p faulty)) × Starts newBench p faulty)
 unfolding step setUp giveTo giveAll turnAt afterTurn lieOf requestJoin requestLeave requestSend turnOf eventsOf callOn isFollower signedIn
 new-line none = inl (record { same = refl; idle = λ t. t; events = refl })
-new-line (some (setup m s f)) = go (setupAllowed 0 m s) refl
+new-line (some (setup p f)) = go (setupAllowed 0 (p .members) (p .senders)) (windowsAllowed (p .windows)) refl refl
   where
-    go : (y : Bool) → setupAllowed 0 m s ≡ y → Rests newBench (some (setup m s f)) ⊎ ((members : ℕ) × (senders : List ℕ) × (faulty : ℕ) × (some (setup m s f) ≡ some (setup members senders faulty)) × Starts newBench members senders faulty)
-    go true e = inr (m, s, f, refl, setup-taken newBench m s f (ap (λ y. setupBy newBench m s f false y .reply .answer) e))
-    go false e = inl (record { same = ap (λ y. setupBy newBench m s f false y .bench) e; idle = subst (λ y. ¬ Acts (setupBy newBench m s f false y .reply .answer)) (sym e) (λ t. t); events = refl })
+    refuses : {y z : Bool} (r : Refusal) → ¬ Acts (refused r) → setupAllowed 0 (p .members) (p .senders) ≡ y → windowsAllowed (p .windows) ≡ z → setupBy newBench p f false y z ≡ refuseLine newBench (shownSender (p .senders)) r → Rests newBench (some (setup p f))
+    refuses r i e g h =
+        let is = setup-by newBench p f refl e g ∙ h in
+        record { same = ap (λ x. x .bench) is; idle = subst (λ x. ¬ Acts (x .reply .answer)) (sym is) i; events = refl }
+
+    go : (y z : Bool) → setupAllowed 0 (p .members) (p .senders) ≡ y → windowsAllowed (p .windows) ≡ z → Rests newBench (some (setup p f)) ⊎ ((q : Setup) × (faulty : ℕ) × (some (setup p f) ≡ some (setup q faulty)) × Starts newBench q faulty)
+    go true true e g = inr (p, f, refl, setup-taken newBench p f (ap (λ r. r .reply .answer) (setup-by newBench p f refl e g)))
+    go true false e g = inl (refuses badWindow (λ t. t) e g refl)
+    go false z e g = inl (refuses badSetup (λ t. t) e g refl)
 new-line (some (join k)) = inl (new-call (some (join k)) k (ap (λ x. at newBench k (requestJoin (x .controller) (x .statements)) [] 0) (new-seat k)) refl)
 new-line (some (leave k)) = inl (new-call (some (leave k)) k (ap (λ x. at newBench k (requestLeave (x .controller) (x .statements)) [] 0) (new-seat k)) refl)
 new-line (some (send k i m)) = inl (new-call (some (send k i m)) k (ap (λ x. at newBench k (requestSend (x .controller) (x .statements) i m) [] 0) (new-seat k)) refl)
 new-line (some (give k n)) = inl (record { same = refl; idle = λ t. t; events = rw (le-ltb n 0 (omega arith)) refl })
 new-line (some (all k)) = inl (record { same = refl; idle = λ t. t; events = refl })
-new-line (some (turn k)) =
-    let e = ap (λ x. let o : Outcome = turnOf (x .controller) (x .statements) (hasRoom []) in afterTurn newBench k o (o .answer)) (new-seat k) in
-    inl (new-call (some (turn k)) k e (ap (λ r. map signing (signedIn (r .reply .answer))) e))
+new-line (some (turn k minute)) =
+    let e = ap (λ x. let o : Outcome = turnOf (x .controller) (x .statements) (hasRoom []) minute in afterTurn newBench k o (o .answer)) (new-seat k) in
+    inl (new-call (some (turn k minute)) k e (ap (λ r. map signing (signedIn (r .reply .answer))) e))
 new-line (some (lie s)) = inl (record { same = refl; idle = λ t. t; events = refl })
 new-line (some noStatement) = inl (record { same = refl; idle = λ t. t; events = refl })
 
 -- ---- after the setup
 
-module _ (u : Setup) where
-  open Setup u using (members, senders, faulty)
+module _ (u : Taken) where
+  open Taken u using (setting, faulty)
+  open Setup setting using (senders)
 
   -- what every line keeps: each pooled statement keeps the field rules and stands once, and each record has only pooled statements
   pub record Valid (b : Bench) : Type 0 where
@@ -288,15 +304,15 @@ module _ (u : Setup) where
     pub different : Different (b .pool)
     pub each : (k : ℕ) → k < 16 → Seated u (b .pool) k (seat b k)
 
-  pub started-seat : (k : ℕ) → k < 16 → seat (startedBench members senders faulty) k ≡ record { controller = started k members senders; statements = [] }
-  started-seat k l = listOf-at controllers (λ k. record { controller = started k members senders; statements = [] }) k emptySeat l
+  pub started-seat : (k : ℕ) → k < 16 → seat (startedBench setting faulty) k ≡ record { controller = started k setting; statements = [] }
+  started-seat k l = listOf-at controllers (λ k. record { controller = started k setting; statements = [] }) k emptySeat l
 
-  pub started-valid : Valid (startedBench members senders faulty)
+  pub started-valid : Valid (startedBench setting faulty)
   started-valid = record {
     isSetUp = refl;
     marks = refl;
     notices = refl;
-    long = listOf-length controllers (λ k. record { controller = started k members senders; statements = [] });
+    long = listOf-length controllers (λ k. record { controller = started k setting; statements = [] });
     clean = λ s m. absurd (List·Memᴰ·not-nil m);
     different = tt;
     each = λ k l. subst (Seated u [] k) (sym (started-seat k l)) (record { inRing = started-in-ring u k; known = λ a m. m });
@@ -398,23 +414,23 @@ module _ (u : Setup) where
           events = rw (e, and-true (isFollower b k)) refl;
         })
 
-    turn-effect : (k : ℕ) → k < 16 → Effect b (some (turn k))
+    turn-effect : (k minute : ℕ) → k < 16 → Effect b (some (turn k minute))
     unfolding step turnAt afterTurn outcome eventsOf signedIn
-    turn-effect k near = go (o .answer) refl
+    turn-effect k minute near = go (o .answer) refl
       where
         o : Outcome
-        o = out b k turnCall
+        o = out b k (turnCall minute)
 
-        turned : (a : Answer) (Q : List Stmt) (n : ℕ) → o .answer ≡ a → afterTurn b k o a ≡ at b k o Q n → Grown (b .pool) (signedIn a) Q → ((s : Stmt) → a ≡ signed s → getElem? Q n ≡ some s) → Effect b (some (turn k))
+        turned : (a : Answer) (Q : List Stmt) (n : ℕ) → o .answer ≡ a → afterTurn b k o a ≡ at b k o Q n → Grown (b .pool) (signedIn a) Q → ((s : Stmt) → a ≡ signed s → getElem? Q n ≡ some s) → Effect b (some (turn k minute))
         turned a Q n e f g number =
-            let is : turnAt b k ≡ at b k o Q n = ap (afterTurn b k o) e ∙ f in
-            called (some (turn k)) k turnCall Q n near tt is (subst (λ a. Grown (b .pool) (signedIn a) Q) (sym e) g) (λ s h. number s (sym e ∙ h))
-            (ap (λ r. if isFollower b k then call k turnCall ∷ [] else map signing (signedIn (r .reply .answer))) is)
+            let is : turnAt b k minute ≡ at b k o Q n = ap (afterTurn b k o) e ∙ f in
+            called (some (turn k minute)) k (turnCall minute) Q n near tt is (subst (λ a. Grown (b .pool) (signedIn a) Q) (sym e) g) (λ s h. number s (sym e ∙ h))
+            (ap (λ r. if isFollower b k then call k (turnCall minute) ∷ [] else map signing (signedIn (r .reply .answer))) is)
 
-        still : (a : Answer) → o .answer ≡ a → signedIn a ≡ [] → afterTurn b k o a ≡ at b k o (b .pool) 0 → Effect b (some (turn k))
+        still : (a : Answer) → o .answer ≡ a → signedIn a ≡ [] → afterTurn b k o a ≡ at b k o (b .pool) 0 → Effect b (some (turn k minute))
         still a e n f = turned a (b .pool) 0 e f (grown-none (b .pool) n) (λ s h. absurd (List·Memᴰ·not-nil (subst (λ S. s ∈ S) (sym (ap signedIn h) ∙ n) (List·Memᴰ·head refl))))
 
-        go : (a : Answer) → o .answer ≡ a → Effect b (some (turn k))
+        go : (a : Answer) → o .answer ≡ a → Effect b (some (turn k minute))
         go (signed s) e = turned (signed s) (pooled s (b .pool)) (numberOf s (b .pool)) e refl (grown-pooled (b .pool) s) (λ x f. let p : s ≡ x = cc (f) in numbered s (b .pool) ∙ ap some p)
         go taken e = still taken e refl refl
         go (entered v) e = still (entered v) e refl refl
@@ -440,12 +456,12 @@ module _ (u : Setup) where
     pub effect : (l : Option Line) → Legible (b .notices) l → Effect b l
     unfolding step setUp eventsOf outcome
     effect none g = refusal none nobody outOfPlace (λ t. t) refl refl
-    effect (some (setup m s f)) g = refusal (some (setup m s f)) (shownSender s) badSetup (λ t. t) (ap (λ x. setupBy b m s f x (setupAllowed 0 m s)) (ok .isSetUp)) refl
+    effect (some (setup p f)) g = refusal (some (setup p f)) (shownSender (p .senders)) badSetup (λ t. t) (setup-by b p f (ok .isSetUp) refl refl) refl
     effect (some (join k)) g = asked (some (join k)) k joinCall tt g tt refl refl
     effect (some (leave k)) g = asked (some (leave k)) k leaveCall tt g tt refl refl
     effect (some (send k i m)) (g, h) = asked (some (send k i m)) k (sendCall i m) tt g h refl refl
     effect (some (give k n)) g = give-effect k n g
     effect (some (all k)) g = all-effect k g
-    effect (some (turn k)) g = turn-effect k g
+    effect (some (turn k minute)) g = turn-effect k minute g
     effect (some (lie s)) g = lie-effect s g
     effect (some noStatement) g = refusal (some noStatement) nobody badStatement (λ t. t) (ap (λ x. if x then refuseLine b nobody badStatement else refuseLine b nobody outOfPlace) (ok .isSetUp)) refl

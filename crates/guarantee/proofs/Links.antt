@@ -17,6 +17,7 @@ use Rattle.protocol.specs.View.{controllers}
 use Rattle.protocol.specs.Statement.{Stmt, sameStmt}
 use Rattle.protocol.specs.Controller.{Controller, Answer, taken}
 use Rattle.protocol.specs.Pool.{hasRoom}
+use Rattle.protocol.specs.Call.{Setup}
 use Rattle.protocol.specs.Run.{Call, addCall, outcome, Event, call, signing, Run, afterEvent, signedIn, event, returned, signedBy, signedBefore}
 use Rattle.protocol.proofs.Found.{filter-out}
 use Rattle.protocol.proofs.Different.{Different}
@@ -26,15 +27,16 @@ use Rattle.bench.specs.Bench.{Seat, emptySeat, Bench, seat, missing, step}
 use Rattle.protocol.proofs.Says.{is-true}
 use Rattle.guarantee.specs.Events.{follower, Occurrence, isFollower, eventsOf, roomAt, runWith}
 use Rattle.guarantee.proofs.Laws.{fails, either, at-seam, one-longer, map-at, filter-different}
-use Rattle.guarantee.proofs.Seats.{seatOf, Fit, Setup}
+use Rattle.guarantee.proofs.Seats.{seatOf, Fit, Taken}
 use Rattle.guarantee.proofs.Pools.{Grown, grown-more, grown-none, add-taken}
 use Rattle.guarantee.proofs.Lines.{After, Calls, Gives, Effect, rests, calls, gives, lies, Valid, yes-follows, no-follows}
 
-module _ (every : List Occurrence) (u : Setup) where
-  open Setup u using (members, senders, faulty)
+module _ (every : List Occurrence) (u : Taken) where
+  open Taken u using (setting, faulty)
+  open Setup setting using (senders)
 
   abbrev R : Run
-  R = runWith every members senders faulty
+  R = runWith every setting faulty
 
   -- from place p on these come
   abbrev pub Comes : ℕ → List Occurrence → Type 0

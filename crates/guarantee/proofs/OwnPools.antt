@@ -26,7 +26,7 @@ use Rattle.protocol.proofs.Says.{says-self, says-and, says-not, says-leb, says-
 use Rattle.protocol.proofs.Bits.{bit-zero}
 use Rattle.protocol.proofs.Decided.{says-kind}
 use Rattle.protocol.proofs.Quorums.{someone}
-use Rattle.examples.proofs.Opened.{opened}
+use Rattle.examples.proofs.Opened.{plain, opened}
 use Rattle.examples.proofs.Tested.{setupTest, eventTest, callTest, addTest, between, between-at, all-signed, tested}
 use Rattle.views.specs.Held.{viewIs, viewsIs}
 use Rattle.views.specs.declared.View as held
@@ -35,6 +35,7 @@ use Rattle.statements.specs.Block.{bindingIs}
 use Rattle.evidence.specs.declared.Notice.{Notice}
 use Rattle.evidence.specs.Notices.{sendersOf, bindingHeld}
 use Rattle.pool.specs.Pool.{stmtAt}
+use Rattle.windows.specs.Windows.{windowsIn}
 use Rattle.engine.specs.declared.Controller.{Controller}
 use Rattle.engine.specs.declared.Answer.{Answer}
 use Rattle.engine.specs.declared.Answer.the-variants.{Taken, Signed, Delivered, Quiet}
@@ -60,17 +61,17 @@ stored k = store k two 0 7
 
 abbrev events : List Event
 events =
-    call 0 (sendCall 0 7) ∷ call 0 turnCall
+    call 0 (sendCall 0 7) ∷ call 0 (turnCall 0)
     ∷ call 1 (addCall prepared)
-    ∷ call 0 turnCall
-    ∷ call 1 turnCall ∷ call 1 (addCall (acked 0))
-    ∷ call 0 (addCall (acked 1)) ∷ call 0 turnCall
-    ∷ call 1 turnCall
-    ∷ call 0 (addCall (stored 1)) ∷ call 0 turnCall
-    ∷ call 1 (addCall (stored 0)) ∷ call 1 turnCall ∷ []
+    ∷ call 0 (turnCall 0)
+    ∷ call 1 (turnCall 0) ∷ call 1 (addCall (acked 0))
+    ∷ call 0 (addCall (acked 1)) ∷ call 0 (turnCall 0)
+    ∷ call 1 (turnCall 0)
+    ∷ call 0 (addCall (stored 1)) ∷ call 0 (turnCall 0)
+    ∷ call 1 (addCall (stored 0)) ∷ call 1 (turnCall 0) ∷ []
 
 abbrev pub run : Run
-run = record { follows = λ k. ltb k 2; members = 3; senders = 0 ∷ []; events = events; room = λ n s. true }
+run = record { follows = λ k. ltb k 2; setting = plain 3 (0 ∷ []); events = events; room = λ n s. true }
 
 -- ---- the states of the two controllers
 
@@ -152,6 +153,8 @@ controllerWith ready k init n asked binds done = record {
   requested = one asked;
   joining = false;
   leaving = false;
+  windows = 0;
+  times = replicate 8 0;
 }
 
 abbrev meaningWith : Bool → ℕ → View → List View → Bool → Bool → Bool → controller.Controller
@@ -160,6 +163,7 @@ meaningWith ready k init entered asked binds done = record {
   number = k;
   ring = record { width = 16; init = init };
   senders = 0 ∷ [];
+  windows = [];
   entered = entered;
   binding = boundBy binds;
   delivered = doneBy done;
@@ -170,12 +174,13 @@ meaningWith ready k init entered asked binds done = record {
 
 means-so : (ready : Bool) (k : ℕ) (init : held.View) (n : ℕ) (asked binds done : Bool)
     → controllerIs (controllerWith ready k init n asked binds done) ≡ meaningWith ready k (viewIs init) (viewsIs (record { views = init ∷ replicate 15 nobody; len = n })) asked binds done
-unfolding controllerIs sendersOf listOf
+unfolding controllerIs sendersOf windowsIn listOf
 means-so ready k init n asked binds done i = record {
   isSetUp = ready;
   number = k;
   ring = record { width = 16; init = viewIs init };
   senders = 0 ∷ [];
+  windows = [];
   entered = viewsIs (record { views = init ∷ replicate 15 nobody; len = n });
   binding = held-is binds i;
   delivered = done-is done i;
@@ -276,11 +281,11 @@ ones = one0 ∷ one0 ∷ one3 ∷ one3 ∷ one5 ∷ one6 ∷ one6 ∷ one6 ∷ o
 
 -- ---- the calls are the engine's
 
-zero-path : Path 0 (call 0 (setupCall 0 3 (0 ∷ [])) ∷ events) fresh (zero0 ∷ zeros)
+zero-path : Path 0 (call 0 (setupCall 0 (plain 3 (0 ∷ []))) ∷ events) fresh (zero0 ∷ zeros)
 unfolding opened numberOf pooled hasRoom changeOf fits within allowed computed claimed
 zero-path = (refl, (refl, (refl, (refl, (refl, (refl, (refl, (refl, (refl, (refl, (refl, (refl, (refl, (refl, refl))))))))))))))
 
-one-path : Path 1 (call 1 (setupCall 1 3 (0 ∷ [])) ∷ events) fresh (one0 ∷ ones)
+one-path : Path 1 (call 1 (setupCall 1 (plain 3 (0 ∷ []))) ∷ events) fresh (one0 ∷ ones)
 unfolding opened numberOf pooled hasRoom changeOf fits within allowed computed claimed
 one-path = (refl, (refl, (refl, (refl, (refl, (refl, (refl, (refl, (refl, (refl, (refl, (refl, (refl, (refl, refl))))))))))))))
 
@@ -340,11 +345,11 @@ own-promises = calls-keep own-run e own-engines
 
 pub zero-delivers : EngineAnswers run e 10 0 (delivered 0 7)
 unfolding answerIs
-zero-delivers = record { isTurn = refl; answers = refl }
+zero-delivers = record { minute = 0; isTurn = refl; answers = refl }
 
 pub one-delivers : EngineAnswers run e 12 1 (delivered 0 7)
 unfolding answerIs
-one-delivers = record { isTurn = refl; answers = refl }
+one-delivers = record { minute = 0; isTurn = refl; answers = refl }
 
 -- what an engine prepared earlier, over the pool of 0, as the promise has it of the delivery over the pool of 1
 pub own-integrity : (i : ℕ) × (i < 12) × EngineAnswers run e i 0 (signed prepared)

@@ -15,7 +15,7 @@ use Rattle.protocol.specs.Sets.{bit}
 use Rattle.protocol.specs.View.{controllers, View, isView, member}
 use Rattle.protocol.specs.History.{top}
 use Rattle.protocol.specs.Controller.{Answer, taken, signed, entered, delivered, left, quiet, refused, conflict}
-use Rattle.protocol.specs.Call.{ringOf}
+use Rattle.protocol.specs.Call.{Setup, ringOf}
 use Rattle.protocol.specs.Promises.{Observed, NoConflict}
 use Rattle.protocol.proofs.Found.{none≢some, some-injective}
 use Rattle.protocol.proofs.Bits.{bit-zero}
@@ -50,7 +50,7 @@ some-bytes [] [] r n e f = none≢some e
 some-bytes (c ∷ S) L r n e f = omega arith
 
 module _ (schedule out : List ℕ) (printed : Printed schedule out) (short : length schedule ≤ 65536) (L : List (Option Line)) (reads : ReadAll newBench (lines schedule) L)
-    (first members : ℕ) (senders : List ℕ) (faulty : ℕ) (start : SetupTaken L (InText out) first members senders faulty) where
+    (first : ℕ) (setting : Setup) (faulty : ℕ) (start : SetupTaken L (InText out) first setting faulty) where
   out-is : out ≡ headerText ++ rowsFrom 1 newBench L
   out-is =
       printed .prints ∙ ap (λ t. headerText ++ t)
@@ -87,13 +87,13 @@ module _ (schedule out : List ℕ) (printed : Printed schedule out) (short : len
   same : (n : ℕ) {r : Reply} (b : ReplyOf n r) (a : Answer) → b .answer ≡ a → Names L a (b .number) → Says L (RepliedTo L) n (r .who) a
   same n b a e names = record { number = b .number; row = replies n b a e; names = names }
 
-  set-up : SetupTaken L (RepliedTo L) first members senders faulty
+  set-up : SetupTaken L (RepliedTo L) first setting faulty
   set-up = let b = reply-of first _ (start .taken .row) in record { line = start .line; taken = same first b taken (b .told) tt }
 
   abbrev S : Schedule
-  S = record { L = L; reads = legible-at (lines schedule) L reads; first = first; members = members; senders = senders; faulty = faulty; start = set-up }
+  S = record { L = L; reads = legible-at (lines schedule) L reads; first = first; setting = setting; faulty = faulty; start = set-up }
 
-  module _ (few : FewFaulty L members faulty) where
+  module _ (few : FewFaulty L (setting .members) faulty) where
     fits : (v : View) → T (isView controllers v) → (v .joined < 2 ^ 16) × (v .left < 2 ^ 16)
     fits v t = says-view controllers v .sound t .0
 
@@ -123,12 +123,12 @@ module _ (schedule out : List ℕ) (printed : Printed schedule out) (short : len
     answers : (n k : ℕ) (a : Answer) → Says L (ShownRow L out) n k a → Says L (RepliedTo L) n k a
     answers n k a p = record { number = p .number; row = p .row .reply; names = p .names }
 
-    kept : Kept L (RepliedTo L) members senders faulty
+    kept : Kept L (RepliedTo L) setting faulty
     kept = rows-kept S few
 
-    printed-kept : Kept L (ShownRow L out) members senders faulty
+    printed-kept : Kept L (ShownRow L out) setting faulty
     printed-kept =
-        let o : Observed = rows L (RepliedTo L) members senders faulty in
+        let o : Observed = rows L (RepliedTo L) setting faulty in
         record {
           promises = carried o (Says L (ShownRow L out)) (o .recordOf) (λ n k a t. answers n k a) (λ n k s t. shows n k (signed s)) (λ k n t. refl) (kept .promises);
           noConflict = carried-no-conflict o (Says L (ShownRow L out)) (o .recordOf) (λ n k a t. answers n k a) (λ n k s t. shows n k (signed s)) (λ k n t. refl) (kept .noConflict);
@@ -143,7 +143,7 @@ module _ (schedule out : List ℕ) (printed : Printed schedule out) (short : len
         cc (e)
 
     -- a delivery in a ring of one notice is of notice 0
-    of-first : length senders ≡ 1 → (n k m : ℕ) → Delivered out faulty n k m → Says L (RepliedTo L) n k (delivered 0 m)
+    of-first : length (setting .senders) ≡ 1 → (n k m : ℕ) → Delivered out faulty n k m → Says L (RepliedTo L) n k (delivered 0 m)
     of-first one n k m d =
         let b = reply-of n _ (d .row) in
         let (notice, e) = b .told in
@@ -151,7 +151,7 @@ module _ (schedule out : List ℕ) (printed : Printed schedule out) (short : len
         let first : notice ≡ 0 = omega (arith, one, kept .promises .ofSetup notice n k m (d .follows, s)) in
         subst (λ i. Says L (RepliedTo L) n k (delivered i m)) first s
 
-    read-off : ReadOff L out members senders faulty
+    read-off : ReadOff L out setting faulty
     unfolding NoConflict
     read-off = record {
       answered = λ n k a t s. let (b, e, r) = said n k a t s in (b, e, shows n k b r);
@@ -168,8 +168,8 @@ module _ (schedule out : List ℕ) (printed : Printed schedule out) (short : len
 
 -- WHAT IS PROMISED HOLDS OF THE ROWS THAT ARE PRINTED
 pub guaranteed : Guarantee
-guaranteed schedule out printed short L reads first members senders faulty start few =
-    (printed-kept schedule out printed short L reads first members senders faulty start few, read-off schedule out printed short L reads first members senders faulty start few)
+guaranteed schedule out printed short L reads first setting faulty start few =
+    (printed-kept schedule out printed short L reads first setting faulty start few, read-off schedule out printed short L reads first setting faulty start few)
 
 -- and of what a run of the bench leaves in memory that has room for it
 pub left-in-memory : InMemory

@@ -37,7 +37,7 @@ use Rattle.guarantee.proofs.Links.{Comes}
 use Rattle.guarantee.proofs.Schedules.{place-up, place-next, Schedule, place, u, valid, every, run, effect-at, comes, passes, linked, acts-late, From, late, from-line, admitted-at, pooled-statements, is-run}
 
 module _ (S : Schedule) where
-  open Schedule S using (L, reads, first, members, senders, faulty, start)
+  open Schedule S using (L, reads, first, setting, faulty, start)
 
   abbrev R : Run
   R = run S
@@ -52,31 +52,31 @@ module _ (S : Schedule) where
     turns : TurnAnswers R (at n) k a
     next : at (suc n) ≡ suc (at n)
 
-  at-turn : (n k : ℕ) (l : Option Line) → getElem? L n ≡ some l → first < n → T (follower faulty k) → Calls (after L n) l k turnCall → AtTurn n k (step (after L n) l .reply .answer)
+  at-turn : (n k minute : ℕ) (l : Option Line) → getElem? L n ≡ some l → first < n → T (follower faulty k) → Calls (after L n) l k (turnCall minute) → AtTurn n k (step (after L n) l .reply .answer)
   unfolding occurs
-  at-turn n k l e h t c =
+  at-turn n k minute l e h t c =
       let f : isFollower (after L n) k ≡ true = follower-is (u S) (valid S n h) k ∙ is-true (follower faulty k) t in
-      let are : occurs (after L n) (some l) ≡ record { event = call k turnCall; pool = after L n .pool } ∷ [] =
-      ap (map (λ e. record { event = e; pool = after L n .pool })) (c .events ∙ ap (λ x. if x then call k turnCall ∷ [] else map signing (signedIn (out (after L n) k turnCall .answer))) f) in
+      let are : occurs (after L n) (some l) ≡ record { event = call k (turnCall minute); pool = after L n .pool } ∷ [] =
+      ap (map (λ e. record { event = e; pool = after L n .pool })) (c .events ∙ ap (λ x. if x then call k (turnCall minute) ∷ [] else map signing (signedIn (out (after L n) k (turnCall minute) .answer))) f) in
       let next : at (suc n) ≡ suc (at n) = place-next L n l e ∙ ap (λ O. at n + length O) are ∙ omega arith in
-      let is : event R (at n) ≡ some (call k turnCall) = map-at (λ o. o .event) (every S) (at n) (subst (Comes (every S) (u S) (at n)) are (comes S n l e) .0) in
+      let is : event R (at n) ≡ some (call k (turnCall minute)) = map-at (λ o. o .event) (every S) (at n) (subst (Comes (every S) (u S) (at n)) are (comes S n l e) .0) in
       record {
         later = h;
-        turns = record { isTurn = is; answers = passes S n l e h (linked S n h) .told (at n) k turnCall (omega arith) (omega (arith, next)) is };
+        turns = record { minute = minute; isTurn = is; answers = passes S n l e h (linked S n h) .told (at n) k (turnCall minute) (omega arith) (omega (arith, next)) is };
         next = next;
       }
 
   -- a row that only a turn prints is a turn of the controller that it names
-  acting : (n k : ℕ) (a : Answer) {number : ℕ} → Acts a → (r : RepliedTo L n (record { who = k; answer = a; number = number })) → (first < n) × Calls (after L n) (r .line) k turnCall
+  acting : (n k : ℕ) (a : Answer) {number : ℕ} → Acts a → (r : RepliedTo L n (record { who = k; answer = a; number = number })) → (first < n) × ((minute : ℕ) × Calls (after L n) (r .line) k (turnCall minute))
   acting n k a acts r =
       let t : Acts (step (after L n) (r .line) .reply .answer) = subst (λ x. Acts (x .answer)) (sym (r .reply)) acts in
       let h = acts-late S n (r .line) (r .there) t in
-      (h, subst (λ x. Calls (after L n) (r .line) (x .who) turnCall) (r .reply) (acting-line (u S) (valid S n h) (r .line) (effect-at S n (r .line) (r .there) h) t))
+      (h, subst (λ x. (minute : ℕ) × Calls (after L n) (r .line) (x .who) (turnCall minute)) (r .reply) (acting-line (u S) (valid S n h) (r .line) (effect-at S n (r .line) (r .there) h) t))
 
   turn-at : (n k : ℕ) (a : Answer) {number : ℕ} → Acts a → T (follower faulty k) → RepliedTo L n (record { who = k; answer = a; number = number }) → AtTurn n k a
   turn-at n k a acts t r =
-      let (h, c) = acting n k a acts r in
-      subst (λ x. AtTurn n k (x .answer)) (r .reply) (at-turn n k (r .line) (r .there) h t c)
+      let (h, (minute, c)) = acting n k a acts r in
+      subst (λ x. AtTurn n k (x .answer)) (r .reply) (at-turn n k minute (r .line) (r .there) h t c)
 
   -- after more lines the pool has more at its end
   pool-longer : (m n : ℕ) → first < m → m ≤ n → (D : List Stmt) × (after L n .pool ≡ after L m .pool ++ D)
@@ -90,19 +90,19 @@ module _ (S : Schedule) where
   pub signed-number : (n k : ℕ) (s : Stmt) (number : ℕ) → RepliedTo L n (record { who = k; answer = signed s; number = number }) → getElem? (finalPool L) number ≡ some s
   unfolding after afterLine
   signed-number n k s number r =
-      let (h, c) = acting n k (signed s) tt r in
+      let (h, (_, c)) = acting n k (signed s) tt r in
       let (D, f) = pool-longer (suc n) (length L) (omega arith) (at-in L n (r .there) .1) in
       let here : getElem? (step (after L n) (r .line) .bench .pool) number ≡ some s = subst (λ x. getElem? (step (after L n) (r .line) .bench .pool) (x .number) ≡ some s) (r .reply) (c .number s (sym (c .answered) ∙ ap (λ x. x .answer) (r .reply))) in
       ap (λ P. getElem? P number) (f ∙ ap (λ x. afterLine (after L n) x .pool ++ D) (r .there)) ∙ at-left (step (after L n) (r .line) .bench .pool) D number here
 
   -- an event of the run that is a turn and signs is a row
   row-of : (i k : ℕ) (s : Stmt) → TurnAnswers R i k (signed s) → (n : ℕ) × (at n ≡ i) × Says L (RepliedTo L) n k (signed s)
-  row-of i k s t = let r = from-line S i (call k turnCall) (t .isTurn) in go r (admitted-at S r)
+  row-of i k s t = let r = from-line S i (call k (turnCall (t .minute))) (t .isTurn) in go r (admitted-at S r)
     where
-      go : (r : From L i (call k turnCall)) → Admitted (u S) (valid S (r .at) (late S r)) (r .of) (call k turnCall) → (n : ℕ) × (at n ≡ i) × Says L (RepliedTo L) n k (signed s)
+      go : (r : From L i (call k (turnCall (t .minute)))) → Admitted (u S) (valid S (r .at) (late S r)) (r .of) (call k (turnCall (t .minute))) → (n : ℕ) × (at n ≡ i) × Says L (RepliedTo L) n k (signed s)
       go r (f, _, inl c) = absurd c
       go r (f, _, inr c) =
-          let x = at-turn (r .at) k (r .of) (r .there) (late S r) f c in
+          let x = at-turn (r .at) k (t .minute) (r .of) (r .there) (late S r) f c in
           let is : at (r .at) ≡ i = omega (arith, r .low, r .high, x .next) in
           let says : step (after L (r .at)) (r .of) .reply .answer ≡ signed s = sym (x .turns .answers) ∙ ap (λ j. returned R k (suc j) .answer) is ∙ t .answers in
           let number : ℕ = step (after L (r .at)) (r .of) .reply .number in
@@ -124,14 +124,14 @@ module _ (S : Schedule) where
 
   -- ---- the promises
 
-  module _ (few : FewFaulty L members faulty) where
+  module _ (few : FewFaulty L (setting .members) faulty) where
     is : IsRun R
     is = is-run S few
 
     kept : Promises (observed R)
     kept = promises is
 
-    has-entered : (k : ℕ) (v : View) → HasEntered (rows L (RepliedTo L) members senders faulty) k v → HasEntered (observed R) k v
+    has-entered : (k : ℕ) (v : View) → HasEntered (rows L (RepliedTo L) setting faulty) k v → HasEntered (observed R) k v
     has-entered k v (inl h) = inl h
     has-entered k v (inr (n, (t, s))) = inr (at n, (t, turn-at n k (entered v) tt t (s .row) .turns))
 
@@ -140,7 +140,7 @@ module _ (S : Schedule) where
         let (H, h, e) = entered-top is t (turn-at n k (entered v) tt t r .turns) in
         subst (λ v. T (isView controllers v)) e (top-is-view is h)
 
-    promised : Promises (rows L (RepliedTo L) members senders faulty)
+    promised : Promises (rows L (RepliedTo L) setting faulty)
     promised = record {
       ofSetup = λ notice n k m (t, s). kept .ofSetup notice (at n) k m (t, turn-at n k (delivered notice m) tt t (s .row) .turns);
       consistency = λ notice i j m n k m′ (t, s) (t′, s′).
@@ -151,18 +151,18 @@ module _ (S : Schedule) where
           same-row i n k (delivered notice m) (delivered notice m′) a b (kept .noDuplication notice (at i) (at n) k m m′ (t, a .turns) (t′, b .turns));
       integrity = λ notice n k m t (t′, s).
           let (j, l, u) = kept .integrity notice (at n) k m t (t′, turn-at n k (delivered notice m) tt t′ (s .row) .turns) in
-          let sender : ℕ = senderOf senders notice in
+          let sender : ℕ = senderOf (setting .senders) notice in
           let (i, e, r) = row-of j sender (prepare sender notice m) u in
           (i, earlier i n (omega (arith, e, l)), r);
       comparableViews = λ j k u v a b. kept .comparableViews j k u v (has-entered j u a) (has-entered k v b);
       storedIsKept = λ notice H m n k v h q (t, s) g i l.
           let a = turn-at n k (entered v) tt t (s .row) in
           let more = pooled-statements S in
-          subst (λ x. Certificate (ringOf members) senders (x .statements) notice m) (linked S i (omega (arith, a .later)) .seats k t)
+          subst (λ x. Certificate (ringOf (setting .members)) (setting .senders) (x .statements) notice m) (linked S i (omega (arith, a .later)) .seats k t)
           (kept .storedIsKept notice H m (at n) k v (mono more h) (signed-mono more q) (t, a .turns) g (at i) (apart n i k (entered v) a l));
     }
 
     -- WHAT IS PROMISED OF THE ROWS HOLDS
-    pub rows-kept : Kept L (RepliedTo L) members senders faulty
+    pub rows-kept : Kept L (RepliedTo L) setting faulty
     unfolding NoConflict
     rows-kept = record { promises = promised; noConflict = λ n k t s. no-conflict is (at n) k t (turn-at n k (refused conflict) tt t (s .row) .turns) }

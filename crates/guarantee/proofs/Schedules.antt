@@ -19,7 +19,7 @@ use Rattle.protocol.specs.View.{controllers, View, member}
 use Rattle.protocol.specs.History.{top}
 use Rattle.protocol.specs.Evidence.{Sealed}
 use Rattle.protocol.specs.Controller.{taken}
-use Rattle.protocol.specs.Call.{ringOf}
+use Rattle.protocol.specs.Call.{Setup, ringOf}
 use Rattle.protocol.specs.Run.{Call, addCall, Event, call, signing, Run, event, returned, signedBefore, statements, FewBreakers, IsRun}
 use Rattle.protocol.proofs.Found.{none≢some, some-injective}
 use Rattle.protocol.proofs.Rules.{and-first, and-second}
@@ -31,7 +31,7 @@ use Rattle.guarantee.specs.Events.{follower, Occurrence, afterLine, occu
 use Rattle.guarantee.specs.Link.{eventsBefore, RowOf, MakesUp}
 use Rattle.guarantee.specs.Rows.{RepliedTo, SetupTaken, finalPool, FewFaulty}
 use Rattle.guarantee.proofs.Laws.{longer-on, at-in, at-cases, at-map, once-in}
-use Rattle.guarantee.proofs.Seats.{seatOf, Setup, setup-starts}
+use Rattle.guarantee.proofs.Seats.{seatOf, Taken, setup-starts}
 use Rattle.guarantee.proofs.Lines.{Legible, Acts, Rests, Effect, startedBench, Starts, setupOf, setup-taken, new-line, Valid, started-seat, started-valid, effect}
 use Rattle.guarantee.proofs.Benches.{step-valid, Admitted, admitted}
 use Rattle.guarantee.proofs.Links.{Comes, past-is, comes-at, Linked, Passes, goes}
@@ -77,9 +77,9 @@ module _ (L : List (Option Line)) where
 abbrev pub AllLegible : List (Option Line) → Type 0
 AllLegible L = (n : ℕ) (l : Option Line) → getElem? L n ≡ some l → Legible (after L n .notices) l
 
-module _ (L : List (Option Line)) (reads : AllLegible L) (first : ℕ) {members : ℕ} {senders : List ℕ} {faulty : ℕ}
-    (there : getElem? L first ≡ some (some (setup members senders faulty))) (starts : Starts (after L first) members senders faulty) where
-  started-at : after L (suc first) ≡ startedBench members senders faulty
+module _ (L : List (Option Line)) (reads : AllLegible L) (first : ℕ) {p : Setup} {faulty : ℕ}
+    (there : getElem? L first ≡ some (some (setup p faulty))) (starts : Starts (after L first) p faulty) where
+  started-at : after L (suc first) ≡ startedBench p faulty
   unfolding after afterLine
   started-at = ap (afterLine (after L first)) there ∙ starts .after
 
@@ -96,15 +96,14 @@ pub record Schedule : Type 0 where
   pub L : List (Option Line)
   pub reads : AllLegible L
   pub first : ℕ
-  pub members : ℕ
-  pub senders : List ℕ
+  pub setting : Setup
   pub faulty : ℕ
-  pub start : SetupTaken L (RepliedTo L) first members senders faulty
+  pub start : SetupTaken L (RepliedTo L) first setting faulty
 
 module _ (S : Schedule) where
-  open Schedule S using (L, reads, first, members, senders, faulty, start)
+  open Schedule S using (L, reads, first, setting, faulty, start)
 
-  answered : step (after L first) (some (setup members senders faulty)) .reply .answer ≡ taken
+  answered : step (after L first) (some (setup setting faulty)) .reply .answer ≡ taken
   answered =
       let r = start .taken .row in
       ap (λ l. step (after L first) l .reply .answer) (some-injective (sym (start .line) ∙ r .there)) ∙ ap (λ x. x .answer) (r .reply)
@@ -113,10 +112,10 @@ module _ (S : Schedule) where
   abbrev pub place : ℕ → ℕ
   place n = eventsBefore L n
 
-  pub begun : Starts (after L first) members senders faulty
-  begun = setup-taken (after L first) members senders faulty answered
+  pub begun : Starts (after L first) setting faulty
+  begun = setup-taken (after L first) setting faulty answered
 
-  abbrev pub u : Setup
+  abbrev pub u : Taken
   u = setupOf begun
 
   pub valid : (n : ℕ) → first < n → Valid u (after L n)
@@ -126,7 +125,7 @@ module _ (S : Schedule) where
   early : (n : ℕ) → n < first → after L n ≡ newBench → (l : Option Line) → getElem? L n ≡ some l → Rests newBench l
   early n h e l there = elim (new-line l) [
     | inl r ↦ r
-    | inr (m, s, f, q, w) ↦ absurd (true≢false (sym (valid-from L reads n (there ∙ ap some q) (subst (λ b. Starts b m s f) (sym e) w) first h .isSetUp) ∙ begun .before))
+    | inr (p, f, q, w) ↦ absurd (true≢false (sym (valid-from L reads n (there ∙ ap some q) (subst (λ b. Starts b p f) (sym e) w) first h .isSetUp) ∙ begun .before))
   ]
 
   fresh : (n : ℕ) → n ≤ first → (after L n ≡ newBench) × (occurred L n ≡ [])
@@ -152,7 +151,7 @@ module _ (S : Schedule) where
       | yes g ↦ let (f, _) = fresh n (omega arith) in absurd (early n g f l e .idle (subst (λ b. Acts (step b l .reply .answer)) f t))
       | no g ↦
           let is : n ≡ first = omega arith in
-          let q : l ≡ some (setup members senders faulty) = some-injective (sym e ∙ ap (getElem? L) is ∙ start .line) in
+          let q : l ≡ some (setup setting faulty) = some-injective (sym e ∙ ap (getElem? L) is ∙ start .line) in
           absurd (subst Acts (ap₂ (λ n l. step (after L n) l .reply .answer) is q ∙ answered) t)
     ]
   ]
@@ -166,12 +165,12 @@ module _ (S : Schedule) where
   every = occurred L (length L)
 
   abbrev pub run : Run
-  run = runOf L members senders faulty
+  run = runOf L setting faulty
 
   abbrev pub LinkedAt : ℕ → Type 0
   LinkedAt n = Linked every u (place n) (after L n)
 
-  first-link : Linked every u 0 (startedBench members senders faulty)
+  first-link : Linked every u 0 (startedBench setting faulty)
   unfolding returned signedBefore follower
   first-link = record {
     seats = λ k t. let l = ltb→lt k controllers (and-first (ltb k controllers) (not (bit faulty k)) t) in ap seatOf (setup-starts u k l) ∙ sym (started-seat u k l);
@@ -231,7 +230,7 @@ module _ (S : Schedule) where
   unfolding statements
   pooled-statements a m = subst (λ n. a ∈ signedBefore run n) (sym long-is) (linked (length L) whole .has a m)
 
-  premises : ((H : List View) → Sealed (ringOf members) (statements run) H → FewBreakers run (top (ringOf members) H)) → IsRun run
+  premises : ((H : List View) → Sealed (ringOf (setting .members)) (statements run) H → FewBreakers run (top (ringOf (setting .members)) H)) → IsRun run
   unfolding follower
   premises few = record {
     numbered = λ k t. ltb→lt k controllers (and-first (ltb k controllers) (not (bit faulty k)) t);
@@ -255,7 +254,7 @@ module _ (S : Schedule) where
       }
 
   -- THE LINES OF A SCHEDULE MAKE UP A RUN
-  pub makes-up : MakesUp L first members senders faulty
+  pub makes-up : MakesUp L first setting faulty
   makes-up = record {
     premises = premises;
     controllers = λ n k h t. ap (λ s. s .controller) (linked n h .seats k t);
@@ -266,10 +265,10 @@ module _ (S : Schedule) where
     answers = row-of;
   }
 
-  few-break : FewFaulty L members faulty → (H : List View) → Sealed (ringOf members) (statements run) H → FewBreakers run (top (ringOf members) H)
+  few-break : FewFaulty L (setting .members) faulty → (H : List View) → Sealed (ringOf (setting .members)) (statements run) H → FewBreakers run (top (ringOf (setting .members)) H)
   unfolding FewBreakers follower
   few-break few H h =
-      let t : View = top (ringOf members) H in
+      let t : View = top (ringOf (setting .members)) H in
       omega (arith, few .few H (mono statements-pooled h), count-mono controllers (λ k. member t k && not (ltb k controllers && not (bit faulty k))) (λ k. member t k && bit faulty k) (marked t))
     where
       both : (x y : Bool) → T x → T (not (true && not y)) → T (x && y)
@@ -280,5 +279,5 @@ module _ (S : Schedule) where
       marked t k l m = both (member t k) (bit faulty k) (and-first (member t k) (not (ltb k controllers && not (bit faulty k))) m)
           (subst (λ x. T (not (x && not (bit faulty k)))) (lt-ltb k controllers l) (and-second (member t k) (not (ltb k controllers && not (bit faulty k))) m))
 
-  pub is-run : FewFaulty L members faulty → IsRun run
+  pub is-run : FewFaulty L (setting .members) faulty → IsRun run
   is-run few = premises (few-break few)

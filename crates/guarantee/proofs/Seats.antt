@@ -16,8 +16,9 @@ use Rattle.protocol.specs.View.{controllers, View, member, hasMembers, isView}
 use Rattle.protocol.specs.History.{top}
 use Rattle.protocol.specs.Statement.{Stmt, Binding, bound, sameStmt, fieldRules}
 use Rattle.protocol.specs.Evidence.{senderOf, candidates, isConflict}
-use Rattle.protocol.specs.Controller.{Controller, notSetUp, withBinding, withEntered, withDelivered, withRequests, Refusal, badSetup, badStatement, repeated, full, badRequest, manyCandidates, conflict, outOfPlace, unknownNotice, Answer, taken, entered, delivered, left, quiet, refused, Outcome}
-use Rattle.protocol.specs.Call.{ringOf, isFull, setupAllowed, started, setup, refuse, note, requestJoin, requestLeave, requestSend, add}
+use Rattle.protocol.specs.Controller.{Controller, notSetUp, withBinding, withEntered, withDelivered, withRequests, Refusal, badSetup, badStatement, repeated, full, badRequest, manyCandidates, conflict, outOfPlace, unknownNotice, badMinute, Answer, taken, entered, delivered, left, quiet, refused, Outcome}
+use Rattle.protocol.specs.Window.{lastMinute, windowsAllowed}
+use Rattle.protocol.specs.Call.{Setup, ringOf, isFull, setupAllowed, started, setup, refuse, note, requestJoin, requestLeave, requestSend, add}
 use Rattle.protocol.specs.Turn.{enteredAfter, countedReports, Action, sign, bindAndSign, enter, deliver, T as Top, firstRule, signing, perform, turn}
 use Rattle.protocol.specs.Run.{Call, setupCall, joinCall, leaveCall, sendCall, addCall, turnCall, outcome, Run, signedIn, FewBreakers, IsRun}
 use Rattle.protocol.proofs.Found.{none≢some, some-injective}
@@ -42,12 +43,12 @@ Clean n P = (s : Stmt) → s ∈ P → Fit n s
 
 -- a payload that is sent is of 64 bits, and what is added is in the pool
 abbrev pub Proper : List Stmt → Call → Type 0
-Proper P (setupCall n m s) = Unit {0}
+Proper P (setupCall n p) = Unit {0}
 Proper P joinCall = Unit {0}
 Proper P leaveCall = Unit {0}
 Proper P (sendCall i m) = m < 2 ^ 64
 Proper P (addCall s) = s ∈ P
-Proper P turnCall = Unit {0}
+Proper P (turnCall minute) = Unit {0}
 
 -- the payloads that something by notice has are of 64 bits, also with one more
 
@@ -88,14 +89,15 @@ module _ (c : Controller) (X : List Stmt) (ok : Sound c X) where
   ]
 
 -- a setup that is taken
-pub record Setup : Type 0 where
-  pub members : ℕ
-  pub senders : List ℕ
+pub record Taken : Type 0 where
+  pub setting : Setup
   pub faulty : ℕ
-  pub allowed : T (setupAllowed 0 members senders)
+  pub allowed : T (setupAllowed 0 (setting .members) (setting .senders))
+  pub windows : T (windowsAllowed (setting .windows))
 
-module _ (u : Setup) where
-  open Setup u using (members, senders, allowed)
+module _ (u : Taken) where
+  open Taken u using (setting, allowed, windows)
+  open Setup setting using (members, senders)
 
   -- ---- what it gives
 
@@ -107,13 +109,13 @@ module _ (u : Setup) where
   pub some-notices : (0 < length senders) × (length senders ≤ 64)
   some-notices = let a = says-allowed 0 members senders .sound allowed in (a .one, a .few)
 
-  pub setup-starts : (k : ℕ) → k < controllers → setup notSetUp [] k members senders ≡ record { answer = taken; controller = started k members senders; statements = [] }
+  pub setup-starts : (k : ℕ) → k < controllers → setup notSetUp [] k setting ≡ record { answer = taken; controller = started k setting; statements = [] }
   unfolding setup
-  setup-starts k l = rw (allowed-at k l)
+  setup-starts k l = rw (allowed-at k l, is-true (windowsAllowed (setting .windows)) windows)
 
   -- the run in which nothing happens, for what the setup alone gives
   nothing : Run
-  nothing = record { follows = λ k. ltb k controllers; members = members; senders = senders; events = []; room = λ n s. true }
+  nothing = record { follows = λ k. ltb k controllers; setting = setting; events = []; room = λ n s. true }
 
   nothing-is : IsRun nothing
   unfolding nothing FewBreakers
@@ -141,7 +143,7 @@ module _ (u : Setup) where
     pub inRing : InRing k (s .controller)
     pub known : s .statements ⊆ P
 
-  pub started-in-ring : (k : ℕ) → InRing k (started k members senders)
+  pub started-in-ring : (k : ℕ) → InRing k (started k setting)
   unfolding started
   started-in-ring k = record { isSetUp = refl; number = refl; ring = refl; senders = refl; binding = λ i m e. let z : _≡_ {A = ℕ} 0 1 = cc (e) in absurd (omega arith); send = λ i m e. absurd (none≢some e) }
 
@@ -203,18 +205,18 @@ module _ (u : Setup) where
         notice : s .notice < length senders
         notice = subst (λ l. s .notice < length l) (ok .inRing .senders) (signs-notice c X sound t u (subst (λ l. 0 < length l) (sym (ok .inRing .senders)) (some-notices .0)) w)
 
-    performs : (room : Stmt → Bool) → T (not (isConflict (c .ring) (c .senders) X)) → T (not (ltb 16 (length (candidates (c .ring) X)))) → (o : Option Action) → firstRule c X ≡ o → Yields P k (perform c X room o)
+    performs : (room : Stmt → Bool) → T (not (isConflict (c .ring) (c .senders) X)) → T (not (ltb 16 (length (candidates (c .ring) X)))) → (minute : ℕ) (o : Option Action) → firstRule c X minute ≡ o → Yields P k (perform c X room o)
     unfolding perform signedIn
-    performs room t u none e = either (λ a. Yields P k (record { answer = a; controller = c; statements = X })) (bit (Top c X .left) (c .number)) (λ f. rests left c refl (ok .inRing)) (λ f. rests quiet c refl (ok .inRing))
-    performs room t u (some (sign s)) e = signs-it room c s t u (acting c X t e .0) (ok .inRing)
-    performs room t u (some (bindAndSign i m s)) e =
-        let w = acting c X t e .0 in
+    performs room t u minute none e = either (λ a. Yields P k (record { answer = a; controller = c; statements = X })) (bit (Top c X .left) (c .number)) (λ f. rests left c refl (ok .inRing)) (λ f. rests quiet c refl (ok .inRing))
+    performs room t u minute (some (sign s)) e = signs-it room c s t u (acting c X t minute e .0) (ok .inRing)
+    performs room t u minute (some (bindAndSign i m s)) e =
+        let w = acting c X t minute e .0 in
         let b : ℕ → Binding = put i (bound m) (c .binding) in
         signs-it room (withBinding b c) s t u w (bound-to b (signs-small c X sound w))
-    performs room t u (some (enter v b)) e =
-        let s = bound-to b (enters-small c X sound (acting c X t e)) in
+    performs room t u minute (some (enter v b)) e =
+        let s = bound-to b (enters-small c X sound (acting c X t minute e)) in
         rests (entered v) (withEntered (enteredAfter v (c .entered)) (withBinding b c)) refl (record { isSetUp = s .isSetUp; number = s .number; ring = s .ring; senders = s .senders; binding = s .binding; send = s .send })
-    performs room t u (some (deliver i m)) e =
+    performs room t u minute (some (deliver i m)) e =
         let s = ok .inRing in
         rests (delivered i m) (withDelivered (put i true (c .delivered)) c) refl (record { isSetUp = s .isSetUp; number = s .number; ring = s .ring; senders = s .senders; binding = s .binding; send = s .send })
 
@@ -224,7 +226,7 @@ module _ (u : Setup) where
     -- EVERY CALL KEEPS IT
     pub keeps : (room : Stmt → Bool) (a : Call) → Proper P a → Yields P k (outcome room c X a)
     unfolding outcome setup requestJoin requestLeave requestSend add turn
-    keeps room (setupCall n m s) f = either Good (c .isSetUp || not (setupAllowed n m s)) (λ e. refuses badSetup) (λ e. absurd (true≢false (subst (λ b. (b || not (setupAllowed n m s)) ≡ false) (ok .inRing .isSetUp) e)))
+    keeps room (setupCall n p) f = either Good (c .isSetUp || not (setupAllowed n (p .members) (p .senders))) (λ e. refuses badSetup) (λ e. absurd (true≢false (subst (λ b. (b || not (setupAllowed n (p .members) (p .senders))) ≡ false) (ok .inRing .isSetUp) e)))
     keeps room joinCall f =
         either Good (c .isSetUp) (λ e. either Good (member (c .ring .init) (c .number) || c .joinRequested) (λ g. refuses badRequest) (λ g. notes true (c .leaveRequested) (c .sendRequested) (ok .inRing .send)))
         (λ e. refuses outOfPlace)
@@ -239,6 +241,7 @@ module _ (u : Setup) where
         either Good (c .isSetUp) (λ e. either Good (not (fieldRules (c .ring .width) (length (c .senders)) s)) (λ g. refuses badStatement)
         (λ g. either Good (not (ltb (s .notice) (length (c .senders)))) (λ h. refuses unknownNotice)
         (λ h. either Good (any (sameStmt s) X) (λ i. refuses repeated) (λ i. either Good (isFull room X s) (λ j. refuses full) (λ j. adds s f))))) (λ e. refuses outOfPlace)
-    keeps room turnCall f =
-        either Good (c .isSetUp) (λ e. either Good (isConflict (c .ring) (c .senders) X) (λ g. refuses conflict) (λ g. either Good (ltb 16 (length (candidates (c .ring) X))) (λ h. refuses manyCandidates)
-        (λ h. performs room (subst (λ b. T (not b)) (sym g) tt) (subst (λ b. T (not b)) (sym h) tt) (firstRule c X) refl))) (λ e. refuses outOfPlace)
+    keeps room (turnCall minute) f =
+        either Good (c .isSetUp) (λ e. either Good (ltb lastMinute minute) (λ g. refuses badMinute)
+        (λ e. either Good (isConflict (c .ring) (c .senders) X) (λ g. refuses conflict) (λ g. either Good (ltb 16 (length (candidates (c .ring) X))) (λ h. refuses manyCandidates)
+        (λ h. performs room (subst (λ b. T (not b)) (sym g) tt) (subst (λ b. T (not b)) (sym h) tt) minute (firstRule c X minute) refl)))) (λ e. refuses outOfPlace)

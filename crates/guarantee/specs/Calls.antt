@@ -37,7 +37,7 @@ pub record EngineRun (run : Run) (k : ℕ) (e : ℕ → Engine) : Type 0 where
   -- "One taken setup starts every rule-follower": the first call, on a controller that is not set up, over any pool and record.
   pub fresh : Engine
   pub unset : controllerIs (fresh .last .controller) ≡ notSetUp
-  pub started : EngineCalls fresh (setupCall k (run .members) (run .senders)) (e 0)
+  pub started : EngineCalls fresh (setupCall k (run .setting)) (e 0)
   -- What the run says of the pool's room is asked at the calls on k alone: controllers may share a pool or have one each.
   pub room : (n : ℕ) (c : Call) → event run n ≡ some (call k c) → run .room n ≡ hasRoom (poolOf (e n .pool))
   -- "Each call gets the controller and record that the last call on that rule-follower returned".
@@ -51,7 +51,8 @@ EngineRuns run e = (k : ℕ) → T (run .follows k) → EngineRun run k (e k)
 
 -- Event n is a turn of controller k, and the engine answered a. A signed statement is answered by its number in the pool.
 pub record EngineAnswers (run : Run) (e : ℕ → ℕ → Engine) (n k : ℕ) (a : Answer) : Type 0 where
-  pub isTurn : event run n ≡ some (call k turnCall)
+  pub minute : ℕ
+  pub isTurn : event run n ≡ some (call k (turnCall minute))
   pub answers : answerIs (e k (suc n) .pool) (e k (suc n) .last .answer) ≡ a
 
 -- The run as it is seen in what the engine answers and returns.
@@ -59,7 +60,7 @@ abbrev pub engineCalls : Run → (ℕ → ℕ → Engine) → Observed
 engineCalls run e = record {
   follows = run .follows;
   ring = ring run;
-  senders = run .senders;
+  senders = run .setting .senders;
   statements = statements run;
   Answers = EngineAnswers run e;
   recordOf = λ k n. recordIn (e k n .pool) (e k n .ids);

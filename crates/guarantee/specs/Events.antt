@@ -12,6 +12,7 @@ use Rattle.protocol.specs.View.{controllers}
 use Rattle.protocol.specs.Statement.{Stmt, noStmt}
 use Rattle.protocol.specs.Controller.{Answer, taken, signed, entered, delivered, left, quiet, refused}
 use Rattle.protocol.specs.Pool.{hasRoom}
+use Rattle.protocol.specs.Call.{Setup}
 use Rattle.protocol.specs.Run.{Call, joinCall, leaveCall, sendCall, addCall, turnCall, Event, call, signing, Run, signedIn}
 use Rattle.schedule.specs.Line.{Line, setup, join, leave, send, give, all, turn, lie, noStatement}
 use Rattle.bench.specs.Bench.{Bench, newBench, step, missing, giveAll, turnAt, lieOf}
@@ -48,13 +49,13 @@ module _ (b : Bench) where
   -- A line that is unreadable or a further setup is no event.
   unfoldable pub eventsOf : Option Line → List Event
   eventsOf none = []
-  eventsOf (some (setup members senders faulty)) = []
+  eventsOf (some (setup s faulty)) = []
   eventsOf (some (join k)) = callOn k joinCall
   eventsOf (some (leave k)) = callOn k leaveCall
   eventsOf (some (send k notice payload)) = callOn k (sendCall notice payload)
   eventsOf (some (give k n)) = if ltb n (length (b .pool)) then callOn k (addCall (getD (b .pool) n noStmt)) else []
   eventsOf (some (all k)) = if isFollower k && isTaken (giveAll b k .reply .answer) then map (λ s. call k (addCall s)) (missing b k) else []
-  eventsOf (some (turn k)) = if isFollower k then call k turnCall ∷ [] else map signing (signedIn (turnAt b k .reply .answer))
+  eventsOf (some (turn k minute)) = if isFollower k then call k (turnCall minute) ∷ [] else map signing (signedIn (turnAt b k minute .reply .answer))
   eventsOf (some (lie s)) = if isTaken (lieOf b s .reply .answer) then signing s ∷ [] else []
   eventsOf (some noStatement) = []
 
@@ -73,12 +74,11 @@ unfoldable pub roomAt : Option Occurrence → Stmt → Bool
 roomAt none s = false
 roomAt (some o) s = hasRoom (o .pool) s
 
--- The run in which these come, where the setup that is taken has these members, these senders and this faulty set.
-abbrev pub runWith : List Occurrence → ℕ → List ℕ → ℕ → Run
-runWith every members senders faulty = record {
+-- The run in which these come, where the setup that is taken names this and has this faulty set.
+abbrev pub runWith : List Occurrence → Setup → ℕ → Run
+runWith every s faulty = record {
   follows = follower faulty;
-  members = members;
-  senders = senders;
+  setting = s;
   events = map (λ o. o .event) every;
   room = λ n. roomAt (getElem? every n);
 }
@@ -99,5 +99,5 @@ module _ (L : List (Option Line)) where
   occurred (suc n) = occurred n ++ occurs (after n) (lineAt n)
 
   -- The run of the schedule.
-  abbrev pub runOf : ℕ → List ℕ → ℕ → Run
+  abbrev pub runOf : Setup → ℕ → Run
   runOf = runWith (occurred (length L))

@@ -7,7 +7,7 @@ use Prim.Native.Nat.{ℕ, suc}
 use lib.Dec.{T, eqb}
 use lib.ListN.{getD}
 use Rattle.protocol.specs.Lists.{if_then_else_}
-use Rattle.protocol.specs.Controller.{Answer, taken, signed, entered, delivered, left, quiet, refused, Refusal, badSetup, badStatement, repeated, full, badRequest, manyCandidates, conflict, outOfPlace, unknownNotice}
+use Rattle.protocol.specs.Controller.{Answer, taken, signed, entered, delivered, left, quiet, refused, Refusal, badSetup, badStatement, repeated, full, badRequest, manyCandidates, conflict, outOfPlace, unknownNotice, badWindow, badMinute}
 use Rattle.protocol.specs.Pool.{hasRoom}
 use Rattle.protocol.specs.Run.{Call, setupCall, turnCall, call, Run, ring, event, statements}
 use Rattle.protocol.specs.Promises.{Observed}
@@ -40,7 +40,7 @@ pub record HostWaits (h h′ : Host) : Type 0 where
 pub record HostRun (run : Run) (k : ℕ) (h : ℕ → Host) : Type 0 where
   pub fresh : Host
   pub unset : Fresh (fresh .fields) (fresh .ids)
-  pub started : HostCalls fresh (setupCall k (run .members) (run .senders)) (h 0)
+  pub started : HostCalls fresh (setupCall k (run .setting)) (h 0)
   pub room : (n : ℕ) (c : Call) → event run n ≡ some (call k c) → run .room n ≡ hasRoom (poolOf (h n .pool))
   pub called : (n : ℕ) (c : Call) → event run n ≡ some (call k c) → HostCalls (h n) c (h (suc n))
   pub others : (n : ℕ) → ((c : Call) → ¬ (event run n ≡ some (call k c))) → HostWaits (h n) (h (suc n))
@@ -51,7 +51,7 @@ HostRuns run h = (k : ℕ) → T (run .follows k) → HostRun run k (h k)
 
 -- The refusal of a number, as `refusalNumber` gives them.
 abbrev pub refusalOf : ℕ → Refusal
-refusalOf n = getD (outOfPlace ∷ badSetup ∷ badStatement ∷ repeated ∷ full ∷ badRequest ∷ manyCandidates ∷ conflict ∷ outOfPlace ∷ unknownNotice ∷ []) n outOfPlace
+refusalOf n = getD (outOfPlace ∷ badSetup ∷ badStatement ∷ repeated ∷ full ∷ badRequest ∷ manyCandidates ∷ conflict ∷ outOfPlace ∷ unknownNotice ∷ badWindow ∷ badMinute ∷ []) n outOfPlace
 
 -- What an answer, a value and a notice say: a statement by its number in the pool W, a view by its word, a payload as it is, a refusal by its number. The notice is that of a delivery.
 unfoldable pub said : List ℕ → ℕ → ℕ → ℕ → Answer
@@ -61,7 +61,8 @@ said W answer value notice =
 
 -- Event n is a turn of controller k, and the numbers that the host got say a.
 pub record HostAnswers (run : Run) (h : ℕ → ℕ → Host) (n k : ℕ) (a : Answer) : Type 0 where
-  pub isTurn : event run n ≡ some (call k turnCall)
+  pub minute : ℕ
+  pub isTurn : event run n ≡ some (call k (turnCall minute))
   pub says : said (h k (suc n) .pool) (h k (suc n) .answer) (h k (suc n) .value) (h k (suc n) .notice) ≡ a
 
 -- The run as a host sees it.
@@ -69,7 +70,7 @@ abbrev pub hostCalls : Run → (ℕ → ℕ → Host) → Observed
 hostCalls run h = record {
   follows = run .follows;
   ring = ring run;
-  senders = run .senders;
+  senders = run .setting .senders;
   statements = statements run;
   Answers = HostAnswers run h;
   recordOf = λ k n. recordIn (h k n .pool) (h k n .ids);

@@ -16,7 +16,7 @@ use Rattle.protocol.specs.History.{top}
 use Rattle.protocol.specs.Statement.{Stmt, noStmt}
 use Rattle.protocol.specs.Evidence.{Sealed, senderOf}
 use Rattle.protocol.specs.Controller.{Answer, taken, signed, entered, delivered, left, quiet, refused}
-use Rattle.protocol.specs.Call.{ringOf}
+use Rattle.protocol.specs.Call.{Setup, ringOf}
 use Rattle.protocol.specs.Promises.{Observed, Promises, NoConflict}
 use Rattle.schedule.specs.Line.{Line, setup, lines}
 use Rattle.bench.specs.Bench.{Reply, newBench, step, seat}
@@ -82,18 +82,18 @@ module _ (L : List (Option Line)) where
       pub names : Names a number
 
     -- Line n is this setup, and its row answers taken: "its row shows notice 0's".
-    pub record SetupTaken (n members : ℕ) (senders : List ℕ) (faulty : ℕ) : Type 0 where
-      pub line : getElem? L n ≡ some (some (setup members senders faulty))
-      pub taken : Says n (senderOf senders 0) taken
+    pub record SetupTaken (n : ℕ) (p : Setup) (faulty : ℕ) : Type 0 where
+      pub line : getElem? L n ≡ some (some (setup p faulty))
+      pub taken : Says n (senderOf (p .senders) 0) taken
 
-    module _ (members : ℕ) (senders : List ℕ) (faulty : ℕ) where
+    module _ (p : Setup) (faulty : ℕ) where
       -- What is seen of the ring in its rows. Those who are not marked faulty follow the rules; what comes n-th is line n, and its row has the answer:
       -- a row `signed`, `entered`, `delivered` or `refused,7` is that of a turn.
       abbrev pub rows : Observed
       rows = record {
         follows = follower faulty;
-        ring = ringOf members;
-        senders = senders;
+        ring = ringOf (p .members);
+        senders = p .senders;
         statements = finalPool;
         Answers = Says;
         recordOf = λ k n. seat (after L n) k .statements;
@@ -104,7 +104,7 @@ module _ (L : List (Option Line)) where
         pub promises : Promises rows
         pub noConflict : NoConflict rows
 
-  module _ (out : List ℕ) (members : ℕ) (senders : List ℕ) (faulty : ℕ) where
+  module _ (out : List ℕ) (p : Setup) (faulty : ℕ) where
     -- What a reader has of the rows alone.
     pub record ReadOff : Type 0 where
       -- What the row of a controller that is not marked says was answered, a delivery with some notice; by the promise `ofSetup` this is one of the setup, and by
@@ -115,18 +115,18 @@ module _ (L : List (Option Line)) where
       -- A row `signed,number` is of the statement of that number in the final pool, which has its notice.
       pub signed : (n k number : ℕ) → InText out n (record { who = k; answer = signed noStmt; number = number }) → (s : Stmt) × (getElem? finalPool number ≡ some s) × Says (ShownRow out) n k (signed s)
       -- No row of a controller that is not marked is `refused,7`.
-      pub noConflict : NoConflict (rows (InText out) members senders faulty)
+      pub noConflict : NoConflict (rows (InText out) p faulty)
       -- In a ring of one notice all deliveries are of one payload, and each controller has at most one.
-      pub consistency : length senders ≡ 1 → (i j m n k m′ : ℕ) → Delivered out faulty i j m → Delivered out faulty n k m′ → m ≡ m′
-      pub noDuplication : length senders ≡ 1 → (i n k m m′ : ℕ) → Delivered out faulty i k m → Delivered out faulty n k m′ → i ≡ n
+      pub consistency : length (p .senders) ≡ 1 → (i j m n k m′ : ℕ) → Delivered out faulty i j m → Delivered out faulty n k m′ → m ≡ m′
+      pub noDuplication : length (p .senders) ≡ 1 → (i n k m m′ : ℕ) → Delivered out faulty i k m → Delivered out faulty n k m′ → i ≡ n
 
 -- What is promised of a text `out`, as that of a schedule which is not too long: for its reading, where a setup is taken and few are marked faulty.
 -- A schedule has one reading (`read-all-one` in crates/bench).
 abbrev pub Promised : List ℕ → List ℕ → Type 0
 Promised schedule out =
     length schedule ≤ 65536 → (L : List (Option Line)) → ReadAll newBench (lines schedule) L
-    → (first members : ℕ) (senders : List ℕ) (faulty : ℕ) → SetupTaken L (InText out) first members senders faulty → FewFaulty L members faulty
-    → Kept L (ShownRow L out) members senders faulty × ReadOff L out members senders faulty
+    → (first : ℕ) (p : Setup) (faulty : ℕ) → SetupTaken L (InText out) first p faulty → FewFaulty L (p .members) faulty
+    → Kept L (ShownRow L out) p faulty × ReadOff L out p faulty
 
 -- The promise, of the text that is printed for a schedule; it is one (`printed-one` in crates/bench).
 abbrev pub Guarantee : Type 0

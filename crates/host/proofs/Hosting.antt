@@ -112,11 +112,11 @@ module _ {o : Outcome} {F : List ℕ} {n : ℕ} {F′ value : List ℕ} (c : Con
     })
   ]
 
-  pub setup-hosted : {R R′ : List ℕ} (number members : ℕ) (senders : List ℕ) → SetUpOn number members senders R R′ c o → SetsUp F R number members senders n F′ R′ value
+  pub setup-hosted : {R R′ : List ℕ} (number : ℕ) (s : call.Setup) → SetUpOn number s R R′ c o → SetsUp F R number s n F′ R′ value
   unfolding Starts
-  setup-hosted {R} {R′} number members senders m =
-      hosted (SetUpOn number members senders R R′) R R′ m
-      (λ k. (λ W. as-before (m W) k (setup-stays (controllerIs c) (recordIn W R) number members senders), started-idle [] R R′ (call.setup (controllerIs c) (recordIn [] R) number members senders .answer) (is-answer (m []) k) (m [] .numbers)))
+  setup-hosted {R} {R′} number s m =
+      hosted (SetUpOn number s R R′) R R′ m
+      (λ k. (λ W. as-before (m W) k (setup-stays (controllerIs c) (recordIn W R) number s), started-idle [] R R′ (call.setup (controllerIs c) (recordIn [] R) number s .answer) (is-answer (m []) k) (m [] .numbers)))
 
   -- the requests, which have no use for a record
   called : (R : List ℕ) (g : controller.Controller → List Stmt → controller.Outcome) → ((X : List Stmt) → Stays (controllerIs c) X (g (controllerIs c) X)) → Calls (g (controllerIs c)) c o
@@ -133,9 +133,10 @@ module _ {o : Outcome} {F : List ℕ} {n : ℕ} {F′ value : List ℕ} (c : Con
   pub send-hosted : (R : List ℕ) (i m : ℕ) → Calls (λ X. call.requestSend (controllerIs c) X i m) c o → Sends F R i m n F′ R value
   send-hosted R i m k = called R (λ d X. call.requestSend d X i m) (λ X. send-stays (controllerIs c) X i m) k
 
-  pub turn-hosted : {W R W′ R′ : List ℕ} → TurnOn W R W′ R′ c o → TakesTurn W W′ F R n F′ R′ value
-  turn-hosted {W} {R} {W′} {R′} m =
-      hosted (TurnOn W R W′ R′) R R′ m (λ k. (as-before m k (turn-stays (controllerIs c) (recordIn W R) (hasRoom (poolOf W))), signed-idle W R R′ (turn (controllerIs c) (recordIn W R) (hasRoom (poolOf W)) .answer) (is-answer m k) (m .numbers)))
+  pub turn-hosted : {W R W′ R′ : List ℕ} (minute : ℕ) → TurnOn W R W′ R′ minute c o → TakesTurn W W′ F R minute n F′ R′ value
+  turn-hosted {W} {R} {W′} {R′} minute m =
+      hosted (TurnOn W R W′ R′ minute) R R′ m
+      (λ k. (as-before m k (turn-stays (controllerIs c) (recordIn W R) (hasRoom (poolOf W)) minute), signed-idle W R R′ (turn (controllerIs c) (recordIn W R) (hasRoom (poolOf W)) minute .answer) (is-answer m k) (m .numbers)))
 
 pub fresh : (F R : List ℕ) (c : Controller) → controllerIs c ≡ controller.notSetUp → controllerAt F ≡ c → recordLen R ≡ 0 → Fresh F R
 fresh F R c p e l = record { controller = ap controllerIs e ∙ p; statements = l }

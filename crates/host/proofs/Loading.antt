@@ -24,7 +24,7 @@ use Rattle.statements.specs.Sets.{PutBit, Union, Next}
 use Rattle.statements.proofs.NoticeSets.{put-other}
 use Rattle.evidence.specs.declared.Notice.{Notice}
 use Rattle.engine.specs.declared.Controller.{Controller}
-use Rattle.host.specs.Memory.{heldNoView, heldIn, says, bindingIn, enteredIn, senderIn, noticeIn, sendIn, readyIn, noticesIn, controllerAt}
+use Rattle.host.specs.Memory.{heldNoView, heldIn, says, bindingIn, enteredIn, senderIn, noticeIn, sendIn, timeIn, readyIn, noticesIn, controllerAt}
 use Rattle.host.specs.Stored.{EnteredWords, Column, NoticeWords}
 
 -- a number below 256 is its word's
@@ -97,11 +97,11 @@ entered-all F h m n e = ap₂ (λ (k : List View) (b : ℕ). record { views = k;
 -- The words F tell that there are n views, and the first i of them.
 pub record Stores (X : List View) (n : ℕ) (F : List ℕ) (i : ℕ) : Type 0 where
   pub small : i ≤ 16
-  pub long : length F ≡ 224
+  pub long : length F ≡ 232
   pub count : getD F 12 0 ≡ n
   pub are : (p : ℕ) → p < i → storedAt F p ≡ getD X p heldNoView
 
-pub store-first : (X : List View) (F : List ℕ) (n : ℕ) → length F ≡ 224 → Stores X (getD (set F 12 n) 12 0) (set F 12 n) 0
+pub store-first : (X : List View) (F : List ℕ) (n : ℕ) → length F ≡ 232 → Stores X (getD (set F 12 n) 12 0) (set F 12 n) 0
 store-first X F n e = record { small = omega arith; long = length-set F 12 n ∙ e; count = refl; are = λ p l. absurd (omega arith) }
 
 pub store-next : {X : List View} {n : ℕ} {F : List ℕ} {i : ℕ} (w : ℕ) → Stores X n F i → i < 16 → heldIn w ≡ getD X i heldNoView → Stores X n (set F (16 + i) w) (i + 1)
@@ -112,7 +112,7 @@ store-next {X} {n} {F} {i} w s m q = record {
   are = so-far (storedAt (set F (16 + i) w)) (λ p. getD X p heldNoView) (λ p o. ap heldIn (getD-set-other F (16 + i) (16 + p) w 0 (λ z. omega arith)) ∙ s .are p o) (ap heldIn (getD-set-same F (16 + i) w 0 (omega (arith, s .long))) ∙ q);
 }
 
-pub store-last : (h : History) (F₀ : List ℕ) {F : List ℕ} {i : ℕ} → Stores (h .views) (getD (set F₀ 12 (h .len)) 12 0) F i → length F₀ ≡ 224 → length (h .views) ≡ 16 → 16 ≤ i → EnteredWords h F
+pub store-last : (h : History) (F₀ : List ℕ) {F : List ℕ} {i : ℕ} → Stores (h .views) (getD (set F₀ 12 (h .len)) 12 0) F i → length F₀ ≡ 232 → length (h .views) ≡ 16 → 16 ≤ i → EnteredWords h F
 store-last h F₀ {F} {i} s e k m = record {
   long = s .long;
   count = s .count ∙ getD-set-same F₀ 12 (h .len) 0 (omega arith);
@@ -177,23 +177,23 @@ in-neither F s u i e = go (bit (getD F 8 0) i) (bit (getD F 9 0) i) (sym (u .bit
     go false true q = absurd (true≢false q)
     go true b q = absurd (true≢false q)
 
--- ---- notices that are stored
+-- ---- notices and windows that are stored
 
--- The first j words from word `from` on mean by f the first j of l, and nothing else of the words F₀ changed.
-pub record Puts {A : Type 0} (from : ℕ) (f : List ℕ → ℕ → A) (l : List A) (d : A) (F₀ F : List ℕ) (j : ℕ) : Type 0 where
-  pub small : j ≤ 64
-  pub long : length F ≡ 224
+-- Of n words from word `from` on the first j mean by f the first j of l, and nothing else of the words F₀ changed.
+pub record Puts {A : Type 0} (from n : ℕ) (f : List ℕ → ℕ → A) (l : List A) (d : A) (F₀ F : List ℕ) (j : ℕ) : Type 0 where
+  pub small : j ≤ n
+  pub long : length F ≡ 232
   pub low : (i : ℕ) → i < from → getD F i 0 ≡ getD F₀ i 0
-  pub high : (i : ℕ) → from + 64 ≤ i → getD F i 0 ≡ getD F₀ i 0
+  pub high : (i : ℕ) → from + n ≤ i → getD F i 0 ≡ getD F₀ i 0
   pub are : (i : ℕ) → i < j → f F i ≡ getD l i d
 
-module _ {A : Type 0} {from : ℕ} {f : List ℕ → ℕ → A} {l : List A} {d : A} where
-  pub put-first : (F : List ℕ) → length F ≡ 224 → Puts from f l d F F 0
+module _ {A : Type 0} {from n : ℕ} {f : List ℕ → ℕ → A} {l : List A} {d : A} where
+  pub put-first : (F : List ℕ) → length F ≡ 232 → Puts from n f l d F F 0
   put-first F e = record { small = omega arith; long = e; low = λ i o. refl; high = λ i o. refl; are = λ i o. absurd (omega arith) }
 
   -- f reads one word by g
-  pub put-next : {F₀ F : List ℕ} {j : ℕ} (g : ℕ → A) → ((X : List ℕ) (i : ℕ) → f X i ≡ g (getD X (from + i) 0)) → from ≤ 160 → (w : ℕ) → Puts from f l d F₀ F j → j < 64 → g w ≡ getD l j d
-      → Puts from f l d F₀ (set F (from + j) w) (j + 1)
+  pub put-next : {F₀ F : List ℕ} {j : ℕ} (g : ℕ → A) → ((X : List ℕ) (i : ℕ) → f X i ≡ g (getD X (from + i) 0)) → from + n ≤ 232 → (w : ℕ) → Puts from n f l d F₀ F j → j < n → g w ≡ getD l j d
+      → Puts from n f l d F₀ (set F (from + j) w) (j + 1)
   put-next {F₀} {F} {j} g r t w h m q = record {
     small = omega arith;
     long = length-set F (from + j) w ∙ h .long;
@@ -205,16 +205,12 @@ module _ {A : Type 0} {from : ℕ} {f : List ℕ → ℕ → A} {l : List A} {d 
         (r (set F (from + j) w) j ∙ ap g (getD-set-same F (from + j) w 0 (omega (arith, h .long))) ∙ q);
   }
 
-  pub put-last : {F₀ F : List ℕ} {j : ℕ} → Puts from f l d F₀ F j → 64 ≤ j → length l ≡ 64 → Column from f l F₀ F
-  put-last {F₀} {F} {j} h m e = record { long = h .long; low = λ i a o. h .low i o; high = h .high; back = listed-all (f F) l d 64 e (λ i o. h .are i (omega arith)) }
+  pub put-last : {F₀ F : List ℕ} {j : ℕ} → Puts from n f l d F₀ F j → n ≤ j → length l ≡ n → Column from n f l F₀ F
+  put-last {F₀} {F} {j} h m e = record { long = h .long; low = λ i a o. h .low i o; high = h .high; back = listed-all (f F) l d n e (λ i o. h .are i (omega arith)) }
 
-pub put-sender : {S F₀ F : List ℕ} {j : ℕ} (w : ℕ) → Puts 32 senderIn S 0 F₀ F j → j < 64 → (w ≡ getD S j 0) × (w < 256) → Puts 32 senderIn S 0 F₀ (set F (32 + j) w) (j + 1)
+pub put-sender : {S F₀ F : List ℕ} {j : ℕ} (w : ℕ) → Puts 32 64 senderIn S 0 F₀ F j → j < 64 → (w ≡ getD S j 0) × (w < 256) → Puts 32 64 senderIn S 0 F₀ (set F (32 + j) w) (j + 1)
 unfolding senderIn
 put-sender {S} {F₀} {F} {j} w h m q = put-next (λ a. a % 256) (λ X i. refl) (omega arith) w h m (number-back (getD S j 0) w (q .0) (q .1))
-
-pub put-send : {P F₀ F : List ℕ} {j : ℕ} (w : ℕ) → Puts 160 sendIn P 0 F₀ F j → j < 64 → w ≡ getD P j 0 → Puts 160 sendIn P 0 F₀ (set F (160 + j) w) (j + 1)
-unfolding sendIn
-put-send w h m q = put-next (λ a. a) (λ X i. refl) (omega arith) w h m q
 
 -- ---- bindings that are stored
 
@@ -225,13 +221,13 @@ noticeBy bound barred F i = record { binding = bindingIn (bit bound i) (bit barr
 -- The sets and the words F have the first j bindings; the sets have no notice from j on, and nothing else of the words F₀ changed.
 pub record Binds (H : List Notice) (F₀ F : List ℕ) (bound barred j : ℕ) : Type 0 where
   pub small : j ≤ 64
-  pub long : length F ≡ 224
+  pub long : length F ≡ 232
   pub low : (i : ℕ) → i < 96 → getD F i 0 ≡ getD F₀ i 0
   pub high : (i : ℕ) → 160 ≤ i → getD F i 0 ≡ getD F₀ i 0
   pub are : (i : ℕ) → i < j → noticeBy bound barred F i ≡ getD H i heldNotice
   pub none : (i : ℕ) → j ≤ i → i < 64 → (bit bound i ≡ false) × (bit barred i ≡ false)
 
-pub bind-first : (H : List Notice) (F : List ℕ) → length F ≡ 224 → Binds H F F 0 0 0
+pub bind-first : (H : List Notice) (F : List ℕ) → length F ≡ 232 → Binds H F F 0 0 0
 bind-first H F e = record { small = omega arith; long = e; low = λ i o. refl; high = λ i o. refl; are = λ i o. absurd (omega arith); none = λ i o p. (bit-zero i, bit-zero i) }
 
 by-parts : {a b a′ b′ : Bool} {m m′ : ℕ} → a ≡ a′ → b ≡ b′ → m ≡ m′ → _≡_ {A = Notice} (record { binding = bindingIn a b m }) (record { binding = bindingIn a′ b′ m′ })
@@ -302,7 +298,7 @@ module _ {H : List Notice} {F₀ F : List ℕ} {bound barred j : ℕ} (b : Bindi
     none = λ i o k. (h .none i (omega arith) k .0, beside p i k (λ q. omega arith) ∙ h .none i (omega arith) k .1);
   }
 
-pub bind-last : {H : List Notice} {F₀ F : List ℕ} {bound barred j : ℕ} → Binds H F₀ F bound barred j → 64 ≤ j → length H ≡ 64 → Column 96 noticeIn H F₀ (set (set F 8 bound) 9 barred)
+pub bind-last : {H : List Notice} {F₀ F : List ℕ} {bound barred j : ℕ} → Binds H F₀ F bound barred j → 64 ≤ j → length H ≡ 64 → Column 96 64 noticeIn H F₀ (set (set F 8 bound) 9 barred)
 unfolding noticeIn
 bind-last {H} {F₀} {F} {bound} {barred} {j} h m e = record {
   long = length-set (set F 8 bound) 9 barred ∙ length-set F 8 bound ∙ h .long;
@@ -324,11 +320,12 @@ bind-last {H} {F₀} {F} {bound} {barred} {j} h m e = record {
 
 -- ---- all words of the notices
 
-pub put-all : {F S : List ℕ} {H : List Notice} {P A B C : List ℕ} → Column 32 senderIn S F A → Column 160 sendIn P A B → Column 96 noticeIn H B C → NoticeWords F S H P C
+pub put-all : {F S : List ℕ} {H : List Notice} {P A B C : List ℕ} → Column 32 64 senderIn S F A → Column 160 64 sendIn P A B → Column 96 64 noticeIn H B C → NoticeWords F S H P C
 unfolding senderIn sendIn
 put-all {F} {S} {H} {P} {A} {B} {C} a b c = record {
   long = c .long;
   first = λ i o p. c .low i o (omega arith) ∙ b .low i o (omega arith) ∙ a .low i o p;
+  last = λ i o. c .high i (omega arith) ∙ b .high i o ∙ a .high i (omega arith);
   senders = listOf-cong 64 (senderIn C) (senderIn A) (λ i o. ap (λ w. w % 256) (c .low (32 + i) (omega arith) (omega arith) ∙ b .low (32 + i) (omega arith) (omega arith))) ∙ a .back;
   held = c .back;
   sends = listOf-cong 64 (sendIn C) (sendIn B) (λ i o. c .high (160 + i) (omega arith)) ∙ b .back;
@@ -336,8 +333,9 @@ put-all {F} {S} {H} {P} {A} {B} {C} a b c = record {
 
 -- ---- a controller
 
-pub loaded : (F : List ℕ) {ready : Bool} {init : View} {notices : ℕ} {senders : List ℕ} {entered : History} {held : List Notice} {sends : List ℕ}
+pub loaded : (F : List ℕ) {ready : Bool} {init : View} {notices : ℕ} {senders : List ℕ} {entered : History} {held : List Notice} {sends times : List ℕ}
     → ready ≡ readyIn F → init ≡ heldIn (getD F 2 0) → notices ≡ noticesIn F → senders ≡ listOf 64 (senderIn F) → entered ≡ enteredIn F → held ≡ listOf 64 (noticeIn F) → sends ≡ listOf 64 (sendIn F)
+    → times ≡ listOf 8 (timeIn F)
     → record {
       ready = ready;
       number = getD F 1 0 % 256;
@@ -351,9 +349,11 @@ pub loaded : (F : List ℕ) {ready : Bool} {init : View} {notices : ℕ} {sender
       requested = getD F 5 0;
       joining = says (getD F 6 0);
       leaving = says (getD F 7 0);
+      windows = getD F 10 0;
+      times = times;
     } ≡ controllerAt F
 unfolding controllerAt
-loaded F r v n s e h p i = record {
+loaded F r v n s e h p t i = record {
   ready = r i;
   number = getD F 1 0 % 256;
   init = v i;
@@ -366,6 +366,8 @@ loaded F r v n s e h p i = record {
   requested = getD F 5 0;
   joining = says (getD F 6 0);
   leaving = says (getD F 7 0);
+  windows = getD F 10 0;
+  times = t i;
 }
 
 says-back : (b : Bool) → says (boolByte b) ≡ b
@@ -376,22 +378,27 @@ says-back false = refl
 after-eight : (xs F : List ℕ) (i : ℕ) → length xs ≡ 8 → getD (xs ++ drop 8 F) (8 + i) 0 ≡ getD F (8 + i) 0
 after-eight xs F i e = ap (λ n. getD (xs ++ drop 8 F) (n + i) 0) (sym e) ∙ getD-append-add xs (drop 8 F) i 0 ∙ getD-drop 8 F i 0
 
-module _ (c : Controller) (E F : List ℕ) (number init : ℕ) where
+module _ (c : Controller) (E T F : List ℕ) (number init : ℕ) where
   abbrev pub words : List ℕ
   words = boolByte (c .ready) ∷ number ∷ init ∷ c .notices ∷ c .delivered ∷ c .requested ∷ boolByte (c .joining) ∷ boolByte (c .leaving) ∷ []
 
-  pub stored : EnteredWords (c .entered) E → NoticeWords E (c .senders) (c .held) (c .sends) F → (number ≡ c .number) × (number < 256) → heldIn init ≡ c .init → controllerAt (sets F 0 words) ≡ c
-  unfolding controllerAt enteredIn senderIn noticeIn sendIn
-  stored w x n v = ap controllerAt (sets-eq words F 0 (omega (arith, x .long))) ∙ same
+  pub stored : EnteredWords (c .entered) E → Column 224 8 timeIn (c .times) (set E 10 (c .windows)) T → NoticeWords T (c .senders) (c .held) (c .sends) F → (number ≡ c .number) × (number < 256)
+      → heldIn init ≡ c .init → controllerAt (sets F 0 words) ≡ c
+  unfolding controllerAt enteredIn senderIn noticeIn sendIn timeIn
+  stored w t x n v = ap controllerAt (sets-eq words F 0 (omega (arith, x .long))) ∙ same
     where
       far : (i : ℕ) → 8 ≤ i → getD (words ++ drop 8 F) i 0 ≡ getD F i 0
       far i l = let q : i ≡ 8 + (i - 8) = omega arith in ap (λ n. getD (words ++ drop 8 F) n 0) q ∙ after-eight words F (i - 8) refl ∙ ap (λ n. getD F n 0) (sym q)
 
+      -- what was there before the windows and the notices
+      first : (i : ℕ) → 11 ≤ i → i < 32 → getD (words ++ drop 8 F) i 0 ≡ getD E i 0
+      first i l m = far i (omega arith) ∙ x .first i (omega arith) m ∙ t .low i (omega arith) (omega arith) ∙ getD-set-other E 10 i (c .windows) 0 (λ q. omega arith)
+
       views : listOf 16 (storedAt (words ++ drop 8 F)) ≡ c .entered .views
-      views = listOf-cong 16 (storedAt (words ++ drop 8 F)) (storedAt E) (λ i o. ap heldIn (far (16 + i) (omega arith) ∙ x .first (16 + i) (omega arith) (omega arith))) ∙ w .back
+      views = listOf-cong 16 (storedAt (words ++ drop 8 F)) (storedAt E) (λ i o. ap heldIn (first (16 + i) (omega arith) (omega arith))) ∙ w .back
 
       count : getD (words ++ drop 8 F) 12 0 ≡ c .entered .len
-      count = far 12 (omega arith) ∙ x .first 12 (omega arith) (omega arith) ∙ w .count
+      count = first 12 (omega arith) (omega arith) ∙ w .count
 
       senders : listOf 64 (senderIn (words ++ drop 8 F)) ≡ c .senders
       senders = listOf-cong 64 (senderIn (words ++ drop 8 F)) (senderIn F) (λ i o. ap (λ a. a % 256) (far (32 + i) (omega arith))) ∙ x .senders
@@ -403,6 +410,12 @@ module _ (c : Controller) (E F : List ℕ) (number init : ℕ) where
 
       sends : listOf 64 (sendIn (words ++ drop 8 F)) ≡ c .sends
       sends = listOf-cong 64 (sendIn (words ++ drop 8 F)) (sendIn F) (λ i o. far (160 + i) (omega arith)) ∙ x .sends
+
+      windows : getD (words ++ drop 8 F) 10 0 ≡ c .windows
+      windows = far 10 (omega arith) ∙ x .first 10 (omega arith) (omega arith) ∙ t .low 10 (omega arith) (omega arith) ∙ getD-set-same E 10 (c .windows) 0 (omega (arith, w .long))
+
+      times : listOf 8 (timeIn (words ++ drop 8 F)) ≡ c .times
+      times = listOf-cong 8 (timeIn (words ++ drop 8 F)) (timeIn T) (λ i o. far (224 + i) (omega arith) ∙ x .last (224 + i) (omega arith)) ∙ t .back
 
       same : controllerAt (words ++ drop 8 F) ≡ c
       same i = record {
@@ -418,4 +431,6 @@ module _ (c : Controller) (E F : List ℕ) (number init : ℕ) where
         requested = c .requested;
         joining = says-back (c .joining) i;
         leaving = says-back (c .leaving) i;
+        windows = windows i;
+        times = times i;
       }

@@ -65,11 +65,11 @@ pub record Fresh (F R : List ℕ) : Type 0 where
   pub controller : controllerIs (controllerAt F) ≡ controller.notSetUp
   pub statements : recordLen R ≡ 0
 
-abbrev pub SetUpOn : ℕ → ℕ → List ℕ → List ℕ → List ℕ → Controller → Outcome → Type 0
-SetUpOn number members senders R R′ c r = Starts (λ X. call.setup (controllerIs c) X number members senders) R c r R′
+abbrev pub SetUpOn : ℕ → call.Setup → List ℕ → List ℕ → Controller → Outcome → Type 0
+SetUpOn number s R R′ c r = Starts (λ X. call.setup (controllerIs c) X number s) R c r R′
 
-abbrev pub SetsUp : List ℕ → List ℕ → ℕ → ℕ → List ℕ → ℕ → List ℕ → List ℕ → List ℕ → Type 0
-SetsUp F R number members senders answer F′ R′ = Hosted (SetUpOn number members senders R R′ (controllerAt F)) F R answer F′ R′
+abbrev pub SetsUp : List ℕ → List ℕ → ℕ → call.Setup → ℕ → List ℕ → List ℕ → List ℕ → Type 0
+SetsUp F R number s answer F′ R′ = Hosted (SetUpOn number s R R′ (controllerAt F)) F R answer F′ R′
 
 -- The requests, over any pool: f is what the protocol says of the controller and its record.
 abbrev pub CallOn : (controller.Controller → List Stmt → controller.Outcome) → List ℕ → List ℕ → Controller → Outcome → Type 0
@@ -84,12 +84,12 @@ Leaves F R answer F′ R′ = Hosted (CallOn call.requestLeave R R′ (controlle
 abbrev pub Sends : List ℕ → List ℕ → ℕ → ℕ → ℕ → List ℕ → List ℕ → List ℕ → Type 0
 Sends F R notice payload answer F′ R′ = Hosted (CallOn (λ d X. call.requestSend d X notice payload) R R′ (controllerAt F)) F R answer F′ R′
 
--- A turn over the pool W and the record R, which leaves W′ and R′.
-abbrev pub TurnOn : List ℕ → List ℕ → List ℕ → List ℕ → Controller → Outcome → Type 0
-TurnOn W R W′ R′ c r = Turns W R c (turn (controllerIs c) (recordIn W R) (hasRoom (poolOf W))) r W′ R′
+-- A turn at the minute of the week over the pool W and the record R, which leaves W′ and R′.
+abbrev pub TurnOn : List ℕ → List ℕ → List ℕ → List ℕ → ℕ → Controller → Outcome → Type 0
+TurnOn W R W′ R′ minute c r = Turns W R c (turn (controllerIs c) (recordIn W R) (hasRoom (poolOf W)) minute) r W′ R′
 
-abbrev pub TakesTurn : List ℕ → List ℕ → List ℕ → List ℕ → ℕ → List ℕ → List ℕ → List ℕ → Type 0
-TakesTurn W W′ F R answer F′ R′ = Hosted (TurnOn W R W′ R′ (controllerAt F)) F R answer F′ R′
+abbrev pub TakesTurn : List ℕ → List ℕ → List ℕ → List ℕ → ℕ → ℕ → List ℕ → List ℕ → List ℕ → Type 0
+TakesTurn W W′ F R minute answer F′ R′ = Hosted (TurnOn W R W′ R′ minute (controllerAt F)) F R answer F′ R′
 
 -- An addition of s.
 abbrev pub AddOn : List ℕ → List ℕ → List ℕ → List ℕ → Stmt → Controller → Outcome → Type 0

@@ -1,8 +1,8 @@
--- What the memory of a controller means. It is 224 words; the controller's record is lent beside them, as crates/pool/specs/Pool.antt has it.
+-- What the memory of a controller means. It is 232 words; the controller's record is lent beside them, as crates/pool/specs/Pool.antt has it.
 -- Word 0 says whether it is set up, 1 is its number, 2 its initial view, 3 how many notices there are, 4 the set of those delivered and 5 the set of those whose send was
--- requested, bit j for notice j, 6 and 7 whether join and leave were requested, 8 the set of the notices that are bound and 9 of those that are barred, and 12 how many views
--- it entered; words 16 to 31 are those views; the others of the first 32 mean nothing. Word 32 + j is the sender of notice j, 96 + j the payload to which it is bound and
--- 160 + j the payload to send.
+-- requested, bit j for notice j, 6 and 7 whether join and leave were requested, 8 the set of the notices that are bound and 9 of those that are barred, 10 how many service
+-- windows there are and 12 how many views it entered; words 16 to 31 are those views; the others of the first 32 mean nothing. Word 32 + j is the sender of notice j, 96 + j the
+-- payload to which it is bound and 160 + j the payload to send; words 224 to 231 are the windows, as crates/windows/specs/Windows.antt reads them.
 -- Every memory means some controller: each word is read as the value that it can stand for, and nothing has to hold of it.
 -- Assumes nothing.
 use mathlib.Core.Bool.{Bool, not}
@@ -49,6 +49,11 @@ noticeIn F j = record { binding = bindingIn (bit (getD F 8 0) j) (bit (getD F 9 
 unfoldable pub sendIn : List ℕ → ℕ → ℕ
 sendIn F j = getD F (160 + j) 0
 
+-- ---- of window i
+
+unfoldable pub timeIn : List ℕ → ℕ → ℕ
+timeIn F i = getD F (224 + i) 0
+
 -- Whether it is set up, and how many notices there are: all that an addition asks of a controller.
 
 abbrev pub readyIn : List ℕ → Bool
@@ -72,4 +77,6 @@ controllerAt F = record {
   requested = getD F 5 0;
   joining = says (getD F 6 0);
   leaving = says (getD F 7 0);
+  windows = getD F 10 0;
+  times = listOf 8 (timeIn F);
 }

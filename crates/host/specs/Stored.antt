@@ -19,21 +19,22 @@ use Rattle.host.specs.Host.{answerNumber, valueWords, noStatement}
 
 -- r has the words of the views that were entered.
 pub record EnteredWords (h : History) (r : List ℕ) : Type 0 where
-  pub long : length r ≡ 224
+  pub long : length r ≡ 232
   pub count : getD r 12 0 ≡ h .len
   pub back : listOf 16 (λ i. heldIn (getD r (16 + i) 0)) ≡ h .views
 
--- By f the words F′ mean the list l, which has a word for each notice from word `from` on and may have words 8 and 9. All else of F from word 10 on stays.
-pub record Column {A : Type 0} (from : ℕ) (f : List ℕ → ℕ → A) (l : List A) (F F′ : List ℕ) : Type 0 where
-  pub long : length F′ ≡ 224
+-- By f the words F′ mean the list l, which has n words from word `from` on and may have words 8 and 9. All else of F from word 10 on stays.
+pub record Column {A : Type 0} (from n : ℕ) (f : List ℕ → ℕ → A) (l : List A) (F F′ : List ℕ) : Type 0 where
+  pub long : length F′ ≡ 232
   pub low : (i : ℕ) → 10 ≤ i → i < from → getD F′ i 0 ≡ getD F i 0
-  pub high : (i : ℕ) → from + 64 ≤ i → getD F′ i 0 ≡ getD F i 0
-  pub back : listOf 64 (f F′) ≡ l
+  pub high : (i : ℕ) → from + n ≤ i → getD F′ i 0 ≡ getD F i 0
+  pub back : listOf n (f F′) ≡ l
 
--- The words F′ have the senders, bindings and payloads to send of the notices, and what F has in words 10 to 31.
+-- The words F′ have the senders, bindings and payloads to send of the notices, and what F has in words 10 to 31 and from 224 on.
 pub record NoticeWords (F S : List ℕ) (H : List Notice) (P F′ : List ℕ) : Type 0 where
-  pub long : length F′ ≡ 224
+  pub long : length F′ ≡ 232
   pub first : (i : ℕ) → 10 ≤ i → i < 32 → getD F′ i 0 ≡ getD F i 0
+  pub last : (i : ℕ) → 224 ≤ i → getD F′ i 0 ≡ getD F i 0
   pub senders : listOf 64 (senderIn F′) ≡ S
   pub held : listOf 64 (noticeIn F′) ≡ H
   pub sends : listOf 64 (sendIn F′) ≡ P

@@ -1,10 +1,10 @@
 // A controller that is kept in lent memory: specs/Memory.antt says what each word stands for.
 ghost use mathlib.Core.Path.{_≡_};
 ghost use Prim.Native.Nat.{_<_};
-ghost use lib.ListN.{length};
+ghost use lib.ListN.{length, set};
 ghost use Rattle.protocol.specs.Lists.{listOf};
 ghost use Rattle.protocol.specs.Sets.{bit};
-ghost use Rattle.host.specs.Memory.{heldIn, bindingIn, enteredIn, senderIn, noticeIn, sendIn, readyIn, noticesIn, controllerAt};
+ghost use Rattle.host.specs.Memory.{heldIn, bindingIn, enteredIn, senderIn, noticeIn, sendIn, timeIn, readyIn, noticesIn, controllerAt};
 ghost use Rattle.host.specs.Stored.{EnteredWords, Column, NoticeWords};
 use engine::Controller;
 use evidence::Notice;
@@ -12,6 +12,7 @@ use statements::Binding;
 use statements::NOTICES;
 use views::History;
 use views::View;
+use windows::WINDOWS;
 
 // Where each field is.
 const READY: usize = 0;
@@ -35,6 +36,9 @@ const BOUND: usize = 8;
 
 const BARRED: usize = 9;
 
+// How many service windows there are.
+const WINDOW_COUNT: usize = 10;
+
 // How many views were entered.
 const ENTERED: usize = 12;
 
@@ -48,8 +52,11 @@ const PAYLOADS: usize = 96;
 
 const SENDS: usize = 160;
 
+// Where the windows start.
+const TIMES: usize = 224;
+
 // How many words a controller is kept in.
-pub const FIELDS: usize = 224;
+pub const FIELDS: usize = 232;
 
 // Whether the controller is set up: all that an addition asks of it, beside the number of its notices.
 pub fn is_ready(fields: &[u64; FIELDS]) -> bool
@@ -150,6 +157,19 @@ fn sends_in(fields: &[u64; FIELDS]) -> [u64; NOTICES]
     sends
 }
 
+// The service windows: all eight words, whatever they hold, since a call reads only as many as the setup named.
+fn times_in(fields: &[u64; FIELDS]) -> [u64; WINDOWS]
+    ensures { λ r. ⌜ r ≡ listOf 8 (timeIn (now (fields .entry))) ⌝ }
+{
+    let mut times = [0u64; WINDOWS];
+    let mut i = 0usize;
+    while i < WINDOWS {
+        times[i] = fields[TIMES + i];
+        i += 1;
+    }
+    times
+}
+
 // The controller that the memory means.
 pub fn load(fields: &[u64; FIELDS]) -> Controller
     ensures { λ r. ⌜ r ≡ controllerAt (now (fields .entry)) ⌝ }
@@ -158,6 +178,7 @@ pub fn load(fields: &[u64; FIELDS]) -> Controller
     let senders = senders_in(fields);
     let held = notices_in(fields);
     let sends = sends_in(fields);
+    let times = times_in(fields);
     Controller {
         ready: is_ready(fields),
         number: (fields[NUMBER] % 256) as u8,
@@ -171,6 +192,8 @@ pub fn load(fields: &[u64; FIELDS]) -> Controller
         requested: fields[REQUESTED],
         joining: fields[JOINING] != 0,
         leaving: fields[LEAVING] != 0,
+        windows: fields[WINDOW_COUNT] as usize,
+        times: times,
     }
 }
 
@@ -190,7 +213,7 @@ fn word_of(v: View) -> u64
 
 // How many words there are. A proof that a word was written asks for it.
 fn size(words: &[u64; FIELDS]) -> usize
-    ensures { λ _. ⌜ length (now (words .entry)) ≡ 224 ⌝ }
+    ensures { λ _. ⌜ length (now (words .entry)) ≡ 232 ⌝ }
 {
     let s = &words[..];
     s.len()
@@ -198,7 +221,7 @@ fn size(words: &[u64; FIELDS]) -> usize
 
 // The words of the views that were entered, and how many they are.
 fn put_entered(words: &mut [u64; FIELDS], entered: History)
-    requires { ⌜ length (now words) ≡ 224 ⌝ }
+    requires { ⌜ length (now words) ≡ 232 ⌝ }
     ensures { λ _. ⌜ EnteredWords entered (now (words .exit)) ⌝ }
 {
     let views = entered.views;
@@ -213,8 +236,8 @@ fn put_entered(words: &mut [u64; FIELDS], entered: History)
 
 // The words of the senders.
 fn put_senders(words: &mut [u64; FIELDS], senders: [u8; NOTICES])
-    requires { ⌜ (length (now words) ≡ 224) × (length senders ≡ 64) ⌝ }
-    ensures { λ _. ⌜ Column 32 senderIn senders (now (words .entry)) (now (words .exit)) ⌝ }
+    requires { ⌜ (length (now words) ≡ 232) × (length senders ≡ 64) ⌝ }
+    ensures { λ _. ⌜ Column 32 64 senderIn senders (now (words .entry)) (now (words .exit)) ⌝ }
 {
     let mut j = 0usize;
     while j < NOTICES {
@@ -225,8 +248,8 @@ fn put_senders(words: &mut [u64; FIELDS], senders: [u8; NOTICES])
 
 // The words of the payloads to send.
 fn put_sends(words: &mut [u64; FIELDS], sends: [u64; NOTICES])
-    requires { ⌜ (length (now words) ≡ 224) × (length sends ≡ 64) ⌝ }
-    ensures { λ _. ⌜ Column 160 sendIn sends (now (words .entry)) (now (words .exit)) ⌝ }
+    requires { ⌜ (length (now words) ≡ 232) × (length sends ≡ 64) ⌝ }
+    ensures { λ _. ⌜ Column 160 64 sendIn sends (now (words .entry)) (now (words .exit)) ⌝ }
 {
     let mut j = 0usize;
     while j < NOTICES {
@@ -237,8 +260,8 @@ fn put_sends(words: &mut [u64; FIELDS], sends: [u64; NOTICES])
 
 // The words of the bindings. The payload of a notice that is not bound is not read, so it is not written.
 fn put_bindings(words: &mut [u64; FIELDS], held: [Notice; NOTICES])
-    requires { ⌜ (length (now words) ≡ 224) × (length held ≡ 64) ⌝ }
-    ensures { λ _. ⌜ Column 96 noticeIn held (now (words .entry)) (now (words .exit)) ⌝ }
+    requires { ⌜ (length (now words) ≡ 232) × (length held ≡ 64) ⌝ }
+    ensures { λ _. ⌜ Column 96 64 noticeIn held (now (words .entry)) (now (words .exit)) ⌝ }
 {
     let mut bound = 0u64;
     let mut barred = 0u64;
@@ -271,12 +294,25 @@ fn put_notices(
     held: [Notice; NOTICES],
     sends: [u64; NOTICES],
 )
-    requires { ⌜ (length (now words) ≡ 224) × (length senders ≡ 64) × (length held ≡ 64) × (length sends ≡ 64) ⌝ }
+    requires { ⌜ (length (now words) ≡ 232) × (length senders ≡ 64) × (length held ≡ 64) × (length sends ≡ 64) ⌝ }
     ensures { λ _. ⌜ NoticeWords (now (words .entry)) senders held sends (now (words .exit)) ⌝ }
 {
     put_senders(words, senders);
     put_sends(words, sends);
     put_bindings(words, held);
+}
+
+// The words of the service windows, and how many they are.
+fn put_times(words: &mut [u64; FIELDS], windows: usize, times: [u64; WINDOWS])
+    requires { ⌜ (length (now words) ≡ 232) × (length times ≡ 8) ⌝ }
+    ensures { λ _. ⌜ Column 224 8 timeIn times (set (now (words .entry)) 10 windows) (now (words .exit)) ⌝ }
+{
+    words[WINDOW_COUNT] = windows as u64;
+    let mut i = 0usize;
+    while i < WINDOWS {
+        words[TIMES + i] = times[i];
+        i += 1;
+    }
 }
 
 // The memory means c from now on.
@@ -289,7 +325,9 @@ pub fn store(fields: &mut [u64; FIELDS], c: Controller)
     let senders = c.senders;
     let held = c.held;
     let sends = c.sends;
+    let times = c.times;
     put_entered(fields, entered);
+    put_times(fields, c.windows, times);
     put_notices(fields, senders, held, sends);
     fields[READY] = c.ready as u64;
     fields[NUMBER] = wide_number(c.number);

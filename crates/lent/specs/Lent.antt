@@ -10,6 +10,6 @@ use Rattle.pool.specs.Pool.{recordIn, poolOf}
 use Rattle.engine.specs.Meaning.{controllerIs}
 use Rattle.engine.specs.Promise.{Turns}
 
--- A turn of c over the pool W and the record R answered a and left d, W′ and R′.
-abbrev pub TurnedTo : List ℕ → List ℕ → Controller → Answer → Controller → List ℕ → List ℕ → Type 0
-TurnedTo W R c a d W′ R′ = Turns W R c (turnOf (controllerIs c) (recordIn W R) (hasRoom (poolOf W))) (record { answer = a; controller = d }) W′ R′
+-- A turn of c at a minute over the pool W and the record R answered a and left d, W′ and R′.
+abbrev pub TurnedTo : List ℕ → List ℕ → Controller → ℕ → Answer → Controller → List ℕ → List ℕ → Type 0
+TurnedTo W R c minute a d W′ R′ = Turns W R c (turnOf (controllerIs c) (recordIn W R) (hasRoom (poolOf W)) minute) (record { answer = a; controller = d }) W′ R′

@@ -7,20 +7,30 @@ use pool::POOL_WORDS;
 use pool::RECORD;
 
 // The turn goes by value; what it leaves is stored where the controller was.
-fn turn_one(c: &mut Controller, ids: &mut [u16; RECORD], words: &mut [u64; POOL_WORDS]) -> Answer
-    ensures { λ a. ⌜ TurnedTo (now (words .entry)) (now (ids .entry)) (now (c .entry)) a (now (c .exit)) (now (words .exit)) (now (ids .exit)) ⌝ }
+fn turn_one(
+    c: &mut Controller,
+    ids: &mut [u16; RECORD],
+    words: &mut [u64; POOL_WORDS],
+    minute: u16,
+) -> Answer
+    ensures { λ a. ⌜ TurnedTo (now (words .entry)) (now (ids .entry)) (now (c .entry)) minute a (now (c .exit)) (now (words .exit)) (now (ids .exit)) ⌝ }
 {
-    let t = Controller::turn(*c, ids, words);
+    let t = Controller::turn(*c, ids, words, minute);
     *c = t.controller;
     t.answer
 }
 
 // The reference is made here, to a local, so that every caller has the controller by value.
-pub fn lend_turn(c: Controller, ids: &mut [u16; RECORD], words: &mut [u64; POOL_WORDS]) -> Outcome
-    ensures { λ r. ⌜ TurnedTo (now (words .entry)) (now (ids .entry)) c (r .answer) (r .controller) (now (words .exit)) (now (ids .exit)) ⌝ }
+pub fn lend_turn(
+    c: Controller,
+    ids: &mut [u16; RECORD],
+    words: &mut [u64; POOL_WORDS],
+    minute: u16,
+) -> Outcome
+    ensures { λ r. ⌜ TurnedTo (now (words .entry)) (now (ids .entry)) c minute (r .answer) (r .controller) (now (words .exit)) (now (ids .exit)) ⌝ }
 {
     let mut own = c;
-    let a = turn_one(&mut own, ids, words);
+    let a = turn_one(&mut own, ids, words, minute);
     Outcome {
         answer: a,
         controller: own,

@@ -13,7 +13,7 @@ use Rattle.protocol.specs.Turn as turn
 use Rattle.rules.specs.declared.Situation.{Situation}
 use Rattle.rules.specs.declared.Action.{Action}
 use Rattle.rules.specs.Actions.{acts}
-use Rattle.rules.specs.Rules.{Owns, Lent, AllLent, Rule, firstAmong, mergedBy, Does}
+use Rattle.rules.specs.Rules.{Owns, Lent, AllLent, Rule, rule9At, firstRuleAt, firstAmong, mergedBy, Does}
 use Rattle.rules.proofs.Applied.{doing, acts-is}
 
 -- ---- the first of several
@@ -65,7 +65,7 @@ module _ {K L : List Lent} {s : Situation} {rule : Rule} where
   others m lends = record { means = λ d X B k t h. m .means d X B k t (lends d X h) }
 
 pub all-ten : {L : List Lent} {s : Situation} {r : Action}
-    → Does L s (firstAmong (turn.rule1 ∷ turn.rule2 ∷ turn.rule3 ∷ turn.rule4 ∷ turn.rule5 ∷ turn.rule6 ∷ turn.rule7 ∷ turn.rule8 ∷ turn.rule9 ∷ turn.rule10 ∷ [])) r → Does L s turn.firstRule r
+    → Does L s (firstAmong (turn.rule1 ∷ turn.rule2 ∷ turn.rule3 ∷ turn.rule4 ∷ turn.rule5 ∷ turn.rule6 ∷ turn.rule7 ∷ turn.rule8 ∷ rule9At (s .minute) ∷ turn.rule10 ∷ [])) r → Does L s (firstRuleAt (s .minute)) r
 unfolding firstAmong turn.firstRule
 all-ten m = record { means = m .means }
 

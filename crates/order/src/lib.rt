@@ -6,7 +6,7 @@ ghost use Rattle.protocol.specs.Turn as turn;
 ghost use Rattle.pool.specs.Pool.{recordIn};
 ghost use Rattle.evidence.specs.Evidence.{ringIs, Settled};
 ghost use Rattle.evidence.specs.Notices.{sendersOf};
-ghost use Rattle.rules.specs.Rules.{statements, ownStatements, candidateViews, greatestViews, firstAmong, Does};
+ghost use Rattle.rules.specs.Rules.{statements, ownStatements, candidateViews, greatestViews, rule9At, firstRuleAt, firstAmong, Does};
 ghost use Rattle.rules.specs.Rules as lent;
 use pool::POOL_WORDS;
 use pool::RECORD;
@@ -24,7 +24,7 @@ fn requested(
     sends: &[u64; NOTICES],
     s: Situation,
 ) -> Action
-    ensures { λ r. ⌜ Does (ownStatements (recordIn (now (words .entry)) (now (own .entry))) ∷ lent.sends (now (sends .entry)) ∷ []) s (firstAmong (turn.rule8 ∷ turn.rule9 ∷ turn.rule10 ∷ [])) r ⌝ }
+    ensures { λ r. ⌜ Does (ownStatements (recordIn (now (words .entry)) (now (own .entry))) ∷ lent.sends (now (sends .entry)) ∷ []) s (firstAmong (turn.rule8 ∷ rule9At (s .minute) ∷ turn.rule10 ∷ [])) r ⌝ }
 {
     let eighth = rules::rule8(words, own, told, s);
     if rules::acts(eighth) {
@@ -47,7 +47,7 @@ fn noticed(
     sends: &[u64; NOTICES],
     s: Situation,
 ) -> Action
-    ensures { λ r. ⌜ Does (statements (recordIn (now (words .entry)) (now (ids .entry))) ∷ ownStatements (recordIn (now (words .entry)) (now (own .entry))) ∷ lent.senders (now (senders .entry)) ∷ lent.told (now (told .entry)) ∷ lent.sends (now (sends .entry)) ∷ []) s (firstAmong (turn.rule5 ∷ turn.rule6 ∷ turn.rule7 ∷ turn.rule8 ∷ turn.rule9 ∷ turn.rule10 ∷ [])) r ⌝ }
+    ensures { λ r. ⌜ Does (statements (recordIn (now (words .entry)) (now (ids .entry))) ∷ ownStatements (recordIn (now (words .entry)) (now (own .entry))) ∷ lent.senders (now (senders .entry)) ∷ lent.told (now (told .entry)) ∷ lent.sends (now (sends .entry)) ∷ []) s (firstAmong (turn.rule5 ∷ turn.rule6 ∷ turn.rule7 ∷ turn.rule8 ∷ rule9At (s .minute) ∷ turn.rule10 ∷ [])) r ⌝ }
 {
     let fifth = rules::rule5(words, ids, own, senders, told, s);
     if rules::acts(fifth) {
@@ -76,7 +76,7 @@ fn agreed(
     s: Situation,
 ) -> Action
     requires { ⌜ (0 < s .shown .count) × (s .shown .count ≤ 16) ⌝ }
-    ensures { λ r. ⌜ Does (statements (recordIn (now (words .entry)) (now (ids .entry))) ∷ ownStatements (recordIn (now (words .entry)) (now (own .entry))) ∷ candidateViews (now (candidates .entry)) ∷ lent.senders (now (senders .entry)) ∷ lent.told (now (told .entry)) ∷ lent.sends (now (sends .entry)) ∷ []) s (firstAmong (turn.rule3 ∷ turn.rule4 ∷ turn.rule5 ∷ turn.rule6 ∷ turn.rule7 ∷ turn.rule8 ∷ turn.rule9 ∷ turn.rule10 ∷ [])) r ⌝ }
+    ensures { λ r. ⌜ Does (statements (recordIn (now (words .entry)) (now (ids .entry))) ∷ ownStatements (recordIn (now (words .entry)) (now (own .entry))) ∷ candidateViews (now (candidates .entry)) ∷ lent.senders (now (senders .entry)) ∷ lent.told (now (told .entry)) ∷ lent.sends (now (sends .entry)) ∷ []) s (firstAmong (turn.rule3 ∷ turn.rule4 ∷ turn.rule5 ∷ turn.rule6 ∷ turn.rule7 ∷ turn.rule8 ∷ rule9At (s .minute) ∷ turn.rule10 ∷ [])) r ⌝ }
 {
     let third = rules::rule3(words, own, told, s);
     if rules::acts(third) {
@@ -102,7 +102,7 @@ pub fn first_rule(
     s: Situation,
 ) -> Action
     requires { ⌜ Settled (ringIs (s .ring)) (sendersOf (now senders) (s .ring .notices)) (recordIn (now words) (now ids)) (now candidates) (now greatest) (now certs) (s .shown) ⌝ }
-    ensures { λ r. ⌜ Does (statements (recordIn (now (words .entry)) (now (ids .entry))) ∷ candidateViews (now (candidates .entry)) ∷ greatestViews (now (greatest .entry)) ∷ lent.senders (now (senders .entry)) ∷ lent.told (now (told .entry)) ∷ lent.sends (now (sends .entry)) ∷ []) s turn.firstRule r ⌝ }
+    ensures { λ r. ⌜ Does (statements (recordIn (now (words .entry)) (now (ids .entry))) ∷ candidateViews (now (candidates .entry)) ∷ greatestViews (now (greatest .entry)) ∷ lent.senders (now (senders .entry)) ∷ lent.told (now (told .entry)) ∷ lent.sends (now (sends .entry)) ∷ []) s (firstRuleAt (s .minute)) r ⌝ }
 {
     let mut own = [0u16; RECORD];
     rules::own_of(words, ids, s.number, &mut own);

@@ -39,9 +39,9 @@ module _ {F R F′ R′ : List ℕ} {n : ℕ} {value : List ℕ} where
     called = subst (λ x. Called W R (controllerAt F) k (record { answer = h .outcome .answer; controller = x }) W′ R′) (sym (h .held)) c;
   }
 
-  pub setup-called : (number members : ℕ) (senders : List ℕ) → SetsUp F R number members senders n F′ R′ value → (W : List ℕ) → HostCalled W F R (run.setupCall number members senders) n value W F′ R′
+  pub setup-called : (number : ℕ) (s : call.Setup) → SetsUp F R number s n F′ R′ value → (W : List ℕ) → HostCalled W F R (run.setupCall number s) n value W F′ R′
   unfolding run.outcome changeOf Starts
-  setup-called number members senders h W = at-memory h (h .met W)
+  setup-called number s h W = at-memory h (h .met W)
 
   pub join-called : Joins F R n F′ R′ value → (W : List ℕ) → HostCalled W F R run.joinCall n value W F′ R′
   unfolding run.outcome changeOf
@@ -55,9 +55,9 @@ module _ {F R F′ R′ : List ℕ} {n : ℕ} {value : List ℕ} where
   unfolding run.outcome changeOf
   send-called notice payload h W = at-memory h (h .met W)
 
-  pub turn-called : {W W′ : List ℕ} → TakesTurn W W′ F R n F′ R′ value → HostCalled W F R run.turnCall n value W′ F′ R′
+  pub turn-called : {W W′ : List ℕ} (minute : ℕ) → TakesTurn W W′ F R minute n F′ R′ value → HostCalled W F R (run.turnCall minute) n value W′ F′ R′
   unfolding run.outcome changeOf
-  turn-called h = at-memory h (h .met)
+  turn-called minute h = at-memory h (h .met)
 
 module _ {S W W′ F R R′ value : List ℕ} {n : ℕ} (a : AddsText S W W′ F R n R′ value) where
   pub add-called : (s : IsStatement (noticesIn F) S) → HostCalled W F R (run.addCall (s .statement)) n value W′ F R′

@@ -4,9 +4,10 @@
 // beside it the notice that was delivered, or 0.
 ghost use mathlib.Core.List.{List};
 ghost use Prim.Native.Nat.{ℕ};
-ghost use Rattle.engine.specs.Meaning.{firstSenders};
+ghost use Rattle.engine.specs.Meaning.{setupIs};
 ghost use Rattle.host.specs.Host.{Fresh, SetsUp, Joins, Leaves, Sends, TakesTurn, AddsText};
 use engine::Controller;
+use engine::Setup;
 use evidence::GROUPS;
 use evidence::KEYS;
 use host::FIELDS;
@@ -14,6 +15,7 @@ use host::VALUES;
 use pool::POOL_WORDS;
 use pool::RECORD;
 use statements::NOTICES;
+use windows::WINDOWS;
 
 // The memory means a controller before setup.
 #[no_mangle]
@@ -25,6 +27,7 @@ pub extern "C" fn pekdrav_raw_controller_init(fields: &mut [u64; FIELDS], ids: &
     pool::record_clear(ids);
 }
 
+// The controller `number` is set up in a ring of the notices of the first `count` senders and of the first `many` windows.
 #[no_mangle]
 pub extern "C" fn pekdrav_raw_controller_setup(
     fields: &mut [u64; FIELDS],
@@ -33,12 +36,19 @@ pub extern "C" fn pekdrav_raw_controller_setup(
     members: u16,
     count: u8,
     senders: &[u8; NOTICES],
+    many: u8,
+    windows: &[u64; WINDOWS],
     value: &mut [u64; VALUES],
 ) -> u8
-    ensures { λ r. ⌜ SetsUp (now (fields .entry)) (now (ids .entry)) number members (firstSenders (now (senders .entry)) count) r (now (fields .exit)) (now (ids .exit)) (now (value .exit)) ⌝ }
+    ensures { λ r. ⌜ SetsUp (now (fields .entry)) (now (ids .entry)) number (setupIs (record { members = members; notices = count; windows = many }) (now (senders .entry)) (now (windows .entry))) r (now (fields .exit)) (now (ids .exit)) (now (value .exit)) ⌝ }
 {
     let c = host::load(fields);
-    let o = c.setup(ids, number, members, count as usize, senders);
+    let s = Setup {
+        members,
+        notices: count as usize,
+        windows: many as usize,
+    };
+    let o = c.setup(ids, number, s, senders, windows);
     host::finish(fields, o, value)
 }
 
@@ -94,7 +104,7 @@ pub extern "C" fn pekdrav_raw_controller_add(
     host::add_text(fields, ids, words, line, value)
 }
 
-// The votes of the record are gathered in `keys` and `groups`, which may hold anything.
+// A turn at the minute of the week. The votes of the record are gathered in `keys` and `groups`, which may hold anything.
 #[no_mangle]
 pub extern "C" fn pekdrav_raw_controller_turn(
     fields: &mut [u64; FIELDS],
@@ -102,11 +112,12 @@ pub extern "C" fn pekdrav_raw_controller_turn(
     words: &mut [u64; POOL_WORDS],
     keys: &mut [u64; KEYS],
     groups: &mut [u64; GROUPS],
+    minute: u16,
     value: &mut [u64; VALUES],
 ) -> u8
-    ensures { λ r. ⌜ TakesTurn (now (words .entry)) (now (words .exit)) (now (fields .entry)) (now (ids .entry)) r (now (fields .exit)) (now (ids .exit)) (now (value .exit)) ⌝ }
+    ensures { λ r. ⌜ TakesTurn (now (words .entry)) (now (words .exit)) (now (fields .entry)) (now (ids .entry)) minute r (now (fields .exit)) (now (ids .exit)) (now (value .exit)) ⌝ }
 {
     let c = host::load(fields);
-    let o = c.turn_in(ids, words, keys, groups);
+    let o = c.turn_in(ids, words, keys, groups, minute);
     host::finish(fields, o, value)
 }

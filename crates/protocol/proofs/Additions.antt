@@ -1,17 +1,20 @@
--- The answers of an addition and of a send, in the order of the checks.
+-- The answers of a setup, of a turn, of an addition and of a send, in the order of the checks.
 -- Assumes nothing.
 use mathlib.Core.Path.{_≡_}
 use mathlib.Core.Bool.{Bool, true, false, not, _||_}
 use mathlib.Core.List.{List, [], _∷_, _++_}
 use mathlib.Core.Option.{some}
-use Prim.Native.Nat.{ℕ}
+use Prim.Native.Nat.{ℕ, _<_}
 use lib.Dec.{eqb, ltb}
 use lib.ListN.{length}
+use borrow.Author.Tests.{lt-ltb}
 use Rattle.protocol.specs.Lists.{any, isSome, put}
 use Rattle.protocol.specs.Statement.{Stmt, sameStmt, fieldRules}
 use Rattle.protocol.specs.Evidence.{senderOf}
-use Rattle.protocol.specs.Controller.{Controller, withRequests, badStatement, repeated, full, badRequest, outOfPlace, unknownNotice, taken}
-use Rattle.protocol.specs.Call.{isFull, refuse, note, requestSend, add}
+use Rattle.protocol.specs.Controller.{Controller, withRequests, badSetup, badStatement, repeated, full, badRequest, outOfPlace, unknownNotice, badWindow, badMinute, taken}
+use Rattle.protocol.specs.Window.{lastMinute, windowsAllowed}
+use Rattle.protocol.specs.Call.{Setup, isFull, refuse, setupAllowed, started, setup, note, requestSend, add}
+use Rattle.protocol.specs.Turn.{turn}
 
 module _ (c : Controller) (X : List Stmt) where
   -- the statement keeps the field rules of the ring
@@ -21,6 +24,37 @@ module _ (c : Controller) (X : List Stmt) where
   -- the notice is one of the setup
   abbrev pub isNotice : ℕ → Bool
   isNotice i = ltb i (length (c .senders))
+
+  -- ---- a setup: 1, 10
+
+  module _ (number : ℕ) (s : Setup) where
+    pub setup-again : c .isSetUp ≡ true → setup c X number s ≡ refuse c X badSetup
+    unfolding setup
+    setup-again e = rw e
+
+    pub setup-bad : c .isSetUp ≡ false → setupAllowed number (s .members) (s .senders) ≡ false → setup c X number s ≡ refuse c X badSetup
+    unfolding setup
+    setup-bad e f = rw (e, f)
+
+    pub setup-shut : c .isSetUp ≡ false → setupAllowed number (s .members) (s .senders) ≡ true → windowsAllowed (s .windows) ≡ false → setup c X number s ≡ refuse c X badWindow
+    unfolding setup
+    setup-shut e f g = rw (e, f, g)
+
+    pub setup-taken : c .isSetUp ≡ false → setupAllowed number (s .members) (s .senders) ≡ true → windowsAllowed (s .windows) ≡ true
+        → setup c X number s ≡ record { answer = taken; controller = started number s; statements = [] }
+    unfolding setup
+    setup-taken e f g = rw (e, f, g)
+
+  -- ---- a turn: 8, 11, then what the record shows
+
+  module _ (room : Stmt → Bool) (minute : ℕ) where
+    pub turn-unready : c .isSetUp ≡ false → turn c X room minute ≡ refuse c X outOfPlace
+    unfolding turn
+    turn-unready e = rw e
+
+    pub turn-late : c .isSetUp ≡ true → lastMinute < minute → turn c X room minute ≡ refuse c X badMinute
+    unfolding turn
+    turn-late e h = rw (e, lt-ltb lastMinute minute h)
 
   -- ---- adding: 8, 2, 9, 3, 4
 

@@ -14,7 +14,7 @@ use Rattle.protocol.specs.Lists.{if_then_else_, _∈_, _⊆_}
 use Rattle.protocol.specs.View.{Ring}
 use Rattle.protocol.specs.Statement.{Group, Stmt, noGroup, groupOf, Binding, unbound, bound, barred, bindingOf}
 use Rattle.protocol.specs.Evidence.{senderOf, Prepared, CountedFor, Counted}
-use Rattle.protocol.specs.Call.{started}
+use Rattle.protocol.specs.Call.{Setup, started}
 use Rattle.protocol.specs.Turn.{merge, mergeAll, told, countedReports}
 use Rattle.protocol.specs.Run.{Run, returned, controllerOf, recordOf, statements, IsRun}
 use Rattle.protocol.specs.Promises.{NeverBarred}
@@ -31,18 +31,18 @@ use Rattle.protocol.proofs.Model.{signing, known}
 
 -- the reports in a rule-follower's record tell of every notice
 module _ {run : Run} (is : IsRun run) {s : Stmt} (report : s .kind ≡ 5) where
-  tells-of-all : (k : ℕ) → T (run .follows k) → (n : ℕ) → s ∈ recordOf run k n → length (s .groups) ≡ length (run .senders)
+  tells-of-all : (k : ℕ) → T (run .follows k) → (n : ℕ) → s ∈ recordOf run k n → length (s .groups) ≡ length (run .setting .senders)
   unfolding returned told
   tells-of-all k ok zero m = go (begun is k (is .numbered k ok))
     where
-      go : Start k (run .members) (run .senders) → length (s .groups) ≡ length (run .senders)
-      go (starts t e) = absurd (List·Memᴰ·not-nil (subst (λ o. s ∈ o .statements) e m))
+      go : Start k (run .setting) → length (s .groups) ≡ length (run .setting .senders)
+      go (starts t _ e) = absurd (List·Memᴰ·not-nil (subst (λ o. s ∈ o .statements) e m))
   tells-of-all k ok (suc n) m = go (tells-of-all k ok n) (next is k ok n)
     where
-      same : length (controllerOf run k n .senders) ≡ length (run .senders)
+      same : length (controllerOf run k n .senders) ≡ length (run .setting .senders)
       same = ap length (fixed is k ok n .senders)
 
-      go : (s ∈ recordOf run k n → length (s .groups) ≡ length (run .senders)) → Next is k n → length (s .groups) ≡ length (run .senders)
+      go : (s ∈ recordOf run k n → length (s .groups) ≡ length (run .setting .senders)) → Next is k n → length (s .groups) ≡ length (run .setting .senders)
       go before (waits e _) = before (subst (λ o. s ∈ o .statements) e m)
       go before (acts _ _ (rests _ _ _ f _)) = before (subst (λ l. s ∈ l) f m)
       go before (acts _ _ (adds x _ _ _ f (_, _, r))) = appended is f before (λ i. report-length (says-fields (controllerOf run k n .ring) _ s .sound (rw i r)) report ∙ same) m
@@ -50,8 +50,9 @@ module _ {run : Run} (is : IsRun run) {s : Stmt} (report : s .kind ≡ 5) where
       go before (acts _ _ (enters _ _ _ _ _ f _)) = before (subst (λ l. s ∈ l) f m)
       go before (acts _ _ (delivers _ _ _ _ _ f _ _ _)) = before (subst (λ l. s ∈ l) f m)
 
-module _ {run : Run} (is : IsRun run) (notice : ℕ) (honest : T (run .follows (senderOf (run .senders) notice))) where
-  open Run run using (follows, members, senders, events)
+module _ {run : Run} (is : IsRun run) (notice : ℕ) (honest : T (run .follows (senderOf (run .setting .senders) notice))) where
+  open Run run using (follows, setting, events)
+  open Setup setting using (senders)
 
   abbrev sender : ℕ
   sender = senderOf senders notice
@@ -141,8 +142,8 @@ module _ {run : Run} (is : IsRun run) (notice : ℕ) (honest : T (run .follows (
   unfolding returned started
   fair k ok zero = go (begun is k (is .numbered k ok))
     where
-      go : Start k members senders → Fair (controllerOf run k zero .binding notice)
-      go (starts t e) = subst (λ o. Fair (o .controller .binding notice)) (sym e) tt
+      go : Start k setting → Fair (controllerOf run k zero .binding notice)
+      go (starts t _ e) = subst (λ o. Fair (o .controller .binding notice)) (sym e) tt
   fair k ok (suc n) = go (fair k ok n) (next is k ok n)
     where
       on : {b : ℕ → Binding} → controllerOf run k (suc n) .binding ≡ b → Fair (b notice) → Fair (controllerOf run k (suc n) .binding notice)

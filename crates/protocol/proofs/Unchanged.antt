@@ -11,8 +11,9 @@ use Rattle.protocol.specs.Lists.{any, isSome}
 use Rattle.protocol.specs.View.{member}
 use Rattle.protocol.specs.Statement.{Stmt, sameStmt, fieldRules}
 use Rattle.protocol.specs.Evidence.{senderOf, candidates, isConflict}
-use Rattle.protocol.specs.Controller.{Controller, Refusal, badSetup, badStatement, repeated, full, badRequest, manyCandidates, conflict, outOfPlace, unknownNotice, Answer, taken, signed, entered, delivered, left, quiet, refused, Outcome}
-use Rattle.protocol.specs.Call.{isFull, setupAllowed, setup, requestJoin, requestLeave, requestSend, add}
+use Rattle.protocol.specs.Controller.{Controller, Refusal, badSetup, badStatement, repeated, full, badRequest, manyCandidates, conflict, outOfPlace, unknownNotice, badWindow, badMinute, Answer, taken, signed, entered, delivered, left, quiet, refused, Outcome}
+use Rattle.protocol.specs.Window.{lastMinute, windowsAllowed}
+use Rattle.protocol.specs.Call.{Setup, isFull, setupAllowed, setup, requestJoin, requestLeave, requestSend, add}
 use Rattle.protocol.specs.Turn.{Action, sign, bindAndSign, enter, deliver, firstRule, signing, perform, turn}
 use Rattle.protocol.proofs.Found.{either}
 
@@ -40,9 +41,10 @@ module _ (c : Controller) (X : List Stmt) where
   done : (d : Controller) (Y : List Stmt) → Stays c X (record { answer = taken; controller = d; statements = Y })
   done d Y = record { stays = λ i. absurd i }
 
-  pub setup-stays : (number members : ℕ) (senders : List ℕ) → Stays c X (setup c X number members senders)
+  pub setup-stays : (number : ℕ) (s : Setup) → Stays c X (setup c X number s)
   unfolding setup
-  setup-stays number members senders = either (Stays c X) (c .isSetUp || not (setupAllowed number members senders)) (λ e. refusal badSetup) (λ e. done _ _)
+  setup-stays number s =
+      either (Stays c X) (c .isSetUp || not (setupAllowed number (s .members) (s .senders))) (λ e. refusal badSetup) (λ e. either (Stays c X) (not (windowsAllowed (s .windows))) (λ f. refusal badWindow) (λ f. done _ _))
 
   pub join-stays : Stays c X (requestJoin c X)
   unfolding requestJoin
@@ -66,11 +68,12 @@ module _ (c : Controller) (X : List Stmt) where
   performed room (some (enter v b)) = record { stays = λ i. absurd i }
   performed room (some (deliver i m)) = record { stays = λ i. absurd i }
 
-  pub turn-stays : (room : Stmt → Bool) → Stays c X (turn c X room)
+  pub turn-stays : (room : Stmt → Bool) (minute : ℕ) → Stays c X (turn c X room minute)
   unfolding turn
-  turn-stays room =
-      either (Stays c X) (c .isSetUp) (λ e. either (Stays c X) (isConflict (c .ring) (c .senders) X) (λ f. refusal conflict)
-      (λ f. either (Stays c X) (ltb 16 (length (candidates (c .ring) X))) (λ g. refusal manyCandidates) (λ g. performed room (firstRule c X)))) (λ e. refusal outOfPlace)
+  turn-stays room minute =
+      either (Stays c X) (c .isSetUp) (λ e. either (Stays c X) (ltb lastMinute minute) (λ f. refusal badMinute)
+      (λ e. either (Stays c X) (isConflict (c .ring) (c .senders) X) (λ f. refusal conflict)
+      (λ f. either (Stays c X) (ltb 16 (length (candidates (c .ring) X))) (λ g. refusal manyCandidates) (λ g. performed room (firstRule c X minute))))) (λ e. refusal outOfPlace)
 
   -- what holds of an addition that is refused and of one that is taken holds of each addition
   added : (P : Outcome → Type 0) (room : Stmt → Bool) (s : Stmt) → ((r : Refusal) → P (record { answer = refused r; controller = c; statements = X }))

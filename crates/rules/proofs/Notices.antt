@@ -35,7 +35,7 @@ use Rattle.rules.specs.declared.Action.{Action}
 use Rattle.rules.specs.declared.Action.the-variants.{Rest, Ack, Store, Deliver, Leave, Prepare}
 use Rattle.rules.specs.Payloads.{payloadIs}
 use Rattle.rules.specs.Actions.{statementOf, actionIs, acts}
-use Rattle.rules.specs.Rules.{ownOf, ownOfAt, preparedBy, preparedIn, sentBy, firstPrepare, ackFor, ackable, AcksDue, PreparedOutside, mayLeave, Owns, Marks, Least, SituationOf, ToldOf, SendsOf, Lent, statements, ownStatements, senders, told, sends, AllLent, Rule, mergedBy, Does}
+use Rattle.rules.specs.Rules.{ownOf, ownOfAt, preparedBy, preparedIn, sentBy, firstPrepare, ackFor, ackable, AcksDue, PreparedOutside, mayLeave, Owns, Marks, Least, SituationOf, ToldOf, SendsOf, Lent, statements, ownStatements, senders, told, sends, AllLent, Rule, rule9At, mergedBy, Does}
 use Rattle.rules.proofs.Scans.{owns-same, owns-of, owns-of-at}
 use Rattle.rules.proofs.Applied.{each, doing, IsAny, all3, acts-is}
 
@@ -319,7 +319,7 @@ module _ (Y : List Stmt) (s : Situation) (d : Controller) (X : List Stmt) (k : S
   unfolding mayLeave
   waits = every-cong _ _ _ one-waits ∙ ap (λ n. every n (λ i. bit (s .delivered) i || not (bit (s .shown .certified) i || any (ownOf (s .number) 6 i) Y))) (k .notices)
 
-pub ninth : (Y : List Stmt) (s : Situation) → IsAny (ownStatements Y ∷ []) s turn.rule9 (each (s .leaving ∷ not (any (sameStmt (leave (s .number))) Y) ∷ mayLeave (min (s .ring .notices) 64) (s .delivered) (s .shown .certified) (s .number) Y ∷ []) Leave)
+pub ninth : (Y : List Stmt) (s : Situation) → IsAny (ownStatements Y ∷ []) s (rule9At (s .minute)) (each (s .leaving ∷ not (any (sameStmt (leave (s .number))) Y) ∷ mayLeave (min (s .ring .notices) 64) (s .delivered) (s .shown .certified) (s .number) Y ∷ []) Leave)
 unfolding turn.rule9 turn.hasSigned actionIs statementOf
 ninth Y s d X B b k h = rw (owns-same (h .0) (leave (s .number)) refl, waits Y s d X k (h .0), k .leaving, k .number) (all3 s (candidates (d .ring) X) B b Leave refl _ _ _)
 

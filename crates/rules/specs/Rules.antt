@@ -12,6 +12,7 @@ use Rattle.protocol.specs.Lists.{any, find, when, given, isSome, firstOf}
 use Rattle.protocol.specs.View.{View, sameView, member, below}
 use Rattle.protocol.specs.Statement.{Stmt, Binding, unbound, bound, barred, bindingOf, payloadOf, tells, isKind, sameStmt, prepare}
 use Rattle.protocol.specs.Evidence.{wished, candidates, isStored}
+use Rattle.protocol.specs.Window.{isOpen}
 use Rattle.protocol.specs.Controller.{Controller}
 use Rattle.protocol.specs.Turn as turn
 use Rattle.views.specs.View.{viewIn, viewsIn}
@@ -115,7 +116,7 @@ pub record SituationOf (d : Controller) (X : List Stmt) (s : Situation) : Type 0
   pub notices : length (d .senders) ≡ min (s .ring .notices) 64
   pub delivered : (i : ℕ) → i < length (d .senders) → d .delivered i ≡ bit (s .delivered) i
   pub joining : d .joinRequested ≡ s .joining
-  pub leaving : d .leaveRequested ≡ s .leaving
+  pub leaving : (d .leaveRequested && isOpen (d .windows) (s .minute)) ≡ s .leaving
   pub active : ltb 0 (length (d .entered)) ≡ s .active
   pub entered : turn.hasEntered d X (viewIs (s .top)) ≡ s .entered
   pub stands : turn.stands d X ≡ s .stands
@@ -162,6 +163,14 @@ AllLent s d X (l ∷ L) = LentIs s d X l × AllLent s d X L
 
 abbrev pub Rule : Type 0
 Rule = Controller → List Stmt → Option turn.Action
+
+-- Rule 9, and the first rule of all, at a minute of the week.
+
+abbrev pub rule9At : ℕ → Rule
+rule9At minute d X = turn.rule9 d X minute
+
+abbrev pub firstRuleAt : ℕ → Rule
+firstRuleAt minute d X = turn.firstRule d X minute
 
 -- What the first of the rules that applies has a controller do.
 unfoldable pub firstAmong : List Rule → Rule

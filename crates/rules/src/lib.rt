@@ -52,6 +52,8 @@ pub struct Situation {
     pub delivered: u64,
     pub requested: u64,
     pub joining: bool,
+    // The minute of the week; and whether a leave was requested and that minute is inside a window.
+    pub minute: u16,
     pub leaving: bool,
     // It has entered some view; the top; the top and nothing greater.
     pub active: bool,

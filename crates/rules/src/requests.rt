@@ -5,7 +5,7 @@ ghost use mathlib.Core.List.{[], _∷_};
 ghost use Prim.Native.Nat.{min};
 ghost use Rattle.protocol.specs.Turn as turn;
 ghost use Rattle.pool.specs.Pool.{recordIn};
-ghost use Rattle.rules.specs.Rules.{mayLeave, ownStatements, Does};
+ghost use Rattle.rules.specs.Rules.{mayLeave, ownStatements, rule9At, Does};
 ghost use Rattle.rules.specs.Rules as lent;
 use crate::Action;
 use crate::Situation;
@@ -47,14 +47,14 @@ fn may_leave(words: &[u64; POOL_WORDS], own: &[u16; RECORD], s: Situation) -> bo
     signed::least(waiting, ring.notices) >= NOTICES
 }
 
-// Rule 9: leave, after delivery of each notice of which there is something to deliver.
+// Rule 9: leave, inside a window and after delivery of each notice of which there is something to deliver.
 pub fn rule9(
     words: &[u64; POOL_WORDS],
     own: &[u16; RECORD],
     block: &[u64; BLOCK],
     s: Situation,
 ) -> Action
-    ensures { λ r. ⌜ Does (ownStatements (recordIn (now (words .entry)) (now (own .entry))) ∷ []) s turn.rule9 r ⌝ }
+    ensures { λ r. ⌜ Does (ownStatements (recordIn (now (words .entry)) (now (own .entry))) ∷ []) s (rule9At (s .minute)) r ⌝ }
 {
     if !s.leaving {
         return Action::Rest;

@@ -2,6 +2,8 @@ pub mod Scan
 pub mod Words
 pub mod Fields
 pub mod Commands
+pub mod Values
+pub mod Windows
 pub mod Setups
 pub mod Lies
 pub mod Lines

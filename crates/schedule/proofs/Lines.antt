@@ -7,19 +7,19 @@ use native.Mathlib.Omega.{arith}
 use native.Mathlib.Numerals.{add-one}
 use mathlib.Core.Path.{_≡_, refl, sym, ap, subst, _∙_}
 use mathlib.Core.Bool.{Bool, true, false, cond}
-use mathlib.Core.List.{List, [], _∷_, _++_, map}
+use mathlib.Core.List.{List, [], _∷_, _++_}
 use mathlib.Core.Option.{none}
 use lib.Dec.{eqb}
 use lib.ListN.{length, take, drop, getD, length-append}
 use lib.Seq.{take-suc, take-all, take-take, take-append-seam, length-take-le, drop-length}
 use borrow.Author.Tests.{eqb-true}
-use Rattle.text.specs.Text.{decText, hexText}
+use Rattle.text.specs.Text.{decText}
 use Rattle.statements.specs.Text.{parted, text}
 use Rattle.schedule.specs.declared.line.Line as held
 use Rattle.schedule.specs.declared.line.Parsed.{Parsed}
 use Rattle.schedule.specs.declared.line.Parsed.the-variants.{Readable, Unreadable}
 use Rattle.schedule.specs.declared.line.ReadLine.{ReadLine}
-use Rattle.schedule.specs.Line.{Line, setup, join, leave, send, give, all, turn, lie, noStatement, setupWord, joinWord, leaveWord, sendWord, giveWord, allWord, turnWord, lieWord, ended, Written, Reads, before, lines}
+use Rattle.schedule.specs.Line.{Line, setup, join, leave, send, give, all, turn, lie, noStatement, joinWord, leaveWord, sendWord, giveWord, allWord, turnWord, lieWord, ended, setupParts, Written, Reads, before, lines}
 use Rattle.schedule.specs.Reading.{Said, aLine, aSetup, aLie, meant, Tells, ReadAs, bodyLength, Understood, LineOf}
 
 -- ---- the length of a line without its newline
@@ -64,13 +64,13 @@ lines-last (c ∷ S) h k = go (eqb c 10) refl S refl (lines-last S)
 
 -- ---- a line that is written so ends with a newline
 pub written-ended : (S : List ℕ) (notices : ℕ) (l : Line) → Written notices l S → (t : List ℕ) × (S ≡ ended t)
-written-ended S n (setup m L f) w = (parted (setupWord ∷ hexText 4 m ∷ decText (length L) ∷ (map decText L ++ (hexText 4 f ∷ []))), w .4)
+written-ended S n (setup s f) w = (parted (setupParts s f), w .6)
 written-ended S n (join k) w = (parted (joinWord ∷ decText k ∷ []), w .1)
 written-ended S n (leave k) w = (parted (leaveWord ∷ decText k ∷ []), w .1)
 written-ended S n (send k i p) w = (parted (sendWord ∷ decText k ∷ decText i ∷ decText p ∷ []), w .3)
 written-ended S n (give k i) w = (parted (giveWord ∷ decText k ∷ decText i ∷ []), w .2)
 written-ended S n (all k) w = (parted (allWord ∷ decText k ∷ []), w .1)
-written-ended S n (turn k) w = (parted (turnWord ∷ decText k ∷ []), w .1)
+written-ended S n (turn k m) w = (parted (turnWord ∷ decText k ∷ decText m ∷ []), w .2)
 written-ended S n (lie s) w = (parted (lieWord ∷ text s ∷ []), w .1)
 written-ended S n noStatement w = (parted (lieWord ∷ w .0 ∷ []), w .1)
 
@@ -107,7 +107,7 @@ module _ (S : List ℕ) (end : ℕ) (e : end ≡ bodyLength S) where
 -- ---- what a loop over the lines cites
 told-ended : (S : List ℕ) (o : Said) → Tells o S → (t : List ℕ) × (S ≡ ended t)
 told-ended S (aLine l) w = written-ended S 0 l (w 0)
-told-ended S aSetup w = written-ended S 0 (setup (w .0) (w .1) (w .2)) (w .3 0)
+told-ended S aSetup w = written-ended S 0 (setup (w .0) (w .1)) (w .2 0)
 told-ended S aLie w = (parted (lieWord ∷ w .0 ∷ []), w .1)
 
 -- the first n bytes of S are a line with its newline, so the line is one byte shorter

@@ -1,16 +1,13 @@
--- A setup: its senders, read one by one, and the whole line.
+-- A setup: the whole line.
 -- Assumes nothing.
-use Prim.Native.Nat.{ℕ, _+_, _<_, _≤_}
-use native.Mathlib.Decide.{decLt}
+use Prim.Native.Nat.{ℕ, _<_, _≤_}
 use native.Mathlib.Omega.{arith}
-use mathlib.Core.Path.{_≡_, refl, sym, ap, subst, _∙_}
-use mathlib.Core.Bool.{Bool, true, false, true≢false, false≢true}
+use mathlib.Core.Path.{_≡_, refl, sym, ap, _∙_}
+use mathlib.Core.Bool.{true, false, false≢true}
 use mathlib.Core.List.{List, [], _∷_, _++_, map, append-assoc, append-nil}
-use lib.ListN.{length, drop, set, length-append, drop-of-length-le, List·getD-append}
-use lib.Seq.{getD-at}
-use borrow.Author.Tests.{eq-eqb, ne-eqb}
-use Rattle.protocol.specs.Lists.{put}
-use Rattle.protocol.proofs.Numbered.{set-put}
+use lib.ListN.{length, drop, drop-of-length-le}
+use Rattle.protocol.specs.Window.{Window}
+use Rattle.protocol.specs.Call as call
 use Rattle.text.specs.Text.{decText, hexText}
 use Rattle.text.specs.Scan.{Stops}
 use Rattle.text.proofs.Laws.{dec-same, hex-same}
@@ -18,186 +15,179 @@ use Rattle.statements.specs.declared.Part.{Part}
 use Rattle.statements.specs.Text.{parted}
 use Rattle.statements.specs.Meaning.{Each}
 use Rattle.statements.specs.Parts.{NumberAt, each, commaNumber}
-use Rattle.statements.proofs.Sequence.{ok-before, Comma, each-stops, from-number, SoFar, so-far-first, so-far-next, so-far-all}
+use Rattle.statements.proofs.Sequence.{ok-before, each-stops}
+use Rattle.statements.proofs.GroupLaws.{comma-number}
 use Rattle.schedule.specs.declared.line.Line.the-variants as is
 use Rattle.schedule.specs.declared.line.Parsed.the-variants.{Readable, Unreadable}
 use Rattle.schedule.specs.declared.line.ReadSetup.{ReadSetup}
 use Rattle.schedule.specs.declared.verb.Verb.the-variants.{Setup}
-use Rattle.schedule.specs.Line.{setup, setupWord, ended, Byte, Written}
-use Rattle.schedule.specs.Reading.{startsWith, verbOf, SetAt, SendersIn, SenderPut, SendersAt, ReadsSetup, SetupOf, BeginsWith, Understood}
-use Rattle.schedule.proofs.Words.{begins, ended-same, reads-none}
+use Rattle.schedule.specs.Line.{setup, setupWord, ended, Short, windowNumbers, setupParts, Written}
+use Rattle.schedule.specs.Reading.{startsWith, verbOf, SetAt, ReadsSetup, SetupOf, windowText, theSenders, theWindows, ManyAt, BeginsWith, Understood}
+use Rattle.schedule.proofs.Words.{starts-only, begins, ended-same, reads-none}
 use Rattle.schedule.proofs.Fields.{left-none}
 use Rattle.schedule.proofs.Commands.{follows, put-together}
-
--- ---- the senders
-
-comma : Comma commaNumber
-comma n = (decText n, refl)
-
-module _ (S : List ℕ) (j v : ℕ) where
-  pub sender-put : length S ≡ 64 → j < 64 → SenderPut S j v (set S j v)
-  sender-put e h = record { places = λ i _. ap (λ (f : ℕ → ℕ). f i) (set-put (λ k. k) S j v 0 (omega arith)) }
-
-  pub sender-past : 64 ≤ j → SenderPut S j v S
-  unfolding put
-  sender-past h = record { places = λ i k. rw (ne-eqb i j (λ e. omega arith)) }
-
--- The first j of n senders were read, and the next is to begin at `at`.
-pub record SendersSoFar (T : List ℕ) (at₀ n : ℕ) (S : List ℕ) (j : ℕ) (ok : Bool) (at : ℕ) : Type 0 where
-  pub senders : List ℕ
-  pub count : length senders ≡ j
-  pub bytes : Each Byte senders
-  pub stand : SendersIn S senders
-  pub read : SoFar commaNumber Byte T n true at₀ senders ok at
-
-bytes-more : (l : List ℕ) (v : ℕ) → Each Byte l → Byte v → Each Byte (l ++ (v ∷ []))
-bytes-more [] v e b = (b, tt)
-bytes-more (a ∷ l) v e b = (e .0, bytes-more l v (e .1) b)
-
-stand-more : (S S′ L : List ℕ) (v : ℕ) → SendersIn S L → SenderPut S (length L) v S′ → SendersIn S′ (L ++ (v ∷ []))
-unfolding put
-stand-more S S′ L v s p = record {
-  each = λ i h k. p .places i k ∙ elim (decLt i (length L)) [
-    | yes l ↦ rw (ne-eqb i (length L) (λ e. omega arith)) (s .each i l k ∙ sym (List·getD-append L (v ∷ []) 0 i l))
-    | no m ↦ (let e : i ≡ length L = omega (arith, length-append L (v ∷ [])) in rw (eq-eqb i (length L) e) (sym (getD-at L v [] 0 i (sym e))))
-  ];
-}
-
-module _ (T : List ℕ) (at₀ n : ℕ) where
-  pub senders-first : (S : List ℕ) → SendersSoFar T at₀ n S 0 true at₀
-  senders-first S = record {
-    senders = [];
-    count = refl;
-    bytes = tt;
-    stand = record { each = λ i h. absurd (omega arith) };
-    read = so-far-first commaNumber Byte T n true at₀ (λ e. absurd (true≢false e));
-  }
-
-  module _ (S : List ℕ) (j : ℕ) (ok : Bool) (at : ℕ) (f : SendersSoFar T at₀ n S j ok at) where
-    pub senders-next : (S′ : List ℕ) (p : Part) → j < n → NumberAt T at 255 p → SenderPut S j (p .value) S′ → SendersSoFar T at₀ n S′ (j + 1) (p .ok) (p .next)
-    senders-next S′ p h c g = record {
-      senders = f .senders ++ (p .value ∷ []);
-      count = length-append (f .senders) (p .value ∷ []) ∙ ap (λ (k : ℕ). k + 1) (f .count);
-      bytes = bytes-more (f .senders) (p .value) (f .bytes) (c .low);
-      stand = stand-more S S′ (f .senders) (p .value) (f .stand) (subst (λ (k : ℕ). SenderPut S k (p .value) S′) (sym (f .count)) g);
-      read = so-far-next commaNumber Byte T n true at₀ (f .senders) ok at (f .read) comma (p .value) (p .ok) (p .next) (omega (arith, f .count)) (from-number T at 255 p c);
-    }
-
-    pub senders-all : (p : Part) → n ≤ j → j ≤ n → p .ok ≡ ok → p .next ≡ at → SendersAt T at₀ n S p
-    senders-all p h k eo en =
-        let e : length (f .senders) ≡ n = omega (arith, f .count) in record {
-          senders = f .senders;
-          many = (e, f .bytes);
-          stand = f .stand;
-          from = rw (eo, en) (so-far-all commaNumber Byte T n true at₀ (f .senders) ok at (f .read) e);
-        }
+use Rattle.schedule.proofs.Windows.{windows-text, numbers-short, windows-short, numbers-long, windows-same}
 
 -- ---- the line
 
--- what follows the count
-abbrev pub rest : List ℕ → ℕ → List ℕ
-rest L f = each commaNumber L ++ 44 ∷ hexText 4 f
+-- what follows the faulty set, and the count of senders
+abbrev windowsTail : List Window → List ℕ
+windowsTail l = 44 ∷ (decText (length l) ++ each commaNumber (windowNumbers l))
 
-abbrev pub setupText : ℕ → List ℕ → ℕ → List ℕ
-setupText m L f = 44 ∷ (hexText 4 m ++ 44 ∷ (decText (length L) ++ rest L f))
+abbrev rest : call.Setup → ℕ → List ℕ
+rest s f = each commaNumber (s .senders) ++ 44 ∷ (hexText 4 f ++ windowsTail (s .windows))
 
-senders-parts : (L a z : List ℕ) → parted (a ∷ (map decText L ++ (z ∷ []))) ≡ a ++ (each commaNumber L ++ 44 ∷ z)
+abbrev setupText : call.Setup → ℕ → List ℕ
+setupText s f = 44 ∷ (hexText 4 (s .members) ++ 44 ∷ (decText (length (s .senders)) ++ rest s f))
+
+numbers-parts : (L a : List ℕ) → parted (a ∷ map decText L) ≡ a ++ each commaNumber L
 unfolding parted each
-senders-parts [] a z = refl
-senders-parts (k ∷ L) a z = ap (λ (l : List ℕ). a ++ 44 ∷ l) (senders-parts L (decText k) z ∙ sym (append-assoc (decText k) (each commaNumber L) (44 ∷ z)))
+numbers-parts [] a = sym (append-nil a)
+numbers-parts (k ∷ L) a = ap (λ (l : List ℕ). a ++ 44 ∷ l) (numbers-parts L (decText k))
 
-pub setup-parts : (m : ℕ) (L : List ℕ) (f : ℕ) → parted (setupWord ∷ hexText 4 m ∷ decText (length L) ∷ (map decText L ++ (hexText 4 f ∷ []))) ≡ setupWord ++ setupText m L f
+numbers-then : (L a z : List ℕ) (M : List (List ℕ)) → parted (a ∷ (map decText L ++ z ∷ M)) ≡ a ++ (each commaNumber L ++ 44 ∷ parted (z ∷ M))
+unfolding parted each
+numbers-then [] a z M = refl
+numbers-then (k ∷ L) a z M = ap (λ (l : List ℕ). a ++ 44 ∷ l) (numbers-then L (decText k) z M ∙ sym (append-assoc (decText k) (each commaNumber L) (44 ∷ parted (z ∷ M))))
+
+setup-parts : (s : call.Setup) (f : ℕ) → parted (setupParts s f) ≡ setupWord ++ setupText s f
 unfolding parted
-setup-parts m L f = ap (λ (l : List ℕ). setupWord ++ 44 ∷ (hexText 4 m ++ 44 ∷ l)) (senders-parts L (decText (length L)) (hexText 4 f))
+setup-parts s f =
+    let n : List ℕ = decText (length (s .senders)) in
+    let w : List ℕ = decText (length (s .windows)) in
+    ap (λ (l : List ℕ). setupWord ++ 44 ∷ (hexText 4 (s .members) ++ 44 ∷ l)) (numbers-then (s .senders) n (hexText 4 f) (w ∷ map decText (windowNumbers (s .windows)))
+    ∙ ap (λ (l : List ℕ). n ++ (each commaNumber (s .senders) ++ 44 ∷ (hexText 4 f ++ 44 ∷ l))) (numbers-parts (windowNumbers (s .windows)) w))
 
--- no digit follows the count
-pub rest-stops : (L : List ℕ) (f : ℕ) → Stops (rest L f)
-rest-stops L f = each-stops commaNumber comma L (44 ∷ hexText 4 f) refl
-
--- it begins with a comma
-rest-comma : (L : List ℕ) (f : ℕ) → (t : List ℕ) × (rest L f ≡ 44 ∷ t)
+-- no digit follows either count
+numbers-stop : (L : List ℕ) → Stops (each commaNumber L)
 unfolding each
-rest-comma [] f = (hexText 4 f, refl)
-rest-comma (k ∷ L) f = ((decText k ++ each commaNumber L) ++ 44 ∷ hexText 4 f, refl)
+numbers-stop [] = tt
+numbers-stop (k ∷ L) = refl
 
-module _ (T : List ℕ) (by : BeginsWith Setup T) (S : List ℕ) (m c s f : Part) (cm : SetAt T 5 m) (cc : NumberAt T (m .next) 255 c) (cs : SendersAt T (c .next) (c .value) S s) (cf : SetAt T (s .next) f) where
-  told : f .ok ≡ true → length T ≤ f .next → (r : ReadSetup) → r .members ≡ m .value → r .count ≡ c .value → r .faulty ≡ f .value → ReadsSetup T S r
-  told o h r em ec ef =
-      let L : List ℕ = cs .senders in
-      let v : ℕ = f .value in
-      let d4 : drop (s .next) T ≡ 44 ∷ hexText 4 v = cf .only o ∙ ap (λ (l : List ℕ). 44 ∷ (hexText 4 v ++ l)) (drop-of-length-le T h) ∙ ap (λ (l : List ℕ). 44 ∷ l) (append-nil (hexText 4 v)) in
-      let d3 : drop (c .next) T ≡ rest L v = cs .from .only (ok-before T (s .next) 44 (hexText 4 v) (s .ok) d4 (cs .from .stop)) .1 ∙ ap (λ (l : List ℕ). each commaNumber L ++ l) d4 in
-      let (t, e) = rest-comma L v in
-      let d2 : drop (m .next) T ≡ 44 ∷ (decText (c .value) ++ rest L v) = cc .only (ok-before T (c .next) 44 t (c .ok) (d3 ∙ e) (cc .stop)) ∙ ap (λ (l : List ℕ). 44 ∷ (decText (c .value) ++ l)) d3 in
-      let d1 : drop 5 T ≡ 44 ∷ (hexText 4 (m .value) ++ 44 ∷ (decText (c .value) ++ rest L v)) = cm .only (ok-before T (m .next) 44 (decText (c .value) ++ rest L v) (m .ok) d2 (cm .stop)) ∙ ap (λ (l : List ℕ). 44 ∷ (hexText 4 (m .value) ++ l)) d2 in
-      let d = d1 ∙ ap (λ (k : ℕ). 44 ∷ (hexText 4 (m .value) ++ 44 ∷ (decText k ++ rest L v))) (sym (cs .many .0)) in
-      let whole = put-together T setupWord (setupText (m .value) L v) (begins T Setup (by .word)) d ∙ ap ended (sym (setup-parts (m .value) L v)) in record {
-        senders = L;
-        count = cs .many .0 ∙ sym ec;
-        stand = cs .stand;
-        written = λ n. rw (em, ef) (omega (arith, cm .low), omega (arith, cs .many .0, cc .low), cs .many .1, omega (arith, cf .low), whole);
-      }
+rest-stops : (s : call.Setup) (f : ℕ) → Stops (rest s f)
+rest-stops s f = each-stops commaNumber comma-number (s .senders) (44 ∷ (hexText 4 f ++ windowsTail (s .windows))) refl
 
-  -- what the fields are, if the line is a setup
-  fields : (n a : ℕ) (L : List ℕ) (z : ℕ) → Written n (setup a L z) (ended T) → (f .ok ≡ true) × (drop (f .next) T ≡ [])
-  fields n a L z w =
-      let g1 = cm .back a (44 ∷ (decText (length L) ++ rest L z)) (omega (arith, w .0)) (follows T setupWord (setupText a L z) (w .4 ∙ ap ended (setup-parts a L z))) in
-      let g2 = cc .back (length L) (rest L z) (w .1) (rest-stops L z) (g1 .2) in
-      let g3 = cs .from .back L (44 ∷ hexText 4 z) (sym (g2 .1), w .2) refl refl (g2 .2) in
-      let g4 = cf .back z [] (omega (arith, w .3)) (g3 .2 ∙ ap (λ (l : List ℕ). 44 ∷ l) (sym (append-nil (hexText 4 z)))) in
-      (g4 .0, g4 .2)
+-- what follows the count of senders begins with a comma
+rest-comma : (L t : List ℕ) → (u : List ℕ) × (each commaNumber L ++ 44 ∷ t ≡ 44 ∷ u)
+unfolding each
+rest-comma [] t = (t, refl)
+rest-comma (k ∷ L) t = ((decText k ++ each commaNumber L) ++ 44 ∷ t, refl)
 
-  pub setup-more : f .next < length T → (r : ReadSetup) → r .ok ≡ false → SetupOf T S r
-  setup-more h r e = record {
+-- the text T after its word, if it is the setup s
+text-follows : (T : List ℕ) (i : ℕ) (s : call.Setup) (f : ℕ) → Written i (setup s f) (ended T) → drop 5 T ≡ setupText s f
+text-follows T i s f w = follows T setupWord (setupText s f) (w .6 ∙ ap ended (setup-parts s f))
+
+module _ (T : List ℕ) (by : BeginsWith Setup T) (S : List ℕ) (m c s f n : Part) (cm : SetAt T 5 m) (cc : NumberAt T (m .next) 255 c) (cs : ManyAt theSenders T (c .next) (c .value) S s) (cf : SetAt T (s .next) f)
+    (cn : NumberAt T (f .next) 65535 n) where
+  -- what the fields are up to the count of windows, if the line is a setup
+  fields : (i : ℕ) (a : call.Setup) (z : ℕ) → Written i (setup a z) (ended T) → (n .ok ≡ true) × (n .value ≡ length (a .windows)) × (drop (n .next) T ≡ each commaNumber (windowNumbers (a .windows)))
+  fields i a z w =
+      let g1 = cm .back (a .members) (44 ∷ (decText (length (a .senders)) ++ rest a z)) (omega (arith, w .0)) (text-follows T i a z w) in
+      let g2 = cc .back (length (a .senders)) (rest a z) (w .1) (rest-stops a z) (g1 .2) in
+      let g3 = cs .from .back (a .senders) (44 ∷ (hexText 4 z ++ windowsTail (a .windows))) (sym (g2 .1), w .2) refl refl (g2 .2) in
+      let g4 = cf .back z (windowsTail (a .windows)) (omega (arith, w .3)) (g3 .2) in
+      cn .back (length (a .windows)) (each commaNumber (windowNumbers (a .windows))) (w .4) (numbers-stop (windowNumbers (a .windows))) (g4 .2)
+
+  pub setup-uncounted : (W : List ℕ) → n .ok ≡ false → (r : ReadSetup) → r .ok ≡ false → SetupOf T S W r
+  setup-uncounted W q r e = record {
     told = λ o. absurd (false≢true (sym e ∙ o));
-    untold = λ _ n a L z w. absurd (omega (arith, left-none T (f .next) (fields n a L z w .1)));
+    untold = λ _ i a z w. false≢true (sym q ∙ fields i a z w .0);
   }
 
-  pub setup-whole : length T ≤ f .next → (r : ReadSetup) → r .ok ≡ f .ok → r .members ≡ m .value → r .count ≡ c .value → r .faulty ≡ f .value → SetupOf T S r
-  setup-whole h r eo em ec ef = record {
-    told = λ o. told (sym eo ∙ o) h r em ec ef;
-    untold = λ o n a L z w. false≢true (sym o ∙ eo ∙ fields n a L z w .0);
-  }
+  module _ (W : List ℕ) (v : Part) (cv : ManyAt theWindows T (n .next) (n .value) W v) where
+    told : n .ok ≡ true → v .ok ≡ true → length T ≤ v .next → (r : ReadSetup) → r .members ≡ m .value → r .count ≡ c .value → r .faulty ≡ f .value → r .windows ≡ n .value → ReadsSetup T S W r
+    told k o h r em ec ef en =
+        let L : List ℕ = cs .values in
+        let ws : List Window = cv .values in
+        let z : ℕ = f .value in
+        let numbers : List ℕ = each commaNumber (windowNumbers ws) in
+        let d6 : drop (n .next) T ≡ numbers = cv .from .only o .1 ∙ ap (λ (l : List ℕ). each windowText ws ++ l) (drop-of-length-le T h) ∙ append-nil (each windowText ws) ∙ windows-text ws in
+        let d5 : drop (f .next) T ≡ windowsTail ws = cn .only k ∙ ap (λ (l : List ℕ). 44 ∷ (decText (n .value) ++ l)) d6 ∙ ap (λ (x : ℕ). 44 ∷ (decText x ++ numbers)) (sym (cv .many o .0)) in
+        let d4 : drop (s .next) T ≡ 44 ∷ (hexText 4 z ++ windowsTail ws) = cf .only (ok-before T (f .next) 44 (decText (length ws) ++ numbers) (f .ok) d5 (cf .stop)) ∙ ap (λ (l : List ℕ). 44 ∷ (hexText 4 z ++ l)) d5 in
+        let os : s .ok ≡ true = ok-before T (s .next) 44 (hexText 4 z ++ windowsTail ws) (s .ok) d4 (cs .from .stop) in
+        let a : call.Setup = record { members = m .value; senders = L; windows = ws } in
+        let d3 : drop (c .next) T ≡ rest a z = cs .from .only os .1 ∙ ap (λ (l : List ℕ). each commaNumber L ++ l) d4 in
+        let (t, e) = rest-comma L (hexText 4 z ++ windowsTail ws) in
+        let d2 : drop (m .next) T ≡ 44 ∷ (decText (length L) ++ rest a z) = cc .only (ok-before T (c .next) 44 t (c .ok) (d3 ∙ e) (cc .stop)) ∙ ap (λ (l : List ℕ). 44 ∷ (decText (c .value) ++ l)) d3 ∙ ap (λ (x : ℕ). 44 ∷ (decText x ++ rest a z)) (sym (cs .many os .0)) in
+        let d1 : drop 5 T ≡ setupText a z = cm .only (ok-before T (m .next) 44 (decText (length L) ++ rest a z) (m .ok) d2 (cm .stop)) ∙ ap (λ (l : List ℕ). 44 ∷ (hexText 4 (m .value) ++ l)) d2 in
+        let whole = put-together T setupWord (setupText a z) (begins T Setup (by .word)) d1 ∙ ap ended (sym (setup-parts a z)) in record {
+          senders = L;
+          windows = ws;
+          count = cs .many os .0 ∙ sym ec;
+          stand = cs .stand;
+          window-count = cv .many o .0 ∙ sym en;
+          windows-stand = cv .stand;
+          written = λ i. rw (em, ef) (omega (arith, cm .low), omega (arith, cs .many os .0, cc .low), cs .many os .1, omega (arith, cf .low), omega (arith, cv .many o .0, cn .low), numbers-short ws (cv .many o .1), whole);
+        }
+
+    -- nothing follows the windows, if the line is a setup
+    windows-last : (i : ℕ) (a : call.Setup) (z : ℕ) → Written i (setup a z) (ended T) → (v .ok ≡ true) × (drop (v .next) T ≡ [])
+    windows-last i a z w =
+        let g5 = fields i a z w in
+        let ws : List Window = a .windows in
+        let g6 = cv .from .back ws [] (sym (g5 .1), windows-short ws (w .5)) tt refl (g5 .2 ∙ sym (windows-text ws) ∙ sym (append-nil (each windowText ws))) in
+        (g6 .0, g6 .2)
+
+    pub setup-more : v .next < length T → (r : ReadSetup) → r .ok ≡ false → SetupOf T S W r
+    setup-more h r e = record {
+      told = λ o. absurd (false≢true (sym e ∙ o));
+      untold = λ _ i a z w. absurd (omega (arith, left-none T (v .next) (windows-last i a z w .1)));
+    }
+
+    pub setup-whole : n .ok ≡ true → length T ≤ v .next → (r : ReadSetup) → r .ok ≡ v .ok → r .members ≡ m .value → r .count ≡ c .value → r .faulty ≡ f .value → r .windows ≡ n .value → SetupOf T S W r
+    setup-whole k h r eo em ec ef en = record {
+      told = λ o. told k (sym eo ∙ o) h r em ec ef en;
+      untold = λ o i a z w. false≢true (sym o ∙ eo ∙ windows-last i a z w .0);
+    }
 
 -- ---- one text, one setup
 
-senders-same : (L L′ z z′ : List ℕ) → length L ≡ length L′ → Each Byte L → Each Byte L′ → Stops z → Stops z′ → each commaNumber L ++ z ≡ each commaNumber L′ ++ z′ → (L ≡ L′) × (z ≡ z′)
+numbers-same : (most : ℕ) → most < 18446744073709551616 → (L L′ z z′ : List ℕ) → length L ≡ length L′ → Each (λ k. k ≤ most) L → Each (λ k. k ≤ most) L′ → Stops z → Stops z′ → each commaNumber L ++ z ≡ each commaNumber L′ ++ z′
+    → (L ≡ L′) × (z ≡ z′)
 unfolding each
-senders-same [] [] z z′ n b b′ s s′ e = (refl, e)
-senders-same [] (k′ ∷ L′) z z′ n b b′ s s′ e = absurd (omega arith)
-senders-same (k ∷ L) [] z z′ n b b′ s s′ e = absurd (omega arith)
-senders-same (k ∷ L) (k′ ∷ L′) z z′ n b b′ s s′ e =
+numbers-same most h [] [] z z′ n b b′ s s′ e = (refl, e)
+numbers-same most h [] (k′ ∷ L′) z z′ n b b′ s s′ e = absurd (omega arith)
+numbers-same most h (k ∷ L) [] z z′ n b b′ s s′ e = absurd (omega arith)
+numbers-same most h (k ∷ L) (k′ ∷ L′) z z′ n b b′ s s′ e =
     let d = sym (append-assoc (decText k) (each commaNumber L) z) ∙ ap (drop 1) e ∙ append-assoc (decText k′) (each commaNumber L′) z′ in
-    let (ek, d1) = dec-same k k′ (each commaNumber L ++ z) (each commaNumber L′ ++ z′) (omega (arith, b .0)) (omega (arith, b′ .0)) (each-stops commaNumber comma L z s) (each-stops commaNumber comma L′ z′ s′) d in
-    let (eL, d2) = senders-same L L′ z z′ (omega arith) (b .1) (b′ .1) s s′ d1 in
+    let (ek, d1) = dec-same k k′ (each commaNumber L ++ z) (each commaNumber L′ ++ z′) (omega (arith, b .0)) (omega (arith, b′ .0)) (each-stops commaNumber comma-number L z s) (each-stops commaNumber comma-number L′ z′ s′) d in
+    let (eL, d2) = numbers-same most h L L′ z z′ (omega arith) (b .1) (b′ .1) s s′ d1 in
     (ap (λ (x : ℕ). x ∷ L) ek ∙ ap (λ (l : List ℕ). k′ ∷ l) eL, d2)
 
-pub setup-same : (T : List ℕ) (n m : ℕ) (L : List ℕ) (f m′ : ℕ) (L′ : List ℕ) (f′ : ℕ) → Written n (setup m L f) (ended T) → Written n (setup m′ L′ f′) (ended T) → setup m L f ≡ setup m′ L′ f′
-setup-same T n m L f m′ L′ f′ w w′ =
-    let d0 = sym (follows T setupWord (setupText m L f) (w .4 ∙ ap ended (setup-parts m L f))) ∙ follows T setupWord (setupText m′ L′ f′) (w′ .4 ∙ ap ended (setup-parts m′ L′ f′)) in
-    let (em, d1) = hex-same 4 m m′ (44 ∷ (decText (length L) ++ rest L f)) (44 ∷ (decText (length L′) ++ rest L′ f′)) (w .0) (w′ .0) (ap (drop 1) d0) in
-    let (ec, d2) = dec-same (length L) (length L′) (rest L f) (rest L′ f′) (omega (arith, w .1)) (omega (arith, w′ .1)) (rest-stops L f) (rest-stops L′ f′) (ap (drop 1) d1) in
-    let (eL, d3) = senders-same L L′ (44 ∷ hexText 4 f) (44 ∷ hexText 4 f′) ec (w .2) (w′ .2) refl refl d2 in
-    let ef = hex-same 4 f f′ [] [] (w .3) (w′ .3) (ap (λ (t : List ℕ). t ++ []) (ap (drop 1) d3)) .0 in
-    ap (λ (x : ℕ). setup x L f) em ∙ ap (λ (l : List ℕ). setup m′ l f) eL ∙ ap (setup m′ L′) ef
+windows-one : (ws ws′ : List Window) → Short (length ws) → Short (length ws′) → Each Short (windowNumbers ws) → Each Short (windowNumbers ws′) → windowsTail ws ≡ windowsTail ws′ → ws ≡ ws′
+windows-one ws ws′ h h′ b b′ d =
+    let N : List ℕ = windowNumbers ws in
+    let N′ : List ℕ = windowNumbers ws′ in
+    let (en, d1) = dec-same (length ws) (length ws′) (each commaNumber N) (each commaNumber N′) (omega arith) (omega arith) (numbers-stop N) (numbers-stop N′) (ap (drop 1) d) in
+    windows-same ws ws′ (numbers-same 65535 (omega arith) N N′ [] [] (numbers-long ws ws′ en) b b′ tt tt (ap (λ (l : List ℕ). l ++ []) d1) .0)
+
+pub setup-same : (T : List ℕ) (n : ℕ) (s : call.Setup) (f : ℕ) (s′ : call.Setup) (f′ : ℕ) → Written n (setup s f) (ended T) → Written n (setup s′ f′) (ended T) → setup s f ≡ setup s′ f′
+setup-same T n s f s′ f′ w w′ =
+    let d0 = sym (text-follows T n s f w) ∙ text-follows T n s′ f′ w′ in
+    let (em, d1) = hex-same 4 (s .members) (s′ .members) (44 ∷ (decText (length (s .senders)) ++ rest s f)) (44 ∷ (decText (length (s′ .senders)) ++ rest s′ f′)) (w .0) (w′ .0) (ap (drop 1) d0) in
+    let (ec, d2) = dec-same (length (s .senders)) (length (s′ .senders)) (rest s f) (rest s′ f′) (omega (arith, w .1)) (omega (arith, w′ .1)) (rest-stops s f) (rest-stops s′ f′) (ap (drop 1) d1) in
+    let (eL, d3) = numbers-same 255 (omega arith) (s .senders) (s′ .senders) (44 ∷ (hexText 4 f ++ windowsTail (s .windows))) (44 ∷ (hexText 4 f′ ++ windowsTail (s′ .windows))) ec (w .2) (w′ .2) refl refl d2 in
+    let (ef, d4) = hex-same 4 f f′ (windowsTail (s .windows)) (windowsTail (s′ .windows)) (w .3) (w′ .3) (ap (drop 1) d3) in
+    let eV = windows-one (s .windows) (s′ .windows) (w .4) (w′ .4) (w .5) (w′ .5) d4 in
+    λ i. setup (record { members = em i; senders = eL i; windows = eV i }) (ef i)
 
 -- a line with another word
-pub not-setup : (T S : List ℕ) → startsWith T setupWord ≡ false → (r : ReadSetup) → r .ok ≡ false → SetupOf T S r
+pub not-setup : (T S W : List ℕ) → startsWith T setupWord ≡ false → (r : ReadSetup) → r .ok ≡ false → SetupOf T S W r
 unfolding startsWith
-not-setup T S e r o = record {
+not-setup T S W e r o = record {
   told = λ y. absurd (false≢true (sym o ∙ y));
-  untold = λ _ n a L z w. false≢true (sym e ∙ ap (λ (t : List ℕ). startsWith t setupWord) (ended-same T (setupWord ++ setupText a L z) (w .4 ∙ ap ended (setup-parts a L z))));
+  untold = λ _ i a z w. false≢true (sym e ∙ ap (λ (t : List ℕ). startsWith t setupWord) (ended-same T (setupWord ++ setupText a z) (w .6 ∙ ap ended (setup-parts a z))));
 }
 
 -- a line with the word
 pub setup-begins : (T : List ℕ) → startsWith T setupWord ≡ true → BeginsWith Setup T
-unfolding verbOf
-setup-begins T e = record { word = rw e }
+unfolding verbOf startsWith
+setup-begins T e = record { word = sym (ap verbOf (starts-only T setupWord e)) }
 
 -- ---- that it reads
-module _ (T : List ℕ) (by : BeginsWith Setup T) (S : List ℕ) (r : ReadSetup) (of : SetupOf T S r) where
+module _ (T : List ℕ) (by : BeginsWith Setup T) (S W : List ℕ) (r : ReadSetup) (of : SetupOf T S W r) where
   pub reads-setup : r .ok ≡ true → Understood T (Readable is.Setup)
-  reads-setup o = let g = of .told o in record { reads = (r .members, g .senders, r .faulty, g .written) }
+  reads-setup o = let g = of .told o in record { reads = (record { members = r .members; senders = g .senders; windows = g .windows }, r .faulty, g .written) }
 
   pub reads-no-setup : r .ok ≡ false → Understood T Unreadable
-  reads-no-setup o = record { reads = reads-none T Setup (by .word) (λ a L z n w. of .untold o n a L z w) }
+  reads-no-setup o = record { reads = reads-none T Setup (by .word) (λ a z i w. of .untold o i a z w) }

@@ -4,18 +4,19 @@ use Prim.Native.Nat.{ℕ, _+_}
 use native.Mathlib.Omega.{arith}
 use mathlib.Core.Path.{_≡_, refl, sym, ap, subst, _∙_}
 use mathlib.Core.Bool.{Bool, true, false, cond, false≢true}
-use mathlib.Core.List.{List, [], _∷_, _++_, map}
+use mathlib.Core.List.{List, [], _∷_, _++_}
 use mathlib.Core.Option.{none}
 use lib.Dec.{eqb}
 use lib.ListN.{length, take, drop, length-append}
 use lib.Seq.{take-append-seam}
 use borrow.Author.Tests.{eqb-true}
 use Rattle.protocol.specs.Statement.{Stmt}
-use Rattle.text.specs.Text.{decText, hexText}
+use Rattle.protocol.specs.Call as call
+use Rattle.text.specs.Text.{decText}
 use Rattle.statements.specs.Text.{parted, text}
 use Rattle.schedule.specs.declared.verb.Verb.{Verb}
 use Rattle.schedule.specs.declared.verb.Verb.the-variants.{Setup, Join, Leave, Send, Give, All, Turn, Lie, Unknown}
-use Rattle.schedule.specs.Line.{Line, setup, join, leave, send, give, all, turn, lie, noStatement, setupWord, joinWord, leaveWord, sendWord, giveWord, allWord, turnWord, lieWord, ended, Written, Reads}
+use Rattle.schedule.specs.Line.{Line, setup, join, leave, send, give, all, turn, lie, noStatement, joinWord, leaveWord, sendWord, giveWord, allWord, turnWord, lieWord, ended, setupParts, Written, Reads}
 use Rattle.schedule.specs.Reading.{startsWith, verbText, verbOf}
 
 -- ---- a text begins with its word
@@ -42,7 +43,7 @@ begins-if T v u b = go (startsWith T (verbText v)) refl
 verb-begins : (T : List ℕ) → Begins T (verbOf T)
 unfolding verbOf
 verb-begins T =
-    begins-if T Setup _ (begins-if T Join _ (begins-if T Leave _ (begins-if T Send _ (begins-if T Give _ (begins-if T All _ (begins-if T Turn _ (begins-if T Lie _ refl)))))))
+    begins-if T Turn _ (begins-if T All _ (begins-if T Give _ (begins-if T Join _ (begins-if T Leave _ (begins-if T Send _ (begins-if T Setup _ (begins-if T Lie _ refl)))))))
 
 pub begins : (T : List ℕ) (v : Verb) → v ≡ verbOf T → T ≡ verbText v ++ drop (length (verbText v)) T
 begins T v e = subst (Begins T) (sym e) (verb-begins T)
@@ -55,48 +56,48 @@ ended-same a b e =
 
 -- ---- the word of a line
 abbrev pub verbIs : Line → Verb
-verbIs (setup members senders faulty) = Setup
+verbIs (setup s faulty) = Setup
 verbIs (join k) = Join
 verbIs (leave k) = Leave
 verbIs (send k notice payload) = Send
 verbIs (give k n) = Give
 verbIs (all k) = All
-verbIs (turn k) = Turn
+verbIs (turn k minute) = Turn
 verbIs (lie s) = Lie
 verbIs noStatement = Lie
 
 pub written-verb : (T : List ℕ) (notices : ℕ) (l : Line) → Written notices l (ended T) → verbOf T ≡ verbIs l
 unfolding verbOf startsWith parted
-written-verb T n (setup m L f) w = ap verbOf (ended-same T (parted (setupWord ∷ hexText 4 m ∷ decText (length L) ∷ (map decText L ++ (hexText 4 f ∷ [])))) (w .4))
+written-verb T n (setup s f) w = ap verbOf (ended-same T (parted (setupParts s f)) (w .6))
 written-verb T n (join k) w = ap verbOf (ended-same T (parted (joinWord ∷ decText k ∷ [])) (w .1))
 written-verb T n (leave k) w = ap verbOf (ended-same T (parted (leaveWord ∷ decText k ∷ [])) (w .1))
 written-verb T n (send k i p) w = ap verbOf (ended-same T (parted (sendWord ∷ decText k ∷ decText i ∷ decText p ∷ [])) (w .3))
 written-verb T n (give k i) w = ap verbOf (ended-same T (parted (giveWord ∷ decText k ∷ decText i ∷ [])) (w .2))
 written-verb T n (all k) w = ap verbOf (ended-same T (parted (allWord ∷ decText k ∷ [])) (w .1))
-written-verb T n (turn k) w = ap verbOf (ended-same T (parted (turnWord ∷ decText k ∷ [])) (w .1))
+written-verb T n (turn k m) w = ap verbOf (ended-same T (parted (turnWord ∷ decText k ∷ decText m ∷ [])) (w .2))
 written-verb T n (lie s) w = ap verbOf (ended-same T (parted (lieWord ∷ text s ∷ [])) (w .1))
 written-verb T n noStatement w = ap verbOf (ended-same T (parted (lieWord ∷ w .0 ∷ [])) (w .1))
 
 -- P holds of every line with this word.
 abbrev pub OfVerb : Verb → (Line → Type 0) → Type 0
-OfVerb Setup P = (m : ℕ) (L : List ℕ) (f : ℕ) → P (setup m L f)
+OfVerb Setup P = (s : call.Setup) (f : ℕ) → P (setup s f)
 OfVerb Join P = (k : ℕ) → P (join k)
 OfVerb Leave P = (k : ℕ) → P (leave k)
 OfVerb Send P = (k i n : ℕ) → P (send k i n)
 OfVerb Give P = (k n : ℕ) → P (give k n)
 OfVerb All P = (k : ℕ) → P (all k)
-OfVerb Turn P = (k : ℕ) → P (turn k)
+OfVerb Turn P = (k m : ℕ) → P (turn k m)
 OfVerb Lie P = ((s : Stmt) → P (lie s)) × P noStatement
 OfVerb Unknown P = Unit {0}
 
 pub of-verb : (l : Line) (P : Line → Type 0) → OfVerb (verbIs l) P → P l
-of-verb (setup m L f) P o = o m L f
+of-verb (setup s f) P o = o s f
 of-verb (join k) P o = o k
 of-verb (leave k) P o = o k
 of-verb (send k i n) P o = o k i n
 of-verb (give k n) P o = o k n
 of-verb (all k) P o = o k
-of-verb (turn k) P o = o k
+of-verb (turn k m) P o = o k m
 of-verb (lie s) P o = o .0 s
 of-verb noStatement P o = o .1
 

@@ -9,7 +9,10 @@ use lib.Dec.{eqb}
 use lib.ListN.{length, take, drop, getD}
 use Rattle.protocol.specs.Lists.{put}
 use Rattle.protocol.specs.Statement.{Stmt}
+use Rattle.protocol.specs.Window.{Window}
+use Rattle.protocol.specs.Call as call
 use Rattle.text.specs.Text.{decText, hexText}
+use Rattle.windows.specs.Windows.{windowOf, windowIn}
 use Rattle.statements.specs.declared.Part.{Part}
 use Rattle.statements.specs.declared.ReadStatement.{ReadStatement}
 use Rattle.statements.specs.Text.{parted}
@@ -23,11 +26,11 @@ use Rattle.schedule.specs.declared.line.ReadLine.{ReadLine}
 use Rattle.schedule.specs.declared.line.ReadSetup.{ReadSetup}
 use Rattle.schedule.specs.declared.verb.Verb.{Verb}
 use Rattle.schedule.specs.declared.verb.Verb.the-variants.{Setup, Join, Leave, Send, Give, All, Turn, Lie, Unknown}
-use Rattle.schedule.specs.Line.{Line, setup, join, leave, send, give, all, turn, lie, setupWord, joinWord, leaveWord, sendWord, giveWord, allWord, turnWord, lieWord, ended, Byte, Written, Reads, lines}
+use Rattle.schedule.specs.Line.{Line, setup, join, leave, send, give, all, turn, lie, setupWord, joinWord, leaveWord, sendWord, giveWord, allWord, turnWord, lieWord, ended, Byte, Short, Written, Reads, lines}
 
 -- ---- what was read
 
--- What a line that was read says: the line itself; or that it is a setup or a lie, whose senders and statement are read apart.
+-- What a line that was read says: the line itself; or that it is a setup or a lie, which is read apart.
 pub data Said : Type 0 where
   aLine : Line → Said
   aSetup : Said
@@ -40,13 +43,13 @@ meant (is.Leave k) = aLine (leave k)
 meant (is.Send k notice payload) = aLine (send k notice payload)
 meant (is.Give k n) = aLine (give k n)
 meant (is.All k) = aLine (all k)
-meant (is.Turn k) = aLine (turn k)
+meant (is.Turn k minute) = aLine (turn k minute)
 meant is.Lie = aLie
 
 -- The text S says so, in a ring with any number of notices.
 abbrev pub Tells : Said → List ℕ → Type 0
 Tells (aLine l) S = (notices : ℕ) → Written notices l S
-Tells aSetup S = (members : ℕ) × (senders : List ℕ) × (faulty : ℕ) × ((notices : ℕ) → Written notices (setup members senders faulty) S)
+Tells aSetup S = (s : call.Setup) × (faulty : ℕ) × ((notices : ℕ) → Written notices (setup s faulty) S)
 Tells aLie S = (t : List ℕ) × (S ≡ ended (parted (lieWord ∷ t ∷ [])))
 
 -- S was read as p.
@@ -81,21 +84,36 @@ pub record LiedOf (T : List ℕ) (notices : ℕ) (B : List ℕ) (r : ReadStateme
 pub record SettingUp (T : List ℕ) : Type 0 where
   pub tells : Tells aSetup (ended T)
 
--- The memory S has the first 64 of the senders.
-pub record SendersIn (S : List ℕ) (senders : List ℕ) : Type 0 where
-  pub each : (i : ℕ) → i < length senders → i < 64 → getD S i 0 ≡ getD senders i 0
+-- The memory S has the first of the values, as many as it has places, by what each of its words means.
+pub record StandIn {A : Type 0} (means : ℕ → A) (blank : A) (places : ℕ) (S : List ℕ) (values : List A) : Type 0 where
+  pub each : (i : ℕ) → i < length values → i < places → means (getD S i 0) ≡ getD values i blank
 
--- The line T is the setup that r says, with these senders.
-pub record ReadsSetup (T S : List ℕ) (r : ReadSetup) : Type 0 where
+-- The memory S has the first 64 of the senders.
+abbrev pub SendersIn : List ℕ → List ℕ → Type 0
+SendersIn S senders = StandIn (λ k. k) 0 64 S senders
+
+-- The default past the end of a list of windows.
+abbrev pub noWindow : Window
+noWindow = windowOf 0 0 0
+
+-- The memory W has the first 8 of the windows.
+abbrev pub WindowsIn : List ℕ → List Window → Type 0
+WindowsIn W windows = StandIn windowIn noWindow 8 W windows
+
+-- The line T is the setup that r says, with these senders and windows.
+pub record ReadsSetup (T S W : List ℕ) (r : ReadSetup) : Type 0 where
   pub senders : List ℕ
+  pub windows : List Window
   pub count : length senders ≡ r .count
   pub stand : SendersIn S senders
-  pub written : (notices : ℕ) → Written notices (setup (r .members) senders (r .faulty)) (ended T)
+  pub window-count : length windows ≡ r .windows
+  pub windows-stand : WindowsIn W windows
+  pub written : (notices : ℕ) → Written notices (setup (record { members = r .members; senders = senders; windows = windows }) (r .faulty)) (ended T)
 
--- READING A SETUP: T is the setup that r says, of the senders whose first 64 stand in the memory S after it, or no setup. It may be any text.
-pub record SetupOf (T S : List ℕ) (r : ReadSetup) : Type 0 where
-  pub told : r .ok ≡ true → ReadsSetup T S r
-  pub untold : r .ok ≡ false → (notices members : ℕ) (senders : List ℕ) (faulty : ℕ) → ¬ Written notices (setup members senders faulty) (ended T)
+-- READING A SETUP: T is the setup that r says, of the senders whose first 64 stand in the memory S after it and the windows whose first 8 stand in W, or no setup. It may be any text.
+pub record SetupOf (T S W : List ℕ) (r : ReadSetup) : Type 0 where
+  pub told : r .ok ≡ true → ReadsSetup T S W r
+  pub untold : r .ok ≡ false → (notices : ℕ) (s : call.Setup) (faulty : ℕ) → ¬ Written notices (setup s faulty) (ended T)
 
 -- ---- the line's end and its first word
 
@@ -123,8 +141,8 @@ verbText Unknown = []
 -- No word begins with another, so the order of the tests is free.
 unfoldable pub verbOf : List ℕ → Verb
 verbOf T =
-    cond (startsWith T setupWord) Setup (cond (startsWith T joinWord) Join (cond (startsWith T leaveWord) Leave (cond (startsWith T sendWord) Send
-    (cond (startsWith T giveWord) Give (cond (startsWith T allWord) All (cond (startsWith T turnWord) Turn (cond (startsWith T lieWord) Lie Unknown)))))))
+    cond (startsWith T turnWord) Turn (cond (startsWith T allWord) All (cond (startsWith T giveWord) Give (cond (startsWith T joinWord) Join
+    (cond (startsWith T leaveWord) Leave (cond (startsWith T sendWord) Send (cond (startsWith T setupWord) Setup (cond (startsWith T lieWord) Lie Unknown)))))))
 
 -- ---- the fields, each with the comma before it
 
@@ -140,16 +158,45 @@ pub record SetAt (T : List ℕ) (at : ℕ) (p : Part) : Type 0 where
   pub low : p .value < 65536
   pub stop : p .ok ≡ false → p .next ≡ length T
 
--- n senders.
-pub record SendersAt (T : List ℕ) (at n : ℕ) (S : List ℕ) (p : Part) : Type 0 where
-  pub senders : List ℕ
-  pub many : Many Byte n senders
-  pub stand : SendersIn S senders
-  pub from : From (each commaNumber) (Many Byte n) T true at (p .ok) senders (p .next)
+-- ---- values that are told one after the other, and put into a memory
+
+-- How a value is written with the comma before it, which values are read, what a word of the memory means, the default past the end of a list, and how many places the memory has.
+pub record Values (A : Type 0) : Type 1 where
+  pub text : A → List ℕ
+  pub Fit : A → Type 0
+  pub means : ℕ → A
+  pub blank : A
+  pub places : ℕ
+
+-- A window's numbers, each with its comma, and how large they may be.
+abbrev pub windowText : Window → List ℕ
+windowText w = commaNumber (w .weekday) ++ (commaNumber (w .first) ++ commaNumber (w .end))
+
+abbrev pub ShortWindow : Window → Type 0
+ShortWindow w = Short (w .weekday) × Short (w .first) × Short (w .end)
+
+-- A setup's senders, and its windows.
+abbrev pub theSenders : Values ℕ
+theSenders = record { text = commaNumber; Fit = Byte; means = λ k. k; blank = 0; places = 64 }
+
+abbrev pub theWindows : Values Window
+theWindows = record { text = windowText; Fit = ShortWindow; means = windowIn; blank = noWindow; places = 8 }
+
+-- One value, v.
+pub record OneAt {A : Type 0} (K : Values A) (T : List ℕ) (at : ℕ) (v : A) (p : Part) : Type 0 where
+  pub fits : K .Fit v
+  pub from : From (K .text) (K .Fit) T true at (p .ok) v (p .next)
+
+-- n values.
+pub record ManyAt {A : Type 0} (K : Values A) (T : List ℕ) (at n : ℕ) (S : List ℕ) (p : Part) : Type 0 where
+  pub values : List A
+  pub many : p .ok ≡ true → Many (K .Fit) n values
+  pub stand : StandIn (K .means) (K .blank) (K .places) S values
+  pub from : From (each (K .text)) (Many (K .Fit) n) T true at (p .ok) values (p .next)
 
 -- One more, at place j, goes to the memory S if it has that place.
-pub record SenderPut (S : List ℕ) (j v : ℕ) (S′ : List ℕ) : Type 0 where
-  pub places : (i : ℕ) → i < 64 → getD S′ i 0 ≡ put j v (λ k. getD S k 0) i
+pub record PutAt {A : Type 0} (K : Values A) (S : List ℕ) (j : ℕ) (v : A) (S′ : List ℕ) : Type 0 where
+  pub each : (i : ℕ) → i < K .places → K .means (getD S′ i 0) ≡ put j v (λ k. K .means (getD S k 0)) i
 
 -- ---- which word the line begins with
 abbrev pub IsNamed : Verb → Type 0
@@ -159,7 +206,7 @@ IsNamed Leave = Unit {0}
 IsNamed Send = ⊥
 IsNamed Give = ⊥
 IsNamed All = Unit {0}
-IsNamed Turn = Unit {0}
+IsNamed Turn = ⊥
 IsNamed Lie = ⊥
 IsNamed Unknown = ⊥
 

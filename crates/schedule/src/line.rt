@@ -3,8 +3,9 @@
 ghost use mathlib.Core.Path.{_≡_};
 ghost use mathlib.Core.Bool.{false};
 ghost use lib.ListN.{length};
-ghost use Rattle.schedule.specs.declared.verb.Verb.the-variants.{Setup, Send, Give, Lie};
-ghost use Rattle.schedule.specs.Reading.{bodyLength, LastAt, SetAt, SenderPut, SendersAt, NamedBy, BeginsWith, LiedOf, SetupOf, Understood, LineOf};
+ghost use Rattle.windows.specs.Windows.{windowIn};
+ghost use Rattle.schedule.specs.declared.verb.Verb.the-variants.{Setup, Send, Give, Turn, Lie};
+ghost use Rattle.schedule.specs.Reading.{bodyLength, LastAt, SetAt, theSenders, theWindows, OneAt, ManyAt, PutAt, NamedBy, BeginsWith, LiedOf, SetupOf, Understood, LineOf};
 use crate::verb::Verb;
 use crate::verb::starts_with;
 use crate::verb::verb_of;
@@ -17,6 +18,7 @@ use text::NEWLINE;
 use text::NUMBER_MAX;
 use text::Read;
 use views::View;
+use windows::WINDOWS;
 
 // A set is written as four hexadecimal digits.
 const SET_DIGITS: usize = 4;
@@ -24,8 +26,11 @@ const SET_DIGITS: usize = 4;
 // The last controller's number.
 const LAST: u64 = View::WIDTH as u64 - 1;
 
-// A setup is read where it is done (`read_setup`), since its senders need memory, and a lie's statement where the lie is told (`lied`), so that
-// no other line pays for them.
+// The largest number of a window, count of windows and minute that reads.
+const SHORT_MAX: u64 = 65535;
+
+// A setup is read where it is done (`read_setup`), since its senders and windows need memory, and a lie's statement where the lie is told
+// (`lied`), so that no other line pays for them.
 pub enum Line {
     Setup,
     Join(u8),
@@ -33,7 +38,7 @@ pub enum Line {
     Send(u8, u8, u64),
     Give(u8, u64),
     All(u8),
-    Turn(u8),
+    Turn(u8, u16),
     Lie,
 }
 
@@ -42,12 +47,13 @@ pub enum Parsed {
     Unreadable,
 }
 
-// What a setup says, but for its senders; `ok` just where the line is one.
+// What a setup says, and of its senders and windows the counts; `ok` just where the line is one.
 pub struct ReadSetup {
     pub ok: bool,
     pub members: u16,
     pub count: usize,
     pub faulty: u16,
+    pub windows: usize,
 }
 
 // What a line was read as, and where the next one begins.
@@ -121,8 +127,7 @@ fn read_named(line: &[u8], verb: Verb, at: usize) -> Parsed
     match verb {
         Verb::Join => Parsed::Readable(Line::Join(k)),
         Verb::Leave => Parsed::Readable(Line::Leave(k)),
-        Verb::All => Parsed::Readable(Line::All(k)),
-        _ => Parsed::Readable(Line::Turn(k)),
+        _ => Parsed::Readable(Line::All(k)),
     }
 }
 
@@ -136,6 +141,18 @@ fn read_give(line: &[u8]) -> Parsed
         return Parsed::Unreadable;
     }
     Parsed::Readable(Line::Give(k.value as u8, n.value))
+}
+
+fn read_turn(line: &[u8]) -> Parsed
+    requires { ⌜ BeginsWith Turn (now line) ⌝ }
+    ensures { λ r. ⌜ Understood (now (line .entry)) r ⌝ }
+{
+    let k = statements::number_at(line, 4, LAST);
+    let minute = last_at(line, k.next, SHORT_MAX);
+    if !minute.ok {
+        return Parsed::Unreadable;
+    }
+    Parsed::Readable(Line::Turn(k.value as u8, minute.value as u16))
 }
 
 fn read_send(line: &[u8]) -> Parsed
@@ -161,7 +178,7 @@ fn places(senders: &[u8; NOTICES]) -> usize
 
 // A sender past the last place goes nowhere: a setup that names so many is refused by their count.
 fn put_sender(senders: &mut [u8; NOTICES], j: usize, sender: u8)
-    ensures { λ _. ⌜ SenderPut (now (senders .entry)) j sender (now (senders .exit)) ⌝ }
+    ensures { λ _. ⌜ PutAt theSenders (now (senders .entry)) j sender (now (senders .exit)) ⌝ }
 {
     places(senders);
     if j < NOTICES {
@@ -169,22 +186,86 @@ fn put_sender(senders: &mut [u8; NOTICES], j: usize, sender: u8)
     }
 }
 
-// As many senders as are told, each with the comma before it.
+// As many senders as are told, each with the comma before it. One that does not read ends the reading.
 fn senders_at(line: &[u8], from: usize, n: usize, senders: &mut [u8; NOTICES]) -> Part
-    ensures { λ p. ⌜ SendersAt (now (line .entry)) from n (now (senders .exit)) p ⌝ }
+    ensures { λ p. ⌜ ManyAt theSenders (now (line .entry)) from n (now (senders .exit)) p ⌝ }
 {
-    let mut ok = true;
     let mut at = from;
     let mut j = 0usize;
     while j < n {
         let p = statements::number_at(line, at, BYTE_MAX);
+        if !p.ok {
+            return Part {
+                ok: false,
+                value: 0,
+                next: line.len(),
+            };
+        }
         put_sender(senders, j, p.value as u8);
-        ok = p.ok;
         at = p.next;
         j += 1;
     }
     Part {
-        ok: ok,
+        ok: true,
+        value: 0,
+        next: at,
+    }
+}
+
+// How many windows have a place. A proof that one was put there asks for it.
+fn window_places(windows: &[u64; WINDOWS]) -> usize
+    ensures { λ r. ⌜ length (now (windows .entry)) ≡ 8 ⌝ }
+{
+    let s = &windows[..];
+    s.len()
+}
+
+// A window past the last place goes nowhere: a setup that has so many is refused by their count.
+fn put_window(windows: &mut [u64; WINDOWS], i: usize, word: u64)
+    ensures { λ _. ⌜ PutAt theWindows (now (windows .entry)) i (windowIn word) (now (windows .exit)) ⌝ }
+{
+    window_places(windows);
+    if i < WINDOWS {
+        windows[i] = word;
+    }
+}
+
+// A window's three numbers, each with the comma before it, as its word.
+fn window_at(line: &[u8], at: usize) -> Part
+    ensures { λ p. ⌜ OneAt theWindows (now (line .entry)) at (windowIn (p .value)) p ⌝ }
+{
+    let weekday = statements::number_at(line, at, SHORT_MAX);
+    let first = statements::number_at(line, weekday.next, SHORT_MAX);
+    let end = statements::number_at(line, first.next, SHORT_MAX);
+    let word = windows::word_of(weekday.value as u16, first.value as u16, end.value as u16);
+    Part {
+        ok: end.ok,
+        value: word,
+        next: end.next,
+    }
+}
+
+// As many windows as are told. One that does not read ends the reading, since a short line may tell of 65535.
+fn windows_at(line: &[u8], from: usize, n: usize, windows: &mut [u64; WINDOWS]) -> Part
+    ensures { λ p. ⌜ ManyAt theWindows (now (line .entry)) from n (now (windows .exit)) p ⌝ }
+{
+    let mut at = from;
+    let mut i = 0usize;
+    while i < n {
+        let p = window_at(line, at);
+        if !p.ok {
+            return Part {
+                ok: false,
+                value: 0,
+                next: line.len(),
+            };
+        }
+        put_window(windows, i, p.value);
+        at = p.next;
+        i += 1;
+    }
+    Part {
+        ok: true,
         value: 0,
         next: at,
     }
@@ -199,27 +280,35 @@ fn no_setup() -> ReadSetup
         members: 0,
         count: 0,
         faulty: 0,
+        windows: 0,
     }
 }
 
-// The fields of a setup after its word.
-fn setup_fields(line: &[u8], senders: &mut [u8; NOTICES]) -> ReadSetup
+// The fields of a setup after its word. That the count of windows reads is asked, since nothing follows it where there are none.
+fn setup_fields(line: &[u8], senders: &mut [u8; NOTICES], windows: &mut [u64; WINDOWS]) -> ReadSetup
     requires { ⌜ BeginsWith Setup (now line) ⌝ }
-    ensures { λ r. ⌜ SetupOf (now (line .entry)) (now (senders .exit)) r ⌝ }
+    ensures { λ r. ⌜ SetupOf (now (line .entry)) (now (senders .exit)) (now (windows .exit)) r ⌝ }
 {
     let members = set_at(line, 5);
     let count = statements::number_at(line, members.next, BYTE_MAX);
     let n = count.value as usize;
     let named = senders_at(line, count.next, n, senders);
     let faulty = set_at(line, named.next);
-    if faulty.next < line.len() {
+    let many = statements::number_at(line, faulty.next, SHORT_MAX);
+    if !many.ok {
+        return no_setup();
+    }
+    let w = many.value as usize;
+    let last = windows_at(line, many.next, w, windows);
+    if last.next < line.len() {
         return no_setup();
     }
     ReadSetup {
-        ok: faulty.ok,
+        ok: last.ok,
         members: members.value as u16,
         count: n,
         faulty: faulty.value as u16,
+        windows: w,
     }
 }
 
@@ -228,7 +317,8 @@ fn is_setup(line: &[u8]) -> Parsed
     ensures { λ r. ⌜ Understood (now (line .entry)) r ⌝ }
 {
     let mut senders = [0u8; NOTICES];
-    let r = setup_fields(line, &mut senders);
+    let mut windows = [0u64; WINDOWS];
+    let r = setup_fields(line, &mut senders, &mut windows);
     if r.ok {
         return Parsed::Readable(Line::Setup);
     }
@@ -258,7 +348,7 @@ fn read_body(line: &[u8]) -> Parsed
         Verb::Send => read_send(line),
         Verb::Give => read_give(line),
         Verb::All => read_named(line, verb, 3),
-        Verb::Turn => read_named(line, verb, 4),
+        Verb::Turn => read_turn(line),
         Verb::Lie => read_lie(line),
         Verb::Unknown => Parsed::Unreadable,
     }
@@ -281,14 +371,18 @@ pub fn read_line(s: &[u8]) -> ReadLine
     }
 }
 
-// What a setup says. Of its senders, the first 64 go to the memory.
-pub fn read_setup(line: &[u8], senders: &mut [u8; NOTICES]) -> ReadSetup
-    ensures { λ r. ⌜ SetupOf (now (line .entry)) (now (senders .exit)) r ⌝ }
+// What a setup says. Of its senders the first 64, and of its windows the first 8 go to the memories.
+pub fn read_setup(
+    line: &[u8],
+    senders: &mut [u8; NOTICES],
+    windows: &mut [u64; WINDOWS],
+) -> ReadSetup
+    ensures { λ r. ⌜ SetupOf (now (line .entry)) (now (senders .exit)) (now (windows .exit)) r ⌝ }
 {
     if !starts_with(line, b"setup") {
         return no_setup();
     }
-    setup_fields(line, senders)
+    setup_fields(line, senders, windows)
 }
 
 // The statement of a lie in a ring with this number of notices; `ok` just where the line is one, and its text that of a statement that keeps

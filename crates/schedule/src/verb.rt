@@ -30,11 +30,18 @@ pub fn starts_with(s: &[u8], word: &[u8]) -> bool
     true
 }
 
+// The words that come most often are asked first.
 pub fn verb_of(line: &[u8]) -> Verb
     ensures { λ r. ⌜ r ≡ verbOf (now (line .entry)) ⌝ }
 {
-    if starts_with(line, b"setup") {
-        return Verb::Setup;
+    if starts_with(line, b"turn") {
+        return Verb::Turn;
+    }
+    if starts_with(line, b"all") {
+        return Verb::All;
+    }
+    if starts_with(line, b"give") {
+        return Verb::Give;
     }
     if starts_with(line, b"join") {
         return Verb::Join;
@@ -45,14 +52,8 @@ pub fn verb_of(line: &[u8]) -> Verb
     if starts_with(line, b"send") {
         return Verb::Send;
     }
-    if starts_with(line, b"give") {
-        return Verb::Give;
-    }
-    if starts_with(line, b"all") {
-        return Verb::All;
-    }
-    if starts_with(line, b"turn") {
-        return Verb::Turn;
+    if starts_with(line, b"setup") {
+        return Verb::Setup;
     }
     if starts_with(line, b"lie") {
         return Verb::Lie;

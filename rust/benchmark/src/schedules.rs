@@ -36,21 +36,21 @@ fn compared(name: &str, schedules: &[Vec<u8>]) {
 
 /// A setup, and then one line as often as there is room for it.
 fn repeated(line: &[u8]) -> Vec<u8> {
-    let setup = b"setup,0001,1,0,0000\n";
+    let setup = b"setup,0001,1,0,0000,0\n";
     let room = (SCHEDULE_LIMIT - setup.len()) / line.len();
     [&setup[..], &line.repeat(room)].concat()
 }
 
-/// The longest of the schedules of a style.
+/// The longest of the schedules of a style, without windows and with minute 0 but for `leavers`.
 fn longest(style: &str) -> Vec<u8> {
-    let made = (0..8).filter_map(|seed| generate::schedule(style, seed, SCHEDULE_LIMIT));
+    let made = (0..8).filter_map(|seed| generate::still(style, seed, SCHEDULE_LIMIT));
     made.max_by_key(|schedule| lines(schedule)).unwrap_or_default()
 }
 
 /// The statements of a record as lies, as many as there is room for, and then turns over all of them.
 fn lied(case: &Case) -> Vec<u8> {
     let senders: String = case.senders.iter().map(|sender| format!("{sender},")).collect();
-    let mut schedule = format!("setup,{:04x},{},{senders}ffff\n", case.initial.joined(), case.senders.len()).into_bytes();
+    let mut schedule = format!("setup,{:04x},{},{senders}ffff,0\n", case.initial.joined(), case.senders.len()).into_bytes();
     for statement in &case.statements {
         let mut line = b"lie,".to_vec();
         statement.write_into(&mut line);
@@ -61,14 +61,14 @@ fn lied(case: &Case) -> Vec<u8> {
         schedule.extend(line);
     }
     schedule.extend(b"all,0\n");
-    schedule.extend(b"turn,0\n".repeat(TURNS));
+    schedule.extend(b"turn,0,0\n".repeat(TURNS));
     schedule
 }
 
 pub fn print() {
     head("The rows of a schedule", "line");
     compared("empty lines", &[vec![b'\n'; 65_519]]);
-    compared("`turn,0`", &[repeated(b"turn,0\n")]);
+    compared("`turn,0,0`", &[repeated(b"turn,0,0\n")]);
     compared("`join,0`, refused", &[repeated(b"join,0\n")]);
     compared("`all,0`", &[repeated(b"all,0\n")]);
     compared("honest, the longest", &[longest("honest-1")]);
@@ -77,6 +77,7 @@ pub fn print() {
     for (name, case) in [("breadth", breadth(512)), ("depth", depth(512)), ("mixed", mixed(512))] {
         compared(&format!("{name}, as lies and then turns"), &[lied(&case)]);
     }
+    compared("leavers that wait for windows, the longest", &[longest("leavers-1")]);
     compared("64 notices, honest, the longest", &[longest("honest-64")]);
     compared("64 notices, honest until the pool is full", &[longest("notices-64")]);
     compared("64 notices, liars, the longest", &[longest("liars-64")]);

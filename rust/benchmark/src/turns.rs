@@ -3,13 +3,16 @@
 use std::hint::black_box;
 use std::time::Instant;
 
-use compare::records::{gaps, prepares, reports, short_of_quorum, skipped, votes, Case, NEWCOMER, WAITING};
+use compare::records::{gaps, pool_of, prepares, reports, short_of_quorum, skipped, votes, Case, NEWCOMER, WAITING};
 use pekdrav::{Controller, Pool};
-use reference::{Answer, Body, Document, Evidence, Record, Statement};
+use reference::{Answer, Body, Document, Evidence, Record, Statement, Window, WINDOWS};
 
 use crate::measure::{head, measure_in, median, medians, row, Times};
 
 const RUNS: usize = 15;
+
+/// The minute of the week of every turn.
+const MINUTE: u16 = 0;
 
 /// Who is in no ring here: its prepares decide nothing, and fill the records of small rings.
 const OUTSIDER: u8 = 15;
@@ -42,13 +45,14 @@ fn timed<T>(work: impl FnOnce() -> T) -> (T, f64) {
 }
 
 impl Seat {
-    /// A controller in a ring of that many notices of sender 0. The memory of the pool is kept from run to run.
-    fn new(number: u8, members: u16, notices: usize, mut pool: Pool) -> Seat {
+    /// A controller in a ring of that many notices of sender 0, with these windows. The memory of the pool is kept from run to run.
+    fn new(number: u8, members: u16, notices: usize, windows: &[Window], mut pool: Pool) -> Seat {
         pool.clear();
         let mut seat = Seat { mine: Controller::new(), pool, theirs: reference::Controller::new(number), heard: 0 };
         let senders = vec![0; notices];
-        seat.mine.setup(number, members, &senders);
-        seat.theirs.setup(members, &senders);
+        let listed: Vec<_> = windows.iter().map(|window| pekdrav::Window::new(window.weekday, window.first, window.end)).collect();
+        seat.mine.setup(number, members, &senders, &listed);
+        seat.theirs.setup(members, &senders, windows);
         seat
     }
 }
@@ -56,7 +60,7 @@ impl Seat {
 impl Ring {
     fn new(notices: usize, pools: Vec<Pool>) -> Ring {
         let members = (1u16 << (pools.len() / 2)) - 1;
-        let seat = |(number, pool)| Seat::new(number, members, notices, pool);
+        let seat = |(number, pool)| Seat::new(number, members, notices, &[], pool);
         Ring { seats: (0..).zip(pools).map(seat).collect(), sent: Vec::new(), mine: 0.0, theirs: 0.0, turns: 0 }
     }
 
@@ -71,12 +75,12 @@ impl Ring {
         let Seat { mine, pool, theirs, .. } = &mut self.seats[k];
         self.turns += 1;
         let (answer, first, second) = if self.turns & 1 == 0 {
-            let (_, first) = timed(|| mine.turn(pool));
-            let (answer, second) = timed(|| theirs.turn());
+            let (_, first) = timed(|| mine.turn(pool, MINUTE));
+            let (answer, second) = timed(|| theirs.turn(MINUTE));
             (answer, first, second)
         } else {
-            let (answer, second) = timed(|| theirs.turn());
-            let (_, first) = timed(|| mine.turn(pool));
+            let (answer, second) = timed(|| theirs.turn(MINUTE));
+            let (_, first) = timed(|| mine.turn(pool, MINUTE));
             (answer, first, second)
         };
         self.mine += first;
@@ -174,8 +178,8 @@ fn compared(size: u8, notices: usize, noise: u64) {
 }
 
 /// A controller with the statements of a record.
-fn seated(number: u8, case: &Case) -> Seat {
-    let mut seat = Seat::new(number, case.initial.joined(), case.senders.len(), Pool::new());
+fn seated(number: u8, case: &Case, windows: &[Window]) -> Seat {
+    let mut seat = Seat::new(number, case.initial.joined(), case.senders.len(), windows, Pool::new());
     for statement in &case.statements {
         seat.mine.add(&mut seat.pool, &statement.write());
         seat.theirs.add(statement);
@@ -183,33 +187,63 @@ fn seated(number: u8, case: &Case) -> Seat {
     seat
 }
 
-/// Turns of a controller that waits, over a record of the worst that liars can write, once there is nothing to do any more.
-fn waited(name: &str, case: &Case) {
-    let Seat { mut mine, mut pool, mut theirs, .. } = seated(WAITING, case);
-    while !matches!((mine.turn(&mut pool), theirs.turn()), (pekdrav::Answer::Quiet, Answer::Quiet)) {}
+/// Turns of a controller once there is nothing to do any more.
+fn quiet(rounds: usize, seat: Seat) -> Times {
+    let Seat { mut mine, mut pool, mut theirs, .. } = seat;
+    let busy = |answer: Answer| matches!(answer, Answer::Signed(_) | Answer::Entered(_) | Answer::Delivered { .. });
+    while busy((mine.turn(&mut pool, MINUTE), theirs.turn(MINUTE)).1) {}
     let mine = |_: &[()]| {
-        black_box(mine.turn(&mut pool));
+        black_box(mine.turn(&mut pool, black_box(MINUTE)));
     };
     let theirs = |_: &[()]| {
-        black_box(theirs.turn());
+        black_box(theirs.turn(black_box(MINUTE)));
     };
-    let times = measure_in(ROUNDS, &[()], 1, mine, theirs);
+    measure_in(rounds, &[()], 1, mine, theirs)
+}
+
+/// Turns of a controller that waits, over a record of the worst that liars can write.
+fn waited(name: &str, case: &Case) {
+    let times = quiet(ROUNDS, seated(WAITING, case, &[]));
     row(&format!("64 notices, {name}, {} statements", case.statements.len()), &times);
+}
+
+/// Rounds of turns over a short record.
+const SHORT_ROUNDS: usize = 2_000;
+
+/// Turns of a member that stays and has nothing to do, and of the same one when it was asked to leave and waits for one of eight windows.
+fn waited_for_window(case: &Case, member: u8) {
+    let windows: Vec<Window> = (0..WINDOWS as u16).map(|place| Window::new(place % 7, 480 + place, 540)).collect();
+    for (name, leaves) in [("no leave", false), ("a leave that waits for its window", true)] {
+        let mut seat = seated(member, case, &windows);
+        if leaves {
+            seat.mine.leave();
+            seat.theirs.leave();
+        }
+        row(&format!("{name}, {} statements", case.statements.len()), &quiet(SHORT_ROUNDS, seat));
+    }
+}
+
+/// The pool of a ring that lived until it was full, and an initial member that never left it.
+fn lifetime() -> Option<(Case, u8)> {
+    let case = pool_of(&generate::still("ring-512", 0, 0)?)?;
+    let left = |k: u8| case.statements.contains(&Statement::new(k, Body::Leave));
+    let member = (0..16).find(|&k| case.initial.has_member(k) && !left(k))?;
+    Some((case, member))
 }
 
 /// Turns of a newcomer that enters past skipped views. It enters once, so that every turn has a controller of its own; entering signs nothing, so that
 /// one pool serves all.
 fn entered(name: &str, case: &Case) {
-    let Seat { mine: prepared, mut pool, .. } = seated(NEWCOMER, case);
+    let Seat { mine: prepared, mut pool, .. } = seated(NEWCOMER, case, &[]);
     let mut round = || {
         let mut mine = prepared.clone();
         let mut theirs = reference::Controller::<Document>::new(NEWCOMER);
-        theirs.setup(case.initial.joined(), &case.senders);
+        theirs.setup(case.initial.joined(), &case.senders, &[]);
         case.statements.iter().for_each(|statement| drop(theirs.add(statement)));
         // Both read their records before they are timed, as they do in the other rows, where they took a turn just before.
         black_box((mine.evidence(&pool), Evidence::of(case.initial, &case.senders, theirs.record().statements())));
-        let (answer, first) = timed(|| mine.turn(&mut pool));
-        let (other, second) = timed(|| theirs.turn());
+        let (answer, first) = timed(|| mine.turn(&mut pool, MINUTE));
+        let (other, second) = timed(|| theirs.turn(MINUTE));
         let both = matches!((answer, &other), (pekdrav::Answer::Entered(_), Answer::Entered(_)));
         assert!(both, "{name}: {answer:?} and {other:?}");
         (first, second)
@@ -239,4 +273,8 @@ pub fn print() {
     entered("past 7 skipped views, 16 sealed histories", &gaps(512, 1));
     entered("64 notices, past 14 skipped views", &skipped(512, 64));
     entered("64 notices, past 7 skipped views, 16 sealed histories", &gaps(512, 64));
+    println!();
+    head("Turns with nothing to do, eight windows", "turn");
+    let (case, member) = lifetime().expect("some initial member stays");
+    [0, 32, 256].into_iter().for_each(|count| waited_for_window(&case.first(count), member));
 }

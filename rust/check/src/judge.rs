@@ -1,12 +1,12 @@
 //! Whether a run is within the premises, whether demand 3 holds on it, and how deep it went.
 
 use reference::controller::Ring;
-use reference::{Binding, Report, View};
+use reference::{Binding, Report, View, Window};
 
 use crate::definition::{Definition, Store};
 use crate::run::{Deed, Event, Run};
 
-/// A way in which a run fails demand 3.
+/// A way in which a run fails demand 3, or does not keep the windows.
 #[derive(Clone, Copy, PartialEq, Eq, Debug)]
 pub enum Breach {
     /// Two deliveries of one notice differ.
@@ -21,6 +21,8 @@ pub enum Breach {
     Incomparable(View, View),
     /// The controller entered the view without a certificate for what a quorum of a smaller top stored.
     NotKept { controller: u8, view: View, store: Store },
+    /// The controller signed its leave in a minute that no window has. Demand 3 does not speak of this.
+    OutsideWindow { controller: u8, minute: u16 },
 }
 
 impl Breach {
@@ -32,6 +34,7 @@ impl Breach {
             Breach::NoSuchNotice { .. } => "no such notice",
             Breach::Incomparable(..) => "incomparable",
             Breach::NotKept { .. } => "not kept",
+            Breach::OutsideWindow { .. } => "outside window",
         }
     }
 }
@@ -52,6 +55,8 @@ pub struct Depth {
     pub short_roads: usize,
     /// The times that one entered past a skipped view, be there a quorum or not, whose counted reports would have bound it otherwise.
     pub bound_otherwise: usize,
+    /// The leaves that rule-followers signed in a ring with windows.
+    pub appointed: usize,
 }
 
 #[derive(Clone, Debug)]
@@ -66,7 +71,7 @@ pub struct Verdict {
 }
 
 impl Verdict {
-    /// Whether demand 3 and what its argument rests on hold, if the run is within the premises.
+    /// Whether demand 3, what its argument rests on and the windows hold, if the run is within the premises.
     pub fn holds(&self) -> bool {
         !self.within_premises || (self.breaches.is_empty() && !self.contradiction)
     }
@@ -86,6 +91,7 @@ pub fn judge(run: &Run) -> Verdict {
     }
     breaches.extend(incomparable(run, ring));
     breaches.extend(not_kept(run, ring, &shown));
+    breaches.extend(leaves(run).filter(|&(_, minute)| !is_open(ring, minute)).map(outside_window));
     Verdict { within_premises: tops.iter().all(bears), breaches, contradiction: shown.contradicts(), depth: depth(run, ring, &shown) }
 }
 
@@ -183,6 +189,28 @@ fn not_kept(run: &Run, ring: &Ring, shown: &Definition) -> Vec<Breach> {
     breaches
 }
 
+/// The leaves that rule-followers signed, with who did and when.
+fn leaves(run: &Run) -> impl Iterator<Item = (u8, u16)> + '_ {
+    let followed = run.events.iter().filter(|event| run.is_follower(event.controller));
+    followed.filter_map(|event| match event.deed {
+        Deed::AskedToLeave { minute } => Some((event.controller, minute)),
+        _ => None,
+    })
+}
+
+/// Whether the minute lies between the first of some window and its end, counted from the start of the week.
+fn is_open(ring: &Ring, minute: u16) -> bool {
+    let counted = |window: &Window| {
+        let day = 24 * 60 * u32::from(window.weekday);
+        day + u32::from(window.first) <= u32::from(minute) && u32::from(minute) < day + u32::from(window.end)
+    };
+    ring.windows.is_empty() || ring.windows.iter().any(counted)
+}
+
+fn outside_window((controller, minute): (u8, u16)) -> Breach {
+    Breach::OutsideWindow { controller, minute }
+}
+
 /// Whether the counted reports on the skipped views would make another binding for some notice than those on the needed ones.
 fn binds_otherwise(held: &Definition, skipped: &[View], needed: &[View], notices: usize) -> bool {
     let reports = |views: &[View]| views.iter().flat_map(|view| held.counted(*view)).collect::<Vec<_>>();
@@ -231,5 +259,6 @@ fn depth(run: &Run, ring: &Ring, shown: &Definition) -> Depth {
         notices: delivered_notices(run).len(),
         short_roads,
         bound_otherwise,
+        appointed: if ring.windows.is_empty() { 0 } else { leaves(run).count() },
     }
 }

@@ -4,12 +4,22 @@ use reference::bench::{run_watched, Line};
 use reference::controller::Ring;
 use reference::{Bench, Body, Outcome, Row, Rules, Set, Statement, View};
 
-/// What a turn of a controller did that demand 3 speaks of.
+/// What a turn of a controller did that is judged.
 #[derive(Clone, Copy, PartialEq, Eq, Debug)]
 pub enum Deed {
     Entered(View),
-    Delivered { notice: u8, payload: u64 },
-    Prepared { notice: u8, payload: u64 },
+    Delivered {
+        notice: u8,
+        payload: u64,
+    },
+    Prepared {
+        notice: u8,
+        payload: u64,
+    },
+    /// It signed its leave.
+    AskedToLeave {
+        minute: u16,
+    },
 }
 
 #[derive(Clone, Copy, PartialEq, Eq, Debug)]
@@ -21,7 +31,7 @@ pub struct Event {
 }
 
 /// One more than the greatest number of a refusal.
-pub const REFUSALS: usize = 10;
+pub const REFUSALS: usize = 12;
 
 /// A run after its whole list of events.
 #[derive(Clone, Debug)]
@@ -72,7 +82,7 @@ impl Run {
 }
 
 fn event<R: Rules>(bench: &Bench<R>, line: &[u8], row: &Row) -> Option<Event> {
-    let Some(Line::Turn(controller)) = Line::read(line, bench.groups()) else {
+    let Some(Line::Turn { k: controller, minute }) = Line::read(line, bench.groups()) else {
         return None;
     };
     let deed = match row.outcome {
@@ -80,6 +90,7 @@ fn event<R: Rules>(bench: &Bench<R>, line: &[u8], row: &Row) -> Option<Event> {
         Outcome::Delivered { notice, payload } => Deed::Delivered { notice, payload },
         Outcome::Signed(number) => match bench.pool().statements().get(number as usize)?.body {
             Body::Prepare { notice, payload } => Deed::Prepared { notice, payload },
+            Body::Leave => Deed::AskedToLeave { minute },
             _ => return None,
         },
         _ => return None,

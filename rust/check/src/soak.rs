@@ -30,6 +30,8 @@ pub struct Totals {
     pub short_roads: usize,
     /// Runs within the premises in which somebody entered past a skipped view whose reports would have bound it otherwise.
     pub bound_otherwise: usize,
+    /// Runs within the premises in which somebody left in a window.
+    pub appointed: usize,
     /// The greatest of each number over the runs within the premises.
     pub most: Depth,
     /// The runs that met each refusal, by its number.
@@ -55,6 +57,7 @@ impl Totals {
         self.two_notices += usize::from(depth.notices > 1);
         self.short_roads += usize::from(depth.short_roads > 0);
         self.bound_otherwise += usize::from(depth.bound_otherwise > 0);
+        self.appointed += usize::from(depth.appointed > 0);
         self.most = Depth {
             statements: self.most.statements.max(depth.statements),
             tops: self.most.tops.max(depth.tops),
@@ -64,6 +67,7 @@ impl Totals {
             notices: self.most.notices.max(depth.notices),
             short_roads: self.most.short_roads.max(depth.short_roads),
             bound_otherwise: self.most.bound_otherwise.max(depth.bound_otherwise),
+            appointed: self.most.appointed.max(depth.appointed),
         };
         if !verdict.holds() {
             self.failed.push(seed);
@@ -82,10 +86,11 @@ impl std::fmt::Display for Totals {
         write!(f, "{} broken outside; ", self.broken_outside)?;
         write!(f, "4 tops or more {}, 4 entered or more {}, ", self.four_tops, self.four_entered)?;
         write!(f, "delivering {}, after a change {}, two notices {}, ", self.delivering, self.late, self.two_notices)?;
-        write!(f, "past a skipped view {}, whose reports bind otherwise {}; ", self.short_roads, self.bound_otherwise)?;
+        write!(f, "past a skipped view {}, whose reports bind otherwise {}, ", self.short_roads, self.bound_otherwise)?;
+        write!(f, "leaving in a window {}; ", self.appointed)?;
         write!(f, "most: statements {statements}, tops {tops}, entered {entered}, late deliveries {late_deliveries}, ")?;
         write!(f, "notices delivered {notices}; ")?;
-        write!(f, "runs with refusals 1 to 9: {:?}", &self.refused[1..])
+        write!(f, "runs with refusals 1 to 11: {:?}", &self.refused[1..])
     }
 }
 

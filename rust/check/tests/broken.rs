@@ -27,6 +27,7 @@ broken!(AcksAnything drops BINDING_KEPT);
 broken!(CertificateLost drops CERTIFICATE_REPORTED);
 broken!(DeliversAgain drops DELIVERED_ONCE);
 broken!(NoticesMixed drops NOTICES_APART);
+broken!(LeavesAnyTime drops LEAVE_IN_WINDOW);
 
 /// Whether an attack within the premises fails in the given way.
 fn fails<R: Rules>(kind: &str, lines: usize) -> bool {
@@ -118,6 +119,11 @@ fn prepares_of_another_notice_break_integrity() {
 #[test]
 fn delivering_again_is_noticed() {
     assert!(fails::<DeliversAgain>("delivered twice", 800));
+}
+
+#[test]
+fn a_leave_outside_its_window_is_noticed() {
+    assert!(fails_in::<LeavesAnyTime>("leavers", "outside window", 300));
 }
 
 #[test]

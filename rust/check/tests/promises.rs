@@ -47,6 +47,16 @@ fn runs_past_skipped_views_keep_the_promises_and_take_the_short_road() {
 }
 
 #[test]
+fn rings_whose_members_leave_in_windows_keep_the_promises() {
+    let totals = soak("leavers", 1, 500, 400).unwrap();
+    println!("leavers: {totals}");
+    assert!(totals.failed.is_empty(), "{:?}", totals.failed);
+    assert_eq!(totals.within_premises, totals.runs);
+    assert!(totals.appointed * 4 > totals.runs * 3 && totals.four_entered * 4 > totals.runs && totals.late > 50);
+    assert!(totals.refused[11] * 4 > totals.runs && totals.most.appointed >= 5);
+}
+
+#[test]
 fn rings_of_each_number_of_notices_keep_the_promises() {
     for notices in [1, 2, 5, 64] {
         for style in ["honest", "liars", "attack", "skips"] {
@@ -72,6 +82,7 @@ fn damaged_schedules_keep_the_promises() {
     println!("damaged: {totals}");
     assert!(totals.failed.is_empty(), "{:?}", totals.failed);
     assert!(totals.refused[8] * 10 > totals.runs * 9 && totals.refused[2] > 0);
+    assert!(totals.refused[10] > 30 && totals.refused[11] > 100);
 }
 
 /// What the engine's tables show is what the definitions say.
@@ -154,9 +165,9 @@ fn who_starts_anew_on_a_record_enters_as_defined() {
             for length in [record.len() * 3 / 4, record.len() * 7 / 8, record.len()] {
                 let Some((top, due, bindings)) = rule_2(ring, k, &record[..length]) else { continue };
                 let mut anew = Controller::<Document>::new(k);
-                anew.setup(ring.initial.members(), &ring.senders);
+                anew.setup(ring.initial.members(), &ring.senders, &ring.windows);
                 record[..length].iter().for_each(|statement| assert_eq!(anew.add(statement), Answer::Taken));
-                assert_eq!(anew.turn() == Answer::Entered(top), due, "{style} {seed}, controller {k}, {length} statements");
+                assert_eq!(anew.turn(0) == Answer::Entered(top), due, "{style} {seed}, controller {k}, {length} statements");
                 let bound: Vec<Binding> = anew.notices().iter().map(|notice| notice.binding).collect();
                 assert!(!due || bound == bindings, "{style} {seed}, controller {k}, {length} statements");
                 *(if due { &mut entered } else { &mut waited }) += 1;
@@ -232,13 +243,43 @@ fn each_limit_is_met() {
             ("notices-64", ",signed,511", true),
             ("skipped-14", ",15,entered,ffff0000", true),
             ("skipped-14", ",0,entered,ffff0000", true),
+            ("windows-8", ",7,signed,7", true),
+            ("windows-8", ",refused,10", false),
+            ("windows-8", ",15,signed,8", true),
+            ("windows-9", "1,0,refused,10", true),
+            ("windows-9", "4,0,refused,1\n", true),
+            ("windows-many", ",1,signed,0", true),
+            ("bad-windows", ",5,refused,10", true),
+            ("bad-windows", ",5,refused,1\n", true),
+            ("bad-windows", ",16,refused,1\n", true),
+            ("bad-windows", ",16,refused,10", false),
+            ("bad-minutes", "1,0,refused,8", true),
+            ("bad-minutes", ",3,refused,11", true),
+            ("bad-minutes", ",3,refused,7", true),
+            ("bad-minutes", ",4,refused,6", true),
+            ("leave-in-window", ",delivered,40", true),
+            ("leave-in-window", ",2,entered,00070003", true),
+            ("overlapping-windows", ",4,signed", true),
+            ("overlapping-windows", ",10,signed", true),
+            ("overlapping-windows", ",0,quiet,0", true),
+            ("overlapping-windows", ",14,quiet,0", true),
+            ("overlapping-windows", ",15,quiet,0", true),
         ] {
             assert_eq!(rows(style, seed).contains(needle), expected, "{style} {seed} {needle}");
         }
         assert_eq!(rows("bytes-65537", seed), "line,who,answer,value\n0,16,refused,8\n");
-        assert_eq!(rows("empty-lines", seed).lines().count(), 65_518 + (seed as usize % 2));
+        assert_eq!(rows("empty-lines", seed).lines().count(), 65_516 + (seed as usize % 2));
         assert_eq!(schedule("bytes-65536", seed, 0).unwrap().len(), 65_536);
         assert_eq!(schedule("bytes-65537", seed, 0).unwrap().len(), 65_537);
+    }
+}
+
+#[test]
+fn a_line_of_more_windows_than_any_other_is_refused_or_does_not_read() {
+    let first = |seed: u64| rows("windows-many", seed).lines().nth(1).map(str::to_string);
+    assert!((0..16).all(|seed| schedule("windows-many", seed, 0).unwrap().split(|&byte| byte == b'\n').next().unwrap().len() > 65_000));
+    for expected in ["1,0,refused,10", "1,16,refused,8"] {
+        assert!((0..16).any(|seed| first(seed).as_deref() == Some(expected)), "{expected}");
     }
 }
 

@@ -5,7 +5,7 @@ use std::collections::BTreeMap;
 
 use pekdrav::{Controller, Pool};
 use reference::bench::Line;
-use reference::Answer;
+use reference::{Answer, Window};
 
 use crate::evidence::as_mine;
 use crate::records::Case;
@@ -30,33 +30,33 @@ pub struct Ring {
 /// A call on a controller.
 #[derive(Clone, Copy, Debug)]
 enum Call<'a> {
-    Setup { number: u8, members: u16, senders: &'a [u8] },
+    Setup { number: u8, members: u16, senders: &'a [u8], windows: &'a [Window] },
     Join,
     Leave,
     Send { notice: u8, payload: u64 },
     Add(&'a [u8]),
-    Turn,
+    Turn { minute: u16 },
 }
 
 impl Seat {
     fn mine(&mut self, call: Call) -> pekdrav::Answer {
         match call {
-            Call::Setup { number, members, senders } => self.mine.setup(number, members, senders),
+            Call::Setup { number, members, senders, windows } => self.mine.setup(number, members, senders, &windows_as_mine(windows)),
             Call::Join => self.mine.join(),
             Call::Leave => self.mine.leave(),
             Call::Send { notice, payload } => self.mine.send(notice, payload),
             Call::Add(line) => self.mine.add(&mut self.pool, line),
-            Call::Turn => self.mine.turn(&mut self.pool),
+            Call::Turn { minute } => self.mine.turn(&mut self.pool, minute),
         }
     }
 
     fn theirs(&mut self, call: Call) -> Answer {
         match call {
-            Call::Setup { members, senders, .. } => self.theirs.setup(members, senders),
+            Call::Setup { members, senders, windows, .. } => self.theirs.setup(members, senders, windows),
             Call::Join => self.theirs.join(),
             Call::Leave => self.theirs.leave(),
             Call::Send { notice, payload } => self.theirs.send(notice, payload),
-            Call::Turn => self.theirs.turn(),
+            Call::Turn { minute } => self.theirs.turn(minute),
             Call::Add(line) => self.theirs.add_text(line),
         }
     }
@@ -84,8 +84,10 @@ impl Seat {
             let senders = mine.notices().map(|notice| notice.sender);
             mine.number() == theirs.number() && mine.initial() == as_mine(ring.initial) && senders.eq(ring.senders.iter().copied())
         };
+        let windows = theirs.ring().map_or(&[][..], |ring| &ring.windows);
         mine.is_set_up() == theirs.ring().is_some()
             && theirs.ring().is_none_or(set_up)
+            && mine.windows().eq(windows_as_mine(windows))
             && mine.entered() == entered
             && mine.notices().map(held).eq(theirs.notices().iter().copied())
             && (mine.join_requested(), mine.leave_requested()) == (requests.join, requests.leave)
@@ -98,6 +100,11 @@ impl Seat {
         let mut both = numbers.zip(self.theirs.record().statements());
         both.all(|(&number, statement)| self.pool.text(number) == Some(statement.write()))
     }
+}
+
+/// The windows as the proved controller has them.
+fn windows_as_mine(windows: &[Window]) -> Vec<pekdrav::Window> {
+    windows.iter().map(|window| pekdrav::Window::new(window.weekday, window.first, window.end)).collect()
 }
 
 /// What the proved controller has of a notice, as the reference has it.
@@ -161,9 +168,10 @@ impl Ring {
     /// Runs a line of a schedule; one that does not read is added as if it were a statement.
     fn line(&mut self, place: usize, line: &[u8]) -> Result<(), String> {
         match Line::read(line, self.seats[0].theirs.groups()) {
-            Some(Line::Setup { members, senders, .. }) => {
-                (0..16).try_for_each(|number| self.call(number, Call::Setup { number, members, senders: &senders }).map(drop))
-            }
+            Some(Line::Setup { members, senders, windows, .. }) => (0..16).try_for_each(|number| {
+                let setup = Call::Setup { number, members, senders: &senders, windows: &windows };
+                self.call(number, setup).map(drop)
+            }),
             Some(Line::Join(k)) => self.call(k, Call::Join).map(drop),
             Some(Line::Leave(k)) => self.call(k, Call::Leave).map(drop),
             Some(Line::Send { k, notice, payload }) => self.call(k, Call::Send { notice, payload }).map(drop),
@@ -175,8 +183,8 @@ impl Ring {
                 let sent = self.sent.clone();
                 sent.iter().try_for_each(|text| self.call(k, Call::Add(text)).map(drop))
             }
-            Some(Line::Turn(k)) => {
-                if let Answer::Signed(statement) = self.call(k, Call::Turn)? {
+            Some(Line::Turn { k, minute }) => {
+                if let Answer::Signed(statement) = self.call(k, Call::Turn { minute })? {
                     self.sign(statement.write());
                 }
                 Ok(())
@@ -194,11 +202,25 @@ impl Ring {
     pub fn turn_on(&mut self, k: u8, case: &Case) -> Result<(), String> {
         self.restart();
         let senders = &case.senders;
-        self.call(k, Call::Setup { number: k, members: case.initial.joined(), senders })?;
+        self.call(k, Call::Setup { number: k, members: case.initial.joined(), senders, windows: &[] })?;
         for statement in &case.statements {
             self.call(k, Call::Add(&statement.write()))?;
         }
-        self.call(k, Call::Turn).map(drop)
+        self.call(k, Call::Turn { minute: 0 }).map(drop)
+    }
+
+    /// Has a controller that is alone in its ring ask to leave, and take a turn in each minute; once its leave is signed it starts anew.
+    pub fn leave_in(&mut self, windows: &[Window], minutes: impl Iterator<Item = u16>) -> Result<(), String> {
+        let mut leaving = false;
+        for minute in minutes {
+            if !leaving {
+                self.restart();
+                self.call(0, Call::Setup { number: 0, members: 1, senders: &[0], windows })?;
+                self.call(0, Call::Leave)?;
+            }
+            leaving = !matches!(self.call(0, Call::Turn { minute })?, Answer::Signed(_));
+        }
+        Ok(())
     }
 
     /// Runs a schedule from the start, and compares the records at its end.

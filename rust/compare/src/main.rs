@@ -1,5 +1,5 @@
 //! `ring-compare FILE` compares the rows of one schedule; `ring-compare --soak SEED COUNT LINES` those of that many seeds of each
-//! random style and of as many mutated schedules, and of statement lines.
+//! random style, of as many mutated schedules and of as many of setup and turn lines, and of statement lines.
 
 use std::process::ExitCode;
 
@@ -20,7 +20,8 @@ fn soak(numbers: &[String]) -> Result<(), String> {
     let [seed, count, lines] = numbers[..] else { return Err(usage()) };
     for first in (0..count).step_by(100) {
         let seeds = (seed + first)..(seed + (first + 100).min(count));
-        let made = |seed| schedules::random(seed, lines as usize).chain([schedules::mutated(seed, lines as usize)]);
+        let others = |seed| [schedules::mutated(seed, lines as usize), schedules::setups_and_turns(seed)];
+        let made = |seed| schedules::random(seed, lines as usize).chain(others(seed));
         let tally = compare_all(PROVED, run, seeds.clone().flat_map(made)).map_err(|found| format!("seeds {seeds:?}\n{found}"))?;
         println!("seeds {seeds:?}: {tally}");
         println!("{}", statements::compare(seeds.start, 100_000)?);

@@ -103,9 +103,9 @@ mod tests {
 
     #[test]
     fn a_difference_is_found_and_shown_by_few_lines() {
-        let schedule = b"setup,0001,1,0,0000\njoin,1\nturn,1\nsend,0,0,7\nturn,0\nturn,0\nall,1\nturn,0\nturn,0\nturn,0\n";
+        let schedule = b"setup,0001,1,0,0000,0\njoin,1\nturn,1,0\nsend,0,0,7\nturn,0,0\nturn,0,0\nall,1\nturn,0,0\nturn,0,0\nturn,0,0\n";
         let found = compare(wrong, reference::bench::run, schedule, &mut Tally::default()).unwrap_err();
-        let least = "setup,0001,1,0,0000\nsend,0,0,7\nturn,0\nturn,0\nturn,0\nturn,0\n";
+        let least = "setup,0001,1,0,0000,0\nsend,0,0,7\nturn,0,0\nturn,0,0\nturn,0,0\nturn,0,0\n";
         assert_eq!(found, format!("proved: 6,0,quiet,0\nreference: 6,0,delivered,7\nschedule:\n{least}"));
     }
 }

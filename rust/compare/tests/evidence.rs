@@ -29,7 +29,7 @@ fn changed_records() {
     let mut rng = Rng::new(17);
     let made = (1_000..1_120).flat_map(|seed| schedules::random(seed, 100 + 80 * (seed as usize % 8))).chain(schedules::limits(2));
     let pools: Vec<Case> = made.filter_map(|schedule| pool_of(&schedule)).collect();
-    let tally = agree("changed records", pools.iter().flat_map(|case| (0..6).map(|_| changed(&mut rng, case)).collect::<Vec<_>>()));
+    let tally = agree("changed records", pools.iter().flat_map(|case| (0..10).map(|_| changed(&mut rng, case)).collect::<Vec<_>>()));
     assert!(tally.conflicts > 100 && tally.many > 5 && tally.sealed > 500 && tally.certified > 500, "too few of a kind");
 }
 

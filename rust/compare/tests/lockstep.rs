@@ -4,7 +4,7 @@ use compare::lockstep::{compare_all, Ring, Tally};
 use compare::records::{changed, gaps, prepares, reports, short_of_quorum, skipped, votes, Case, NEWCOMER, WAITING};
 use compare::schedules;
 use generate::Rng;
-use pekdrav::{Answer, Binding, Certificate, Controller, Count, Kind, Notice, Pool, Question, Refusal, View};
+use pekdrav::{Answer, Binding, Certificate, Controller, Count, Kind, Notice, Pool, Question, Refusal, View, Window};
 
 fn agree(name: &str, schedules: impl Iterator<Item = Vec<u8>>) -> Tally {
     let tally = compare_all(schedules).unwrap_or_else(|difference| panic!("{name}: they differ, {difference}"));
@@ -18,7 +18,7 @@ fn runs_of_all_styles() {
     for answer in ["taken", "signed", "entered", "delivered", "left", "quiet"] {
         assert!(tally.get(answer).is_some_and(|&count| count > 100), "too few: {answer}");
     }
-    for refusal in [1, 2, 3, 5, 7, 8, 9] {
+    for refusal in [1, 2, 3, 5, 7, 8, 9, 10, 11] {
         assert!(tally.get(&format!("refused {refusal}")).is_some_and(|&count| count > 10), "too few: refused {refusal}");
     }
 }
@@ -26,7 +26,7 @@ fn runs_of_all_styles() {
 #[test]
 fn limits() {
     let tally = agree("lock step at the limits", schedules::limits(3));
-    for refusal in [4, 6, 7, 9] {
+    for refusal in [4, 6, 7, 9, 10, 11] {
         assert!(tally.contains_key(&format!("refused {refusal}")), "none: refused {refusal}");
     }
 }
@@ -83,31 +83,85 @@ fn counts_of_everything(controller: &Controller, pool: &Pool) {
     assert_eq!(controller.count_reports(pool, at), Some(missed));
 }
 
+/// A window from any minute of the day on.
+fn any_window(rng: &mut Rng) -> reference::Window {
+    let first = rng.below(1_440);
+    let end = if rng.chance(30) { 1_440 } else { rng.between(first + 1, 1_440.min(first + 90)) };
+    reference::Window::new(rng.below(7) as u16, first as u16, end as u16)
+}
+
+/// A leave in minutes at the edges of its windows, and in all of a week.
+#[test]
+fn leaves_at_the_edges_of_windows() {
+    let mut rng = Rng::new(31);
+    let mut ring = Ring::new();
+    let mut leave_in = |windows: &[reference::Window], minutes: &[u16]| {
+        ring.leave_in(windows, minutes.iter().copied()).unwrap_or_else(|difference| panic!("{windows:?}: they differ, {difference}"))
+    };
+    for _ in 0..200 {
+        let windows: Vec<_> = (0..rng.between(1, 8)).map(|_| any_window(&mut rng)).collect();
+        let start = |window: &reference::Window| 1_440 * window.weekday;
+        let edges = windows.iter().flat_map(|window| [window.first, window.end].map(|minute| start(window) + minute));
+        let mut minutes: Vec<u16> = edges.flat_map(|edge| [edge.saturating_sub(1), edge, edge + 1]).collect();
+        // The same minutes of the day, on other days.
+        minutes.extend(minutes.clone().iter().map(|minute| (minute + 1_440 * (1 + minute % 6)) % 10_080));
+        minutes.extend([0, 1_439, 1_440, 10_079, 10_080, 65_535]);
+        leave_in(&windows, &minutes);
+    }
+    let week: Vec<u16> = (0..10_090).collect();
+    let two = [reference::Window::new(2, 480, 540), reference::Window::new(6, 1_430, 1_440)];
+    leave_in(&two, &week);
+    println!("leaves at the edges of windows: {:?}", ring.tally);
+    let least = [("signed", 1_000), ("quiet", 3_000), ("refused 11", 400)];
+    assert!(least.iter().all(|&(answer, count)| ring.tally.get(answer).is_some_and(|&met| met > count)), "too few of a kind");
+}
+
+/// Windows that no setup takes, and how many of them there may be.
+#[test]
+fn windows_of_a_setup() {
+    let mut controller = Controller::new();
+    let good = Window::new(6, 480, 1_440);
+    for count in [9, 10, 255, 256, 257, 264, 65_536] {
+        assert_eq!(controller.setup(0, 1, &[0], &vec![good; count]), Answer::Refused(Refusal::BadWindow), "{count}");
+    }
+    for bad in [Window::new(7, 0, 1), Window::new(0, 5, 5), Window::new(0, 0, 1_441), Window::new(0, 0, 65_535), Window::new(65_535, 0, 1)]
+    {
+        assert_eq!(controller.setup(0, 1, &[0], &[good, bad]), Answer::Refused(Refusal::BadWindow), "{bad:?}");
+        assert_eq!(controller.setup(0, 0, &[0], &[good, bad]), Answer::Refused(Refusal::BadSetup), "{bad:?}");
+    }
+    assert!(!controller.is_set_up() && controller.windows().len() == 0);
+    let windows: Vec<Window> = (0..8).map(|place| Window::new(place % 7, place, 1_440 - place)).collect();
+    assert_eq!(controller.setup(0, 1, &[0], &windows), Answer::Taken);
+    assert!(controller.windows().eq(windows.iter().copied()));
+    assert_eq!(controller.setup(0, 1, &[0], &[good; 9]), Answer::Refused(Refusal::BadSetup));
+    assert!(controller.windows().eq(windows));
+}
+
 /// Every memory means a controller: a call on any answers, and a refusal leaves the pool as it was.
 #[test]
 fn one_of_everything() {
     let (mut controller, mut pool) = (Controller::new(), Pool::new());
-    assert_eq!(controller.turn(&mut pool), Answer::Refused(Refusal::OutOfPlace));
+    assert_eq!(controller.turn(&mut pool, 10_079), Answer::Refused(Refusal::OutOfPlace));
     assert_eq!(controller.add(&mut pool, b"1,0,00000000,00000000,0,0,0,0,0,0"), Answer::Refused(Refusal::OutOfPlace));
-    assert_eq!(controller.setup(16, 1, &[0]), Answer::Refused(Refusal::BadSetup));
-    assert_eq!(controller.setup(0, 1, &[]), Answer::Refused(Refusal::BadSetup));
+    assert_eq!(controller.setup(16, 1, &[0], &[]), Answer::Refused(Refusal::BadSetup));
+    assert_eq!(controller.setup(0, 1, &[], &[]), Answer::Refused(Refusal::BadSetup));
     for count in [65, 255, 256, 1_000] {
-        assert_eq!(controller.setup(0, 1, &vec![0; count]), Answer::Refused(Refusal::BadSetup));
+        assert_eq!(controller.setup(0, 1, &vec![0; count], &[]), Answer::Refused(Refusal::BadSetup));
     }
-    assert_eq!(controller.setup(0, 1, &[1, 0]), Answer::Taken);
+    assert_eq!(controller.setup(0, 1, &[1, 0], &[Window::new(0, 0, 1)]), Answer::Taken);
     assert_eq!(controller.add(&mut pool, b"1,0,00000000,00000000,0,0,0,0,0"), Answer::Refused(Refusal::BadStatement));
     assert_eq!(controller.add(&mut pool, b"6,1,00000000,00000000,2,0,7,0,0,0"), Answer::Refused(Refusal::UnknownNotice));
     assert_eq!(controller.send(2, 7), Answer::Refused(Refusal::UnknownNotice));
     assert_eq!(controller.send(0, 7), Answer::Refused(Refusal::BadRequest));
     assert_eq!(controller.send(1, 7), Answer::Taken);
     assert_eq!(controller.notice(1).and_then(|notice| notice.send_requested), Some(7));
-    assert_eq!(controller.turn(&mut pool), Answer::Signed(0));
+    assert_eq!(controller.turn(&mut pool, 10_079), Answer::Signed(0));
     assert_eq!(pool.text(0), Some(b"6,0,00000000,00000000,1,0,7,0,0,0".to_vec()));
     assert_eq!(pool.text(1), None);
-    assert_eq!(controller.turn(&mut pool), Answer::Signed(1));
-    assert_eq!(controller.turn(&mut pool), Answer::Signed(2));
-    assert_eq!(controller.turn(&mut pool), Answer::Delivered { notice: 1, payload: 7 });
-    assert_eq!(controller.turn(&mut pool), Answer::Quiet);
+    assert_eq!(controller.turn(&mut pool, 10_079), Answer::Signed(1));
+    assert_eq!(controller.turn(&mut pool, 10_079), Answer::Signed(2));
+    assert_eq!(controller.turn(&mut pool, 10_079), Answer::Delivered { notice: 1, payload: 7 });
+    assert_eq!(controller.turn(&mut pool, 10_079), Answer::Quiet);
     assert_eq!(controller.record().numbers(), [0, 1, 2]);
     let shown = controller.evidence(&pool).shown.expect("no conflict");
     assert_eq!(shown.greatest, [View::new(1, 0)]);
@@ -121,4 +175,8 @@ fn one_of_everything() {
     assert_eq!(controller.notice(1), Some(notice));
     assert_eq!(controller.notice(0), Some(Notice { sender: 1, binding: Binding::Unbound, delivered: false, send_requested: None }));
     assert_eq!(controller.notice(2), None);
+    assert_eq!(controller.leave(), Answer::Taken);
+    assert_eq!(controller.turn(&mut pool, 10_080), Answer::Refused(Refusal::BadMinute));
+    assert_eq!(controller.turn(&mut pool, 1), Answer::Quiet);
+    assert_eq!(controller.turn(&mut pool, 0), Answer::Signed(3));
 }

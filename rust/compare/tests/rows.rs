@@ -2,6 +2,7 @@
 
 use compare::rows::{compare_all, Tally, PROVED};
 use compare::schedules;
+use generate::alike;
 use pekdrav::schedule::{rows_into, ROWS_MAX};
 use reference::bench::run;
 
@@ -26,7 +27,8 @@ fn every_string_of_up_to_two_bytes() {
 
 #[test]
 fn limits() {
-    agree("limits", (0..3).flat_map(schedules::limits));
+    let tally = agree("limits", (0..3).flat_map(schedules::limits));
+    each_is_met(&tally, &["refused 1", "refused 4", "refused 6", "refused 7", "refused 8", "refused 10", "refused 11"], 6);
 }
 
 #[test]
@@ -35,12 +37,40 @@ fn random_styles() {
     let answers = ["taken", "signed", "entered", "delivered", "left", "quiet"];
     each_is_met(&tally, &answers, 1_000);
     each_is_met(&tally, &["refused 1", "refused 2", "refused 3", "refused 5", "refused 7", "refused 8", "refused 9"], 20);
+    each_is_met(&tally, &["refused 10", "refused 11"], 20);
 }
 
 #[test]
 fn mutated_schedules() {
     let tally = agree("mutated schedules", (0..2_000).map(|seed| schedules::mutated(seed, 60 + 30 * (seed as usize % 8))));
     each_is_met(&tally, &["taken", "signed", "entered", "delivered", "refused 3", "refused 5", "refused 8"], 200);
+}
+
+#[test]
+fn setup_and_turn_lines() {
+    let tally = agree("setup and turn lines", (0..20_000).map(schedules::setups_and_turns));
+    let answers = ["taken", "signed", "delivered", "quiet", "refused 1", "refused 8", "refused 10", "refused 11"];
+    each_is_met(&tally, &answers, 2_000);
+}
+
+/// Two runs with no leave request that are alike but for their minutes, all in range, are equal in every answer.
+#[test]
+fn without_a_leave_the_minutes_change_no_row() {
+    let mut pairs = 0;
+    let made = (0..60).flat_map(|seed| schedules::random(seed, 300)).chain((0..2).flat_map(schedules::limits));
+    for (schedule, seed) in made.zip(0..) {
+        let [one, other] = alike(&schedule, seed);
+        pairs += usize::from(one != other);
+        let rows = PROVED(&one);
+        assert!(
+            rows == PROVED(&other),
+            "the rows of these differ:\n{}\n{}",
+            String::from_utf8_lossy(&one),
+            String::from_utf8_lossy(&other)
+        );
+        assert!(rows == run(&one), "they differ:\n{}", String::from_utf8_lossy(&one));
+    }
+    assert!(pairs > 400, "{pairs} pairs are too few");
 }
 
 /// Memory of exactly the length of the rows, of one byte less, of some more, and none.

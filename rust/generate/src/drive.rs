@@ -16,6 +16,8 @@ pub struct Plan {
     pub lies: usize,
     /// Percent of the steps in which everybody gets everything and takes turns.
     pub rounds: usize,
+    /// Percent of the requests that are joins while the ring is small.
+    pub joins: usize,
     /// Whether joins and leaves keep the faulty few enough in each view that may come.
     pub careful: bool,
     /// The part of the controllers that a split keeps from the others, empty for none.
@@ -89,7 +91,7 @@ impl<R: Rules> Drive<'_, R> {
         let outside = !self.active & !self.plan.faulty;
         let inside = self.active & !self.leaving & !self.plan.faulty;
         let many = inside.count_ones() > 6;
-        let joins = self.maker.rng.chance(if many { 35 } else { 75 });
+        let joins = self.maker.rng.chance(if many { self.plan.joins.min(35) } else { self.plan.joins });
         if joins {
             let Some(k) = self.maker.rng.member(outside) else { return };
             if self.maker.join(k) == Outcome::Taken(0) {
@@ -134,7 +136,8 @@ impl<R: Rules> Drive<'_, R> {
         match self.maker.rng.below(8) {
             0 => {
                 let count = self.maker.rng.below(NOTICES + 2);
-                self.maker.setup(self.plan.members, &vec![k; count], self.plan.faulty)
+                let windows = self.maker.clock.late_windows();
+                self.maker.setup_with(self.plan.members, &vec![k; count], self.plan.faulty, &windows)
             }
             1 => {
                 let number = self.maker.rng.below(pool + 2);

@@ -1,23 +1,28 @@
 //! Seeded schedules for the bench.
 
 mod attack;
+mod clock;
 mod drive;
 mod lies;
 mod limits;
 mod maker;
+mod minutes;
 mod notices;
 mod rng;
 mod skips;
 mod styles;
+mod windows;
 
 pub use limits::LIMITS;
 pub use maker::Maker;
+pub use minutes::alike;
 pub use rng::Rng;
 
+use clock::Clock;
 use reference::{Document, Rules, NOTICES};
 
 /// The styles that are made at random; the limits are styles too.
-pub const RANDOM: &[&str] = &["honest", "liars", "attack", "skips", "overrun", "damaged"];
+pub const RANDOM: &[&str] = &["honest", "liars", "attack", "skips", "leavers", "overrun", "damaged"];
 
 /// A schedule of the style, or `None` if there is no such style.
 ///
@@ -27,15 +32,25 @@ pub fn schedule(style: &str, seed: u64, lines: usize) -> Option<Vec<u8>> {
     schedule_for::<Document>(style, seed, lines)
 }
 
+/// The same without windows and with minute 0 in all turns, but for `leavers`, which is about windows.
+pub fn still(style: &str, seed: u64, lines: usize) -> Option<Vec<u8>> {
+    made::<Document>(style, seed, lines, Clock::still())
+}
+
 /// A schedule made while an engine that follows `R` runs it.
 pub fn schedule_for<R: Rules>(style: &str, seed: u64, lines: usize) -> Option<Vec<u8>> {
+    made::<R>(style, seed, lines, Clock::new(seed))
+}
+
+fn made<R: Rules>(style: &str, seed: u64, lines: usize, clock: Clock) -> Option<Vec<u8>> {
     let (name, notices) = of_notices(style);
-    let maker = Maker::<R>::new(seed, lines, notices);
+    let maker = Maker::<R>::new(seed, lines, notices, clock);
     match name {
         "honest" => Some(styles::honest(maker)),
         "liars" => Some(styles::liars(maker)),
         "attack" => Some(attack::attack(maker)),
         "skips" => Some(skips::skips(maker)),
+        "leavers" => Some(styles::leavers(maker)),
         "overrun" => Some(styles::overrun(maker)),
         "damaged" => Some(styles::damaged(maker)),
         name => limits::limit(name, seed),

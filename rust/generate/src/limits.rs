@@ -3,23 +3,27 @@
 use reference::bench::SCHEDULE_LIMIT;
 use reference::{Body, History, Record, Set, Statement, View};
 
+use crate::clock::Clock;
 use crate::drive::{drive, Plan};
 use crate::maker::Maker;
 use crate::notices;
+use crate::styles::JOINS;
+use crate::windows;
 
 /// The names of the limits.
 pub const LIMITS: &[&str] = &[
     "pool-512", "pool-513", "record-512", "record-513", "ring-512", "candidates-15", "candidates-16", "candidates-17", "candidates-20",
     "incomparable", "two-sealed", "two-certificates", "seven-before-six", "bytes-65536", "bytes-65537", "empty-lines", "no-newline",
     "everyone-leaves", "count-0", "count-64", "count-65", "count-255", "unknown-notice", "groups", "one-sender", "mixed-notices",
-    "certificates-apart", "leave-waits", "notices-64", "skipped-14",
+    "certificates-apart", "leave-waits", "notices-64", "skipped-14", "windows-8", "windows-9", "windows-many", "bad-windows",
+    "bad-minutes", "leave-in-window", "overlapping-windows",
 ];
 
 /// More lines than any schedule has.
 const ENOUGH: usize = SCHEDULE_LIMIT;
 
 pub fn limit(name: &str, seed: u64) -> Option<Vec<u8>> {
-    let mut maker: Maker = Maker::new(seed, ENOUGH, None);
+    let mut maker: Maker = Maker::new(seed, ENOUGH, None, Clock::still());
     match name {
         "pool-512" => filled(&mut maker, Record::LIMIT),
         "pool-513" => filled(&mut maker, Record::LIMIT + 1),
@@ -51,6 +55,13 @@ pub fn limit(name: &str, seed: u64) -> Option<Vec<u8>> {
         "leave-waits" => notices::leave_waits(&mut maker),
         "notices-64" => notices::all(&mut maker),
         "skipped-14" => skipped(&mut maker),
+        "windows-8" => windows::eight(&mut maker),
+        "windows-9" => windows::nine(&mut maker),
+        "windows-many" => windows::many(&mut maker),
+        "bad-windows" => windows::bad(&mut maker),
+        "bad-minutes" => windows::bad_minutes(&mut maker),
+        "leave-in-window" => windows::leave_in_window(&mut maker),
+        "overlapping-windows" => windows::overlapping(&mut maker),
         _ => return None,
     }
     Some(maker.finish())
@@ -109,7 +120,7 @@ fn record(maker: &mut Maker, statements: usize) {
 fn long_life(maker: &mut Maker) {
     let members = maker.rng.subset(!0, 7);
     let senders = vec![maker.rng.member(members).unwrap_or(0)];
-    let plan = Plan { members, senders, faulty: 0, lies: 0, rounds: 70, careful: true, split: 0, payloads: vec![5] };
+    let plan = Plan { members, senders, faulty: 0, lies: 0, rounds: 70, joins: JOINS, careful: true, split: 0, payloads: vec![5] };
     drive(maker, plan);
 }
 
@@ -206,11 +217,11 @@ fn padded(mut maker: Maker, length: usize) -> Vec<u8> {
     schedule
 }
 
-/// 65,517 empty lines, alone or with the 19 bytes of a setup that its missing newline makes unreadable.
+/// 65,515 empty lines, alone or with the 21 bytes of a setup that its missing newline makes unreadable.
 fn empty_lines(seed: u64) -> Vec<u8> {
-    let mut schedule = vec![b'\n'; 65_517];
+    let mut schedule = vec![b'\n'; 65_515];
     if seed % 2 == 1 {
-        schedule.extend_from_slice(b"setup,0001,1,0,0000");
+        schedule.extend_from_slice(b"setup,0001,1,0,0000,0");
     }
     schedule
 }

@@ -1,24 +1,34 @@
 //! Writes a schedule line by line and runs it meanwhile, so that later lines can build on earlier ones.
 
 use reference::bench::SCHEDULE_LIMIT;
-use reference::{Bench, Document, Evidence, Outcome, Refusal, Rules, Set, Statement, View, NOTICES};
+use reference::{Bench, Document, Evidence, Outcome, Refusal, Rules, Set, Statement, View, Window, NOTICES};
 
+use crate::clock::Clock;
 use crate::rng::Rng;
 
 pub struct Maker<R = Document> {
     pub rng: Rng,
     pub bench: Bench<R>,
+    pub clock: Clock,
     schedule: Vec<u8>,
     left: usize,
     /// The number of notices, if it is not to be drawn.
     notices: Option<usize>,
-    /// The length of each controller's record at its last turn, if that did nothing and no request came since.
-    rested: [Option<usize>; 16],
+    /// What each controller had at its last turn, if that did nothing and no request came since.
+    rested: [Option<Rest>; 16],
+}
+
+/// What has to change before a controller with nothing to do has something to do.
+#[derive(Clone, Copy, PartialEq, Eq)]
+struct Rest {
+    record: usize,
+    /// Whether the minute lets it leave, if it asked to.
+    open: bool,
 }
 
 impl<R: Rules> Maker<R> {
-    pub fn new(seed: u64, lines: usize, notices: Option<usize>) -> Maker<R> {
-        Maker { rng: Rng::new(seed), bench: Bench::new(), schedule: Vec::new(), left: lines, notices, rested: [None; 16] }
+    pub fn new(seed: u64, lines: usize, notices: Option<usize>, clock: Clock) -> Maker<R> {
+        Maker { rng: Rng::new(seed), bench: Bench::new(), clock, schedule: Vec::new(), left: lines, notices, rested: [None; 16] }
     }
 
     /// A number of notices for a ring.
@@ -60,10 +70,17 @@ impl<R: Rules> Maker<R> {
         self.bench.step(line).outcome
     }
 
-    /// Sets the ring up with a sender for each notice.
+    /// Sets the ring up with a sender for each notice, and with the clock's windows.
     pub fn setup(&mut self, members: Set, senders: &[u8], faulty: Set) -> Outcome {
+        let windows = self.clock.windows().to_vec();
+        self.setup_with(members, senders, faulty, &windows)
+    }
+
+    /// The same with these windows.
+    pub fn setup_with(&mut self, members: Set, senders: &[u8], faulty: Set, windows: &[Window]) -> Outcome {
         let listed: String = senders.iter().map(|sender| format!("{sender},")).collect();
-        self.line(format!("setup,{members:04x},{},{listed}{faulty:04x}", senders.len()).as_bytes())
+        let setup = format!("setup,{members:04x},{},{listed}{faulty:04x}{}", senders.len(), written(windows));
+        self.line(setup.as_bytes())
     }
 
     pub fn join(&mut self, k: u8) -> Outcome {
@@ -89,8 +106,14 @@ impl<R: Rules> Maker<R> {
         self.line(format!("all,{k}").as_bytes())
     }
 
+    /// A turn in the clock's next minute.
     pub fn turn(&mut self, k: u8) -> Outcome {
-        self.line(format!("turn,{k}").as_bytes())
+        let minute = self.clock.tick();
+        self.turn_in(k, minute)
+    }
+
+    pub fn turn_in(&mut self, k: u8, minute: u16) -> Outcome {
+        self.line(format!("turn,{k},{minute}").as_bytes())
     }
 
     pub fn lie(&mut self, statement: &Statement) -> Outcome {
@@ -102,14 +125,22 @@ impl<R: Rules> Maker<R> {
     /// Turns of `k` until one does nothing, at most `most` of them, and none if nothing came since such a turn.
     pub fn turns(&mut self, k: u8, most: usize) {
         for _ in 0..most {
-            let length = self.bench.controller(k).map(|controller| controller.record().len());
-            if length.is_some() && self.rested[usize::from(k)] == length {
+            let minute = self.clock.tick();
+            let now = self.rest(k, minute);
+            if now.is_some() && self.rested[usize::from(k)] == now {
                 return;
             }
-            if !matches!(self.turn(k), Outcome::Signed(_) | Outcome::Entered(_) | Outcome::Delivered { .. }) {
-                self.rested[usize::from(k)] = length;
+            match self.turn_in(k, minute) {
+                Outcome::Signed(_) | Outcome::Entered(_) | Outcome::Delivered { .. } | Outcome::Refused(Refusal::Minute) => {}
+                _ => self.rested[usize::from(k)] = now,
             }
         }
+    }
+
+    fn rest(&self, k: u8, minute: u16) -> Option<Rest> {
+        let controller = self.bench.controller(k)?;
+        let open = controller.ring().is_none_or(|ring| ring.is_open(minute)) || !controller.requests().leave;
+        Some(Rest { record: controller.record().len(), open })
     }
 
     /// What the whole pool shows.
@@ -138,4 +169,10 @@ impl<R: Rules> Maker<R> {
         let lacking = pool.filter(|(_, s)| from >> s.origin & 1 == 1 && !controller.record().holds(s));
         lacking.map(|(number, _)| number).collect()
     }
+}
+
+/// The windows as they end a setup line, their count first.
+pub fn written(windows: &[Window]) -> String {
+    let listed: String = windows.iter().map(|Window { weekday, first, end }| format!(",{weekday},{first},{end}")).collect();
+    format!(",{}{listed}", windows.len())
 }

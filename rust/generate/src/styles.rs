@@ -2,9 +2,13 @@
 
 use reference::{Body, Outcome, Rules, Set, Statement, View};
 
+use crate::clock::Clock;
 use crate::drive::{drive, Plan};
 use crate::maker::Maker;
 use crate::rng::Rng;
+
+/// What `joins` of a plan mostly is.
+pub const JOINS: usize = 75;
 
 fn plan<R: Rules>(maker: &mut Maker<R>, members: usize, faulty: usize) -> Plan {
     let notices = maker.notices();
@@ -22,7 +26,7 @@ fn plan<R: Rules>(maker: &mut Maker<R>, members: usize, faulty: usize) -> Plan {
     let senders = [vec![first], others].concat();
     let split = if rng.chance(40) { rng.draw() as Set } else { 0 };
     let payloads = payloads(rng, notices);
-    Plan { members, senders, faulty, lies: 0, rounds: 25, careful: true, split, payloads }
+    Plan { members, senders, faulty, lies: 0, rounds: 25, joins: JOINS, careful: true, split, payloads }
 }
 
 /// What the notices are sent with: the same, numbers in a row, or any.
@@ -53,6 +57,19 @@ pub fn liars<R: Rules>(mut maker: Maker<R>) -> Vec<u8> {
     let mut plan = plan(&mut maker, members, borne);
     plan.lies = maker.rng.between(3, 15);
     plan.rounds = maker.rng.between(5, 50);
+    drive(&mut maker, plan);
+    maker.finish()
+}
+
+/// A ring with windows, in which many ask to leave and wait; mostly nobody lies.
+pub fn leavers<R: Rules>(mut maker: Maker<R>) -> Vec<u8> {
+    maker.clock = Clock::with_windows(maker.rng.draw());
+    let lying = usize::from(maker.rng.chance(30));
+    let members = maker.rng.between(4, 7);
+    let mut plan = plan(&mut maker, members, lying);
+    plan.lies = 10 * lying;
+    plan.rounds = maker.rng.between(20, 60);
+    plan.joins = 45;
     drive(&mut maker, plan);
     maker.finish()
 }
@@ -142,13 +159,42 @@ pub fn damaged<R: Rules>(mut maker: Maker<R>) -> Vec<u8> {
         let place = spared + rng.below((schedule.len() - spared).max(1));
         damage(rng, &mut schedule, place);
     }
+    if rng.chance(40) {
+        // Before the setup, so that the ring still runs.
+        let stray = stray_setup(rng, &schedule[..setup]);
+        schedule.splice(0..0, stray);
+    }
     if rng.chance(50) {
         schedule.pop();
     }
     schedule
 }
 
-const NUMBERS: [&str; 12] = ["16", "255", "256", "00", "-1", "+1", "512", "18446744073709551615", "18446744073709551616", "", "1e3", "0x1"];
+/// The setup line with windows that are refused or do not read: too many, numbers out of range, one missing or one too many.
+fn stray_setup(rng: &mut Rng, setup: &[u8]) -> Vec<u8> {
+    let text = String::from_utf8_lossy(setup);
+    let fields: Vec<&str> = text.trim_end().split(',').collect();
+    let senders: usize = fields.get(2).and_then(|count| count.parse().ok()).unwrap_or(0);
+    let head = fields[..fields.len().min(senders + 4)].join(",");
+    let count = [1, 8, 9, 300][rng.below(4)];
+    let mut numbers: Vec<String> = (0..count).flat_map(|_| ["2", "480", "540"]).map(str::to_string).collect();
+    let place = rng.below(numbers.len());
+    let mut told = count;
+    match rng.below(6) {
+        0 => drop(numbers.remove(place)),
+        1 => numbers.insert(place, "0".into()),
+        2 => numbers[place] = "65535".into(),
+        3 => numbers[place] = "65536".into(),
+        4 => told = [65_535, 65_536, count + 1][rng.below(3)],
+        _ => {}
+    }
+    format!("{head},{told},{}\n", numbers.join(",")).into_bytes()
+}
+
+const NUMBERS: [&str; 18] = [
+    "16", "255", "256", "00", "-1", "+1", "512", "1440", "1441", "10079", "10080", "65535", "65536", "18446744073709551615",
+    "18446744073709551616", "", "1e3", "0x1",
+];
 
 fn damage(rng: &mut Rng, schedule: &mut Vec<u8>, place: usize) {
     let place = place.min(schedule.len());

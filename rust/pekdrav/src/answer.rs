@@ -64,15 +64,19 @@ pub enum Refusal {
     OutOfPlace = 8,
     /// A statement or a send about a notice that the setup lacks.
     UnknownNotice = 9,
+    /// At setup, more than 8 windows, or one whose weekday is above 6, whose end is above 1440, or whose first minute is not below its end.
+    BadWindow = 10,
+    /// On a turn, a minute above 10079.
+    BadMinute = 11,
 }
 
 impl Refusal {
-    /// The number in the table of refusals, 1 to 9.
+    /// The number in the table of refusals, 1 to 11.
     pub const fn number(self) -> u8 {
         self as u8
     }
 
-    /// The refusal of this number. Every call that is refused tells 1 to 9.
+    /// The refusal of this number. Every call that is refused tells 1 to 11.
     fn told(number: u64) -> Refusal {
         match number {
             1 => Refusal::BadSetup,
@@ -83,7 +87,9 @@ impl Refusal {
             6 => Refusal::ManyCandidates,
             7 => Refusal::Conflict,
             8 => Refusal::OutOfPlace,
-            _ => Refusal::UnknownNotice,
+            9 => Refusal::UnknownNotice,
+            10 => Refusal::BadWindow,
+            _ => Refusal::BadMinute,
         }
     }
 }

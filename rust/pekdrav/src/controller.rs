@@ -8,6 +8,7 @@ use crate::pool::Pool;
 use crate::record::Record;
 use crate::statement::Kind;
 use crate::view::{padded, Ring, View, NOTICES, VIEWS};
+use crate::window::{words, Window, WINDOWS};
 
 /// What a controller is bound to in a notice.
 #[derive(Clone, Copy, PartialEq, Eq, Hash, Debug)]
@@ -48,7 +49,8 @@ pub(crate) struct Fields {
     leave_requested: u64,
     bound: u64,
     barred: u64,
-    reserved_1: [u64; 2],
+    window_count: u64,
+    reserved_1: [u64; 1],
     entered_count: u64,
     reserved_2: [u64; 3],
     entered: [u64; VIEWS],
@@ -57,6 +59,7 @@ pub(crate) struct Fields {
     /// Those that are bound.
     payloads: [u64; NOTICES],
     send_payloads: [u64; NOTICES],
+    windows: [u64; WINDOWS],
 }
 
 impl Fields {
@@ -71,13 +74,15 @@ impl Fields {
         leave_requested: 0,
         bound: 0,
         barred: 0,
-        reserved_1: [0; 2],
+        window_count: 0,
+        reserved_1: [0; 1],
         entered_count: 0,
         reserved_2: [0; 3],
         entered: [0; VIEWS],
         senders: [0; NOTICES],
         payloads: [0; NOTICES],
         send_payloads: [0; NOTICES],
+        windows: [0; WINDOWS],
     };
 
     fn notice(&self, number: usize) -> Notice {
@@ -122,6 +127,11 @@ fn answered(call: impl FnOnce(&mut Value) -> u8) -> Answer {
     Answer::told(number, value)
 }
 
+/// How many there are, or 255 if there are more, which the library refuses as it refuses that many.
+fn counted(length: usize) -> u8 {
+    u8::try_from(length).unwrap_or(u8::MAX)
+}
+
 /// The calls.
 impl Controller {
     /// A controller that waits for its setup.
@@ -129,12 +139,13 @@ impl Controller {
         Controller::default()
     }
 
-    /// Starts controller `number` in the ring of these initial members, bit k for controller k, with a sender for each of 1 to 64 notices.
-    pub fn setup(&mut self, number: u8, members: u16, senders: &[u8]) -> Answer {
+    /// Starts controller `number` in the ring of these initial members, bit k for controller k, with a sender for each of 1 to 64 notices. It leaves only
+    /// in one of the windows, of which there are at most 8 and which may overlap, or at any time if there are none.
+    pub fn setup(&mut self, number: u8, members: u16, senders: &[u8], windows: &[Window]) -> Answer {
         let Controller { fields, record } = self;
-        let count = u8::try_from(senders.len()).unwrap_or(u8::MAX);
-        let listed = padded(senders);
-        answered(|value| ffi::pekdrav_raw_controller_setup(fields, record, number, members, count, &listed, value))
+        let (count, window_count) = (counted(senders.len()), counted(windows.len()));
+        let (listed, windows) = (padded(senders), words(windows));
+        answered(|value| ffi::pekdrav_raw_controller_setup(fields, record, number, members, count, &listed, window_count, &windows, value))
     }
 
     /// Notes that it is to join; a later turn signs that.
@@ -158,10 +169,11 @@ impl Controller {
         answered(|value| ffi::raw_controller_add(fields, record, pool.words_mut(), line, value))
     }
 
-    /// Does the first step that the rules allow.
-    pub fn turn(&mut self, pool: &mut Pool) -> Answer {
+    /// Does the first step that the rules allow in this minute of the week, 0 to 10079, which the host's clock gives: 1440 for each weekday before, and
+    /// the minute of the day.
+    pub fn turn(&mut self, pool: &mut Pool, minute: u16) -> Answer {
         let Controller { fields, record } = self;
-        answered(|value| ffi::raw_controller_turn(fields, record, pool.words_mut(), value))
+        answered(|value| ffi::raw_controller_turn(fields, record, pool.words_mut(), minute, value))
     }
 }
 
@@ -225,6 +237,12 @@ impl Controller {
     pub fn ring(&self) -> Ring {
         let senders: Vec<u8> = self.notices().map(|notice| notice.sender).collect();
         Ring::new(self.initial(), &senders)
+    }
+
+    /// The windows of its setup; none before it.
+    pub fn windows(&self) -> impl ExactSizeIterator<Item = Window> + '_ {
+        let count = if self.is_set_up() { self.fields.window_count as usize } else { 0 };
+        self.fields.windows[..count.min(WINDOWS)].iter().map(|&word| Window::from_word(word))
     }
 
     /// Whether a join was requested.

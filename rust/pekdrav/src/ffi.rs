@@ -8,6 +8,7 @@ use crate::evidence::EvidenceWords;
 use crate::pool::{POOL_WORDS, STATEMENTS};
 use crate::record::Record;
 use crate::view::{Ring, NOTICES, VIEWS};
+use crate::window::WINDOWS;
 
 /// A pool in memory.
 pub type Words = [u64; POOL_WORDS];
@@ -37,8 +38,11 @@ pub type CountWords = [u64; 2];
 /// The senders of the notices, the first of which count.
 pub type Senders = [u8; NOTICES];
 
+/// The words of the windows, the first of which count.
+pub type Windows = [u64; WINDOWS];
+
 // The structs lie in memory as the arrays that the library has.
-const _: () = assert!(size_of::<Fields>() == size_of::<[u64; 224]>());
+const _: () = assert!(size_of::<Fields>() == size_of::<[u64; 232]>());
 const _: () = assert!(size_of::<Record>() == size_of::<[u16; 513]>());
 const _: () = assert!(size_of::<EvidenceWords>() == size_of::<[u64; 104]>());
 
@@ -53,6 +57,8 @@ unsafe extern "C" {
         members: u16,
         count: u8,
         senders: &Senders,
+        window_count: u8,
+        windows: &Windows,
         value: &mut Value,
     ) -> u8;
     pub safe fn pekdrav_raw_controller_join(fields: &mut Fields, value: &mut Value) -> u8;
@@ -72,6 +78,7 @@ unsafe extern "C" {
         words: &mut Words,
         keys: *mut Keys,
         groups: *mut Groups,
+        minute: u16,
         value: &mut Value,
     ) -> u8;
 
@@ -133,10 +140,10 @@ pub fn raw_controller_add(fields: &Fields, record: &mut Record, words: &mut Word
 }
 
 #[inline]
-pub fn raw_controller_turn(fields: &mut Fields, record: &mut Record, words: &mut Words, value: &mut Value) -> u8 {
+pub fn raw_controller_turn(fields: &mut Fields, record: &mut Record, words: &mut Words, minute: u16, value: &mut Value) -> u8 {
     let mut work = Workspace::new();
     // SAFETY: the pointers are those of arrays that nobody else has, and any words in them serve; so in each function of a record that has them.
-    unsafe { pekdrav_raw_controller_turn(fields, record, words, work.keys.as_mut_ptr(), work.groups.as_mut_ptr(), value) }
+    unsafe { pekdrav_raw_controller_turn(fields, record, words, work.keys.as_mut_ptr(), work.groups.as_mut_ptr(), minute, value) }
 }
 
 #[inline]

@@ -4,8 +4,9 @@ use crate::controller::{Answer, Controller, Refusal};
 use crate::record::Record;
 use crate::rules::{Document, Rules};
 use crate::statement::Statement;
-use crate::text::{read_decimal, read_hex, read_small, write_decimal, write_hex};
+use crate::text::{read_decimal, read_hex, read_medium, read_small, write_decimal, write_hex};
 use crate::view::{alone, Set, View, CONTROLLERS};
+use crate::window::Window;
 
 /// The longest schedule that is run, in bytes.
 pub const SCHEDULE_LIMIT: usize = 65_536;
@@ -23,6 +24,8 @@ pub enum Line {
         /// By the number of the notice.
         senders: Vec<u8>,
         faulty: Set,
+        /// As many as are written, also more than a setup may carry.
+        windows: Vec<Window>,
     },
     Join(u8),
     Leave(u8),
@@ -33,7 +36,10 @@ pub enum Line {
     },
     Give(u8, u64),
     All(u8),
-    Turn(u8),
+    Turn {
+        k: u8,
+        minute: u16,
+    },
     /// With nothing if all after the comma is no statement.
     Lie(Option<Statement>),
 }
@@ -54,14 +60,18 @@ impl Line {
                 let members = set(next()?)?;
                 let count = read_small(next()?)?;
                 let senders = (0..count).map(|_| read_small(next()?)).collect::<Option<_>>()?;
-                Line::Setup { members, senders, faulty: set(next()?)? }
+                let faulty = set(next()?)?;
+                let mut number = || next().and_then(read_medium);
+                let count = number()?;
+                let windows = (0..count).map(|_| Some(Window::new(number()?, number()?, number()?))).collect::<Option<_>>()?;
+                Line::Setup { members, senders, faulty, windows }
             }
             b"join" => Line::Join(controller(next()?)?),
             b"leave" => Line::Leave(controller(next()?)?),
             b"send" => Line::Send { k: controller(next()?)?, notice: read_small(next()?)?, payload: read_decimal(next()?)? },
             b"give" => Line::Give(controller(next()?)?, read_decimal(next()?)?),
             b"all" => Line::All(controller(next()?)?),
-            b"turn" => Line::Turn(controller(next()?)?),
+            b"turn" => Line::Turn { k: controller(next()?)?, minute: read_medium(next()?)? },
             _ => return None,
         };
         next().is_none().then_some(read)
@@ -71,7 +81,7 @@ impl Line {
     fn who(&self) -> u8 {
         match self {
             Line::Setup { senders, .. } => senders.first().map_or(NOBODY, |&sender| sender.min(NOBODY)),
-            Line::Join(k) | Line::Leave(k) | Line::Send { k, .. } | Line::Give(k, _) | Line::All(k) | Line::Turn(k) => *k,
+            Line::Join(k) | Line::Leave(k) | Line::Send { k, .. } | Line::Give(k, _) | Line::All(k) | Line::Turn { k, .. } => *k,
             Line::Lie(statement) => statement.as_ref().map_or(NOBODY, |statement| statement.origin),
         }
     }
@@ -193,14 +203,14 @@ impl<R: Rules> Bench<R> {
 
     fn run(&mut self, line: Line) -> Outcome {
         match line {
-            Line::Setup { members, senders, faulty } => self.setup(members, &senders, faulty),
+            Line::Setup { members, senders, faulty, windows } => self.setup(members, &senders, faulty, &windows),
             _ if !self.ready => Outcome::Refused(Refusal::Unreadable),
             Line::Join(k) => outcome(self.seat(k).controller.join()),
             Line::Leave(k) => outcome(self.seat(k).controller.leave()),
             Line::Send { k, notice, payload } => outcome(self.seat(k).controller.send(notice, payload)),
             Line::Give(k, number) => self.give(k, number),
             Line::All(k) => self.give_all(k),
-            Line::Turn(k) => self.turn(k),
+            Line::Turn { k, minute } => self.turn(k, minute),
             Line::Lie(statement) => self.lie(statement),
         }
     }
@@ -209,9 +219,9 @@ impl<R: Rules> Bench<R> {
         &mut self.seats[usize::from(k)]
     }
 
-    fn setup(&mut self, members: Set, senders: &[u8], faulty: Set) -> Outcome {
+    fn setup(&mut self, members: Set, senders: &[u8], faulty: Set, windows: &[Window]) -> Outcome {
         // All sixteen judge a setup alike, so one answer stands for all.
-        let answer = self.seats.iter_mut().fold(Answer::Quiet, |_, seat| seat.controller.setup(members, senders));
+        let answer = self.seats.iter_mut().fold(Answer::Quiet, |_, seat| seat.controller.setup(members, senders, windows));
         if answer == Answer::Taken {
             self.faulty = faulty;
             self.ready = true;
@@ -243,10 +253,10 @@ impl<R: Rules> Bench<R> {
         Outcome::Taken(count)
     }
 
-    fn turn(&mut self, k: u8) -> Outcome {
+    fn turn(&mut self, k: u8, minute: u16) -> Outcome {
         let pool = &mut self.pool;
         let seat = &mut self.seats[usize::from(k)];
-        let answer = seat.controller.turn_with(|statement| pool.holds(statement) || !pool.is_full());
+        let answer = seat.controller.turn_with(minute, |statement| pool.holds(statement) || !pool.is_full());
         let Answer::Signed(statement) = answer else {
             return outcome(answer);
         };

@@ -7,6 +7,7 @@ use crate::record::Record;
 use crate::rules::{Document, Rules};
 use crate::statement::{Binding, Body, Fields, Report, Statement, Told, NOTICES};
 use crate::view::{alone, History, Set, View, CONTROLLERS};
+use crate::window::{Window, WEEK, WINDOWS};
 
 /// Why a call is refused; the number is the one that the bench prints.
 #[derive(Clone, Copy, PartialEq, Eq, Debug)]
@@ -20,6 +21,8 @@ pub enum Refusal {
     Conflict = 7,
     Unreadable = 8,
     Notice = 9,
+    Window = 10,
+    Minute = 11,
 }
 
 /// What a call answers.
@@ -40,6 +43,15 @@ pub struct Ring {
     pub initial: View,
     /// By the number of the notice.
     pub senders: Vec<u8>,
+    /// None means that a leave waits for no window.
+    pub windows: Vec<Window>,
+}
+
+impl Ring {
+    /// Whether a leave may be signed in this minute of the week.
+    pub fn is_open(&self, minute: u16) -> bool {
+        self.windows.is_empty() || self.windows.iter().any(|window| window.has(minute))
+    }
 }
 
 /// The requests that were taken and are about no notice.
@@ -126,15 +138,18 @@ impl<R: Rules> Controller<R> {
         &self.record
     }
 
-    /// Starts the controller in a ring with a sender for each notice.
-    pub fn setup(&mut self, members: Set, senders: &[u8]) -> Answer {
+    /// Starts the controller in a ring with a sender for each notice, whose members leave only in the windows.
+    pub fn setup(&mut self, members: Set, senders: &[u8], windows: &[Window]) -> Answer {
         let numbered = self.number < CONTROLLERS && senders.iter().all(|&sender| sender < CONTROLLERS);
         let counted = (1..=NOTICES).contains(&senders.len());
         if self.ring.is_some() || members == 0 || !numbered || !counted {
             return Answer::Refused(Refusal::Setup);
         }
+        if windows.len() > WINDOWS || !windows.iter().all(|window| window.is_sound()) {
+            return Answer::Refused(Refusal::Window);
+        }
         let initial = View::new(members, 0);
-        self.ring = Some(Ring { initial, senders: senders.to_vec() });
+        self.ring = Some(Ring { initial, senders: senders.to_vec(), windows: windows.to_vec() });
         self.notices = vec![Notice::default(); senders.len()];
         if initial.has_member(self.number) {
             self.entered.push(initial);
@@ -224,16 +239,19 @@ impl<R: Rules> Controller<R> {
         }
     }
 
-    /// A turn with a pool of its own, which has room while the record has.
-    pub fn turn(&mut self) -> Answer {
-        self.turn_with(|_| true)
+    /// A turn in this minute of the week, with a pool of its own, which has room while the record has.
+    pub fn turn(&mut self, minute: u16) -> Answer {
+        self.turn_with(minute, |_| true)
     }
 
     /// A turn where `room` says whether a statement may go into the pool.
-    pub fn turn_with(&mut self, room: impl FnOnce(&Statement) -> bool) -> Answer {
+    pub fn turn_with(&mut self, minute: u16, room: impl FnOnce(&Statement) -> bool) -> Answer {
         let Some(ring) = &self.ring else {
             return Answer::Refused(Refusal::Unreadable);
         };
+        if minute >= WEEK {
+            return Answer::Refused(Refusal::Minute);
+        }
         let evidence = Evidence::gather::<R>(ring.initial, &ring.senders, self.record.statements());
         if evidence.conflict() {
             return Answer::Refused(Refusal::Conflict);
@@ -243,7 +261,7 @@ impl<R: Rules> Controller<R> {
         };
         let top = greatest.top();
         let stands = self.entered.contains(&top) && !self.entered.iter().any(|view| top.strictly_within(*view));
-        let situation = Situation { controller: self, ring, evidence: &evidence, candidates, greatest, top, stands };
+        let situation = Situation { controller: self, ring, minute, evidence: &evidence, candidates, greatest, top, stands };
         let step = situation.first_rule();
         self.take(step, top, room)
     }
@@ -283,6 +301,7 @@ impl<R: Rules> Controller<R> {
 struct Situation<'a, R> {
     controller: &'a Controller<R>,
     ring: &'a Ring,
+    minute: u16,
     evidence: &'a Evidence,
     /// All candidates; they form a chain of at most 16 views here.
     candidates: History,
@@ -453,12 +472,13 @@ impl<R: Rules> Situation<'_, R> {
 
     /// Rule 8.
     fn join(&self) -> Option<Step> {
-        self.controller.requests.join.then(|| self.sign_once(Body::Join)).flatten()
+        let asked = self.controller.requests.join && (R::LEAVE_ALONE_IN_WINDOW || self.ring.is_open(self.minute));
+        asked.then(|| self.sign_once(Body::Join)).flatten()
     }
 
     /// Rule 9.
     fn leave(&self) -> Option<Step> {
-        if !self.controller.requests.leave {
+        if !self.controller.requests.leave || (R::LEAVE_IN_WINDOW && !self.ring.is_open(self.minute)) {
             return None;
         }
         let prepared = self.own_notices(|body| match *body {

@@ -12,6 +12,7 @@ pub mod rules;
 pub mod statement;
 pub mod text;
 pub mod view;
+pub mod window;
 
 pub use bench::{Bench, Outcome, Row};
 pub use controller::{Answer, Controller, Notice, Refusal};
@@ -21,3 +22,4 @@ pub use record::Record;
 pub use rules::{Document, Rules};
 pub use statement::{Binding, Body, Fields, Group, Report, Statement, Told, NOTICES};
 pub use view::{History, Set, View};
+pub use window::{Window, WEEK, WINDOWS};

@@ -34,6 +34,10 @@ pub trait Rules {
     const NOTICES_APART: bool = true;
     /// A notice is delivered once.
     const DELIVERED_ONCE: bool = true;
+    /// A leave is signed only inside a window.
+    const LEAVE_IN_WINDOW: bool = true;
+    /// A join waits for no window.
+    const LEAVE_ALONE_IN_WINDOW: bool = true;
 }
 
 /// The rules as the scope document states them.

@@ -16,6 +16,11 @@ pub fn read_small(text: &[u8]) -> Option<u8> {
     read_decimal(text).and_then(|value| u8::try_from(value).ok())
 }
 
+/// Reads a decimal number from 0 to 65535.
+pub fn read_medium(text: &[u8]) -> Option<u16> {
+    read_decimal(text).and_then(|value| u16::try_from(value).ok())
+}
+
 /// Reads exactly `digits` lower-case hexadecimal digits.
 pub fn read_hex(text: &[u8], digits: usize) -> Option<u32> {
     if text.len() != digits {
@@ -70,6 +75,8 @@ mod tests {
         }
         assert_eq!(read_small(b"255"), Some(255));
         assert_eq!(read_small(b"256"), None);
+        assert_eq!(read_medium(b"65535"), Some(65_535));
+        assert_eq!(read_medium(b"65536"), None);
     }
 
     #[test]

@@ -52,20 +52,20 @@ impl Ring {
 
     fn controller(&self, number: u8) -> Controller {
         let mut controller = Controller::new(number);
-        assert_eq!(controller.setup(FIRST.joined(), &[0]), Answer::Taken);
+        assert_eq!(controller.setup(FIRST.joined(), &[0], &[]), Answer::Taken);
         assert!(self.0.iter().all(|statement| controller.add(statement) == Answer::Taken));
         controller
     }
 
     /// What the newcomer's turn answers.
     fn turn(&self) -> Answer {
-        self.controller(NEWCOMER).turn()
+        self.controller(NEWCOMER).turn(0)
     }
 
     /// The newcomer's binding after it entered.
     fn binding(&self) -> Binding {
         let mut controller = self.controller(NEWCOMER);
-        assert_eq!(controller.turn(), Answer::Entered(LARGE));
+        assert_eq!(controller.turn(0), Answer::Entered(LARGE));
         controller.notices()[0].binding
     }
 }
@@ -171,9 +171,9 @@ fn a_member_of_a_skipped_view_still_reports_on_it() {
     let mut ring = Ring::new();
     ring.seal(&[FIRST, SMALL, LARGE]).seal(&[FIRST, LARGE]).report(FIRST, &[0], Binding::Unbound);
     let mut member = ring.controller(1);
-    let Answer::Signed(Statement { body: Body::Report(report), .. }) = member.turn() else { panic!("no report") };
+    let Answer::Signed(Statement { body: Body::Report(report), .. }) = member.turn(0) else { panic!("no report") };
     assert_eq!(report.at, SMALL);
-    assert_eq!(member.turn(), Answer::Entered(LARGE));
+    assert_eq!(member.turn(0), Answer::Entered(LARGE));
 }
 
 #[test]

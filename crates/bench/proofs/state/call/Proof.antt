@@ -8,8 +8,8 @@ pub call-spec : {M : Type 1} → statement M
 call-spec =
     tie.close
     (tie.spec
-    (λ c. search needs) (λ c κs. search needs) (λ c. search needs) (λ c κs. search needs) (λ c. search needs) (λ c. search needs) (λ c κs. search needs) (λ c κs. search needs)
+    (λ c. search needs) (λ c κs. search needs) (λ c. search needs) (λ c κs. search needs) (λ c. search needs) (λ c. search needs) (λ c κs. search needs) (λ c κs. search needs) (λ c κs. search needs)
     (λ c. calls-join _ _ _ _ (c .before .before .before .pre .0) (c .before .enum-told .given .1) (c .join .ensures))
     (λ c. calls-leave _ _ _ _ (c .before .before .before .pre .0) (c .before .enum-told2 .given .1) (c .leave .ensures))
     (λ c. calls-send _ _ _ _ (c .before .before .before .before .pre .0) (c .before .before .line .given .1) (c .send .ensures))
-    (λ c. calls-turn _ _ _ _ (c .before .before .before .before .pre .0) (last-call (c .before .before .before .before .args .line) (c .before .before .before .match .keys4) (c .before .before .before .before .pre .1)) (c .lend-turn .ensures)))
+    (λ c. calls-turn _ _ _ _ (c .before .before .before .before .before .pre .0) _ (last-call (c .before .before .before .before .before .args .line) (c .before .before .before .before .match .keys4) (c .before .before .before .before .before .pre .1)) (c .before .minute-of .ensures) (c .lend-turn .ensures)))

@@ -16,4 +16,4 @@ join-spec =
     (λ c κs. search needs)
     (λ c. joins _ _ (request-again _ _ _ _ _ (c .refuse3 .ensures) (not-false _ (c .before .before .before .before .before .if1 .left)) (sym (c .before .before .before .has-member .ensures) ∙ c .before .before .if2 .left) (c .before .if3 .taken)))
     (λ c κs. search needs)
-    (λ c. joins _ _ (request-taken _ _ _ _ _ (c .take .ensures) (not-false _ (c .before .before .before .before .before .before .before .before .before .before .if1 .left)) (sym (c .before .before .before .before .before .before .before .before .has-member .ensures) ∙ c .before .before .before .before .before .before .before .if2 .left) (c .before .before .before .before .before .before .if3 .left))))
+    (λ c. joins _ _ (request-taken _ _ _ _ _ (c .take .ensures) (not-false _ (c .before .before .before .before .before .before .before .before .before .before .before .if1 .left)) (sym (c .before .before .before .before .before .before .before .before .before .has-member .ensures) ∙ c .before .before .before .before .before .before .before .before .if2 .left) (c .before .before .before .before .before .before .before .if3 .left))))

@@ -15,4 +15,4 @@ leave-spec =
     (λ c κs. search needs)
     (λ c. leaves _ _ (request-again _ _ _ _ _ (c .refuse3 .ensures) (not-false _ (c .before .before .before .before .before .if1 .left)) (entered-some _ (c .before .before .if2 .left)) (c .before .if3 .taken)))
     (λ c κs. search needs)
-    (λ c. leaves _ _ (request-taken _ _ _ _ _ (c .take .ensures) (not-false _ (c .before .before .before .before .before .before .before .before .before .before .if1 .left)) (entered-some _ (c .before .before .before .before .before .before .before .if2 .left)) (c .before .before .before .before .before .before .if3 .left))))
+    (λ c. leaves _ _ (request-taken _ _ _ _ _ (c .take .ensures) (not-false _ (c .before .before .before .before .before .before .before .before .before .before .before .if1 .left)) (entered-some _ (c .before .before .before .before .before .before .before .before .if2 .left)) (c .before .before .before .before .before .before .before .if3 .left))))

@@ -6,7 +6,7 @@ use Rattle.host.proofs.held.put_senders.Statement.{statement}
 use Rattle.host.proofs.held.put_senders.Tie as tie
 
 abbrev Inv-loop : tie.InvT-loop
-Inv-loop words₀ senders j₀ words j = Puts 32 senderIn senders 0 words₀ words j
+Inv-loop words₀ senders j₀ words j = Puts 32 64 senderIn senders 0 words₀ words j
 
 abbrev μ-loop : tie.MeasureT-loop
 μ-loop words₀ senders j₀ words j = 64 - j

@@ -1,4 +1,4 @@
-use Rattle.engine.specs.Meaning.{firstSenders}
+use Rattle.engine.specs.Meaning.{setupIs}
 use Rattle.host.proofs.Hosting.{setup-hosted}
 use borrow.Author.Needs.{needs}
 use Rattle.pekdrav.proofs.calls.pekdrav_raw_controller_setup.Statement.{statement}
@@ -10,4 +10,4 @@ use Rattle.host.proofs.finish.Reads as finish-reads
 use Rattle.host.proofs.load.Reads as load-reads
 
 pub pekdrav-raw-controller-setup-spec : {M : Type 1} → statement M
-pekdrav-raw-controller-setup-spec = tie.close (tie.spec (λ c κs. search needs) (λ c κs. search needs) (λ c κs. search needs) (λ c. setup-hosted _ (c .before .before .before .before .before .load .ensures) (c .finish .ensures) (c .before .before .before .before .before .before .before .args .number) (c .before .before .before .before .before .before .before .args .members) (firstSenders (c .before .before .before .before .before .before .before .args .senders .now) (c .before .before .before .before .before .before .before .args .count)) (c .before .before .before .setup .ensures)))
+pekdrav-raw-controller-setup-spec = tie.close (tie.spec (λ c κs. search needs) (λ c κs. search needs) (λ c κs. search needs) (λ c. setup-hosted _ (c .before .before .before .before .before .load .ensures) (c .finish .ensures) (c .before .before .before .before .before .before .before .args .number) (setupIs (record { members = c .before .before .before .before .before .before .before .args .members; notices = c .before .before .before .before .before .before .before .args .count; windows = c .before .before .before .before .before .before .before .args .many }) (c .before .before .before .before .before .before .before .args .senders .now) (c .before .before .before .before .before .before .before .args .windows .now)) (c .before .before .before .setup .ensures)))

@@ -9,4 +9,4 @@ use Rattle.host.proofs.finish.Reads as finish-reads
 use Rattle.host.proofs.load.Reads as load-reads
 
 pub pekdrav-raw-controller-turn-spec : {M : Type 1} → statement M
-pekdrav-raw-controller-turn-spec = tie.close (tie.spec (λ c κs. search needs) (λ c κs. search needs) (λ c κs. search needs) (λ c. turn-hosted _ (c .before .before .before .before .before .before .before .before .load .ensures) (c .finish .ensures) (c .before .before .before .turn-in .ensures)))
+pekdrav-raw-controller-turn-spec = tie.close (tie.spec (λ c κs. search needs) (λ c κs. search needs) (λ c κs. search needs) (λ c. turn-hosted _ (c .before .before .before .before .before .before .before .before .load .ensures) (c .finish .ensures) (c .before .before .before .before .before .before .before .before .before .before .args .minute) (c .before .before .before .turn-in .ensures)))

@@ -22,7 +22,7 @@ read-body-spec =
     (λ c. search needs)
     (λ c κs. named-by (c .before .before .before .before .args .line .now) _ (c .before .before .verb-of .ensures) All _ (c .enum-told6 .given .1) refl tt)
     (λ c. search needs)
-    (λ c κs. named-by (c .before .before .before .before .args .line .now) _ (c .before .before .verb-of .ensures) Turn _ (c .enum-told7 .given .1) refl tt)
+    (λ c κs. begins-by (c .before .before .before .before .args .line .now) _ (c .before .before .verb-of .ensures) Turn (c .enum-told7 .given .1))
     (λ c. search needs)
     (λ c κs. begins-by (c .before .before .before .before .args .line .now) _ (c .before .before .verb-of .ensures) Lie (c .enum-told8 .given .1))
     (λ c. search needs) (λ c. search needs) (λ c. search needs) (λ c. search needs) (λ c. search needs) (λ c. search needs) (λ c. search needs) (λ c. search needs)

@@ -6,8 +6,8 @@ use Rattle.engine.specs.Meaning.{firstSenders}
 use Rattle.engine.specs.Steps.{areNumbers}
 use Rattle.engine.proofs.Numbers.{numbers-first, numbers-next, numbers-miss}
 use borrow.Author.Needs.{needs}
-use Rattle.engine.proofs.setup.are_numbers.Statement.{statement}
-use Rattle.engine.proofs.setup.are_numbers.Tie as tie
+use Rattle.engine.proofs.start.are_numbers.Statement.{statement}
+use Rattle.engine.proofs.start.are_numbers.Tie as tie
 
 abbrev Inv-loop : tie.InvT-loop
 Inv-loop senders count j₀ j = (j ≤ count) × (areNumbers (firstSenders senders j) ≡ true)

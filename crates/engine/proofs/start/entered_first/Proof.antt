@@ -1,7 +1,7 @@
 use Rattle.engine.proofs.Requests.{first-one, first-none}
 use borrow.Author.Needs.{needs}
-use Rattle.engine.proofs.setup.entered_first.Statement.{statement}
-use Rattle.engine.proofs.setup.entered_first.Tie as tie
+use Rattle.engine.proofs.start.entered_first.Statement.{statement}
+use Rattle.engine.proofs.start.entered_first.Tie as tie
 
 pub entered-first-spec : {M : Type 1} → statement M
 entered-first-spec =
