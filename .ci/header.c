@@ -144,10 +144,10 @@ static void check_turns(void) {
     CHECK(pekdrav_pool_text(&pool, 0, text, sizeof text) == 33 && memcmp(text, "6,3,00000000,00000000,1,0,7,0,0,0", 33) == 0);
     CHECK(controller.fields.bound == 2 && controller.fields.barred == 0 && controller.fields.payloads[1] == 7);
     CHECK(pekdrav_controller_binding(&controller, 1) == PEKDRAV_BINDING_BOUND && pekdrav_controller_binding(&controller, 0) == PEKDRAV_BINDING_UNBOUND);
-    CHECK(pekdrav_controller_turn(&controller, &pool, now, &value) == PEKDRAV_ANSWER_DELIVERED && value.number == 7 && value.notice == 1);
+    CHECK(pekdrav_controller_turn(&controller, &pool, now, &value) == PEKDRAV_ANSWER_DELIVERED && value.number == 7 && value.notice == 1 && value.signers == 8);
     CHECK(pekdrav_controller_delivered(&controller, 1) && !pekdrav_controller_delivered(&controller, 0));
     CHECK(controller.record.count == 3 && controller.record.ids[2] == 2);
-    CHECK(pekdrav_controller_turn(&controller, &pool, now, &value) == PEKDRAV_ANSWER_QUIET);
+    CHECK(pekdrav_controller_turn(&controller, &pool, now, &value) == PEKDRAV_ANSWER_QUIET && value.notice == 0 && value.signers == 0);
     CHECK(pekdrav_controller_leave(&controller, &value) == PEKDRAV_ANSWER_TAKEN && controller.fields.leave_requested);
 }
 
@@ -165,7 +165,73 @@ static void check_record(void) {
     CHECK(told.certified == 2 && told.payloads[1] == 7 && told.payloads[0] == 0 && told.stored == 2);
     CHECK(pekdrav_controller_signers(&controller, &pool, PEKDRAV_KIND_ACK, initial) == 8);
     CHECK(pekdrav_controller_signers(&controller, &pool, PEKDRAV_KIND_REPORT, initial) == 0);
-    CHECK(pekdrav_controller_screen(&controller, &pool, text, sizeof text) == strlen(screen) && memcmp(text, screen, strlen(screen)) == 0);
+    CHECK(pekdrav_record_screen(&controller.record, &pool, initial, 2, senders, text, sizeof text) == strlen(screen));
+    CHECK(memcmp(text, screen, strlen(screen)) == 0);
+}
+
+/* Whether a controller's service screen is this text, in memory of which no byte after it is written; and nothing is written into less memory. */
+static int shows(const struct pekdrav_controller *host, const struct pekdrav_pool *statements, const char *expected) {
+    static uint8_t text[PEKDRAV_SCREEN_BYTES], untouched[PEKDRAV_SCREEN_BYTES];
+    size_t length;
+    memset(text, 0xa5, sizeof text);
+    memset(untouched, 0xa5, sizeof untouched);
+    if (pekdrav_controller_screen(host, statements, text, sizeof text - 1) != 0 || memcmp(text, untouched, sizeof text) != 0) {
+        return 0;
+    }
+    length = pekdrav_controller_screen(host, statements, text, sizeof text);
+    if (length != strlen(expected) || memcmp(text, expected, length) != 0) {
+        printf("%.*s", (int)length, (const char *)text);
+        return 0;
+    }
+    return memcmp(text + length, untouched, sizeof text - length) == 0;
+}
+
+/* The screens of a controller before its setup, of the one of the other checks, and of one that waits for a window. */
+static void check_screen(void) {
+    static struct pekdrav_controller host;
+    static struct pekdrav_pool empty;
+    uint64_t windows[PEKDRAV_WINDOWS] = {pekdrav_window(2, 480, 540)};
+    struct pekdrav_value value;
+    pekdrav_pool_clear(&empty);
+    pekdrav_controller_init(&host);
+    CHECK(shows(&host, &empty, "not set up\n"));
+    CHECK(setup_with(&host, 8, 1, windows) == 0 && pekdrav_controller_leave(&host, &value) == PEKDRAV_ANSWER_TAKEN);
+    CHECK(shows(&host, &empty,
+                "controller 3\nstands in 00080000: 3\nwished 00080000: 3\ncandidates 00080000\n"
+                "notice 0: unbound; no certificate; not stored; not delivered\nnotice 1: unbound; no certificate; not stored; not delivered\n"
+                "waits for a window to leave\n"));
+    CHECK(shows(&controller, &pool,
+                "controller 3\nstands in 00080000: 3\nwished 000a0000: 1 3\ncandidates 00080000\n"
+                "notice 0: unbound; no certificate; not stored; not delivered\n"
+                "notice 1: bound to 7; certificate for 7 acked by 0008: 3; stored by 0008: 3; delivered\nwaits for nothing\n"));
+}
+
+/* The screens after a schedule; nothing is written for a controller that there is not. */
+static void check_schedule_screen(void) {
+    static const char line[] = "setup,0001,1,0,0000,0\nsend,0,0,7\nturn,0,0\n";
+    static const char first[] = "controller 0\nstands in 00010000: 0\nwished 00010000: 0\ncandidates 00010000\n"
+                                "notice 0: unbound; no certificate; not stored; not delivered\nwaits for nothing\n";
+    static uint8_t text[PEKDRAV_SCREEN_BYTES];
+    CHECK(pekdrav_schedule_screen(bytes(line), strlen(line), 0, text, sizeof text) == strlen(first));
+    CHECK(memcmp(text, first, strlen(first)) == 0);
+    memset(text, 0xa5, sizeof text);
+    CHECK(pekdrav_schedule_screen(bytes(line), strlen(line), 16, text, sizeof text) == 0 && text[0] == 0xa5);
+    CHECK(pekdrav_schedule_screen(bytes(line), strlen(line), 255, text, sizeof text) == 0 && text[0] == 0xa5);
+    CHECK(pekdrav_schedule_screen(bytes(line), strlen(line), 0, text, sizeof text - 1) == 0 && text[0] == 0xa5);
+    CHECK(pekdrav_schedule_screen(bytes(""), 0, 15, text, sizeof text) == 11 && memcmp(text, "not set up\n", 11) == 0);
+}
+
+/* Any memory is some controller's: counts above their limits count as these, and the text has room. */
+static void check_any_screen(void) {
+    static struct pekdrav_controller host;
+    static uint8_t text[PEKDRAV_SCREEN_BYTES];
+    size_t length;
+    memset(&host, 0xff, sizeof host);
+    length = pekdrav_controller_screen(&host, &pool, text, sizeof text);
+    CHECK(length > 0 && length <= sizeof text && text[length - 1] == '\n');
+    host.record.count = 0;
+    length = pekdrav_controller_screen(&host, &pool, text, sizeof text);
+    CHECK(length > 0 && length <= sizeof text && text[length - 1] == '\n');
 }
 
 static int is_count(struct pekdrav_count count, uint64_t reached, uint64_t read) { return count.reached == reached && count.read == read; }
@@ -190,6 +256,27 @@ static void check_counts(void) {
     }
 }
 
+/* The same record: who signed what the counts are of. */
+static void check_who(void) {
+    static const uint64_t views[17] = {8};
+    uint32_t out = 5;
+    uint64_t initial = pekdrav_view(8, 0), wider = pekdrav_view(10, 0);
+    CHECK(pekdrav_controller_who_acked(&controller, &pool, initial, 1, 7) == 8 && pekdrav_controller_who_stored(&controller, &pool, initial, 1, 7) == 8);
+    CHECK(pekdrav_controller_who_acked(&controller, &pool, initial, 0, 7) == 0 && pekdrav_controller_who_acked(&controller, &pool, initial, 1, 8) == 0);
+    CHECK(pekdrav_controller_who_stored(&controller, &pool, wider, 1, 7) == 0);
+    CHECK(pekdrav_controller_who_agreed_view(&controller, &pool, initial, wider) == 0);
+    CHECK(pekdrav_controller_who_agreed_history(&controller, &pool, initial, views, 1) == 0);
+    CHECK(pekdrav_controller_who_agreed_history(&controller, &pool, initial, views, 17) == 0);
+    CHECK(pekdrav_controller_who_reported(&controller, &pool, initial, &out) && out == 0);
+    CHECK(pekdrav_controller_ack_set(&controller, &pool, 1, 7) == 8 && pekdrav_controller_store_set(&controller, &pool, 1, 7) == 8);
+    CHECK(pekdrav_controller_ack_set(&controller, &pool, 0, 7) == 0 && pekdrav_controller_store_set(&controller, &pool, 1, 8) == 0);
+    CHECK(pekdrav_controller_ack_set(&controller, &pool, 2, 7) == 0 && pekdrav_controller_store_set(&controller, &pool, 255, 7) == 0);
+    for (int kind = 0; kind < 256; kind++) {
+        uint32_t signers = pekdrav_raw_record_who(&controller.record, &pool, (uint8_t)kind, 1, initial, 7, views, 1);
+        CHECK(signers == (kind == PEKDRAV_KIND_ACK || kind == PEKDRAV_KIND_STORE ? 8u : 0u));
+    }
+}
+
 /* Votes of controller 3, who is a quorum of its view by itself: for two views, of which the second is then not comparable, and for a history. */
 static void check_votes(void) {
     static const char *const lines[] = {
@@ -203,6 +290,7 @@ static void check_votes(void) {
     static struct pekdrav_pool votes;
     struct pekdrav_record record = {{0, 1, 2, 3, 4, 5}, 5};
     struct pekdrav_count out;
+    uint32_t signers;
     uint64_t initial = pekdrav_view(8, 0), wider = pekdrav_view(10, 0);
     uint64_t views[17] = {initial, wider};
     pekdrav_pool_clear(&votes);
@@ -216,8 +304,57 @@ static void check_votes(void) {
     CHECK(is_count(pekdrav_record_count_agree_view(&record, &votes, initial | (uint64_t)1 << 20, wider), 0, 5));
     CHECK(pekdrav_record_count_reports(&record, &votes, initial, 1, senders, initial, &out) && is_count(out, 1, 5));
     CHECK(pekdrav_record_count_reports(&record, &votes, initial, 1, senders, wider, &out) && is_count(out, 0, 5));
+    CHECK(pekdrav_record_who_agreed_view(&record, &votes, initial, wider) == 8 && pekdrav_record_who_agreed_view(&record, &votes, wider, wider) == 0);
+    CHECK(pekdrav_record_who_agreed_view(&record, &votes, initial | (uint64_t)1 << 20, wider) == 0);
+    CHECK(pekdrav_record_who_agreed_history(&record, &votes, initial, views, 2) == 8);
+    CHECK(pekdrav_record_who_agreed_history(&record, &votes, initial, views, 1) == 0);
+    CHECK(pekdrav_record_who_agreed_history(&record, &votes, initial, views, 17) == 0);
+    CHECK(pekdrav_record_who_reported(&record, &votes, initial, 1, senders, initial, &signers) && signers == 8);
+    CHECK(pekdrav_record_who_reported(&record, &votes, initial, 1, senders, wider, &signers) && signers == 0);
+    signers = 5;
     record.count = 6;
     CHECK(!pekdrav_record_count_reports(&record, &votes, initial, 1, senders, initial, &out) && is_count(out, 0, 5));
+    CHECK(!pekdrav_record_who_reported(&record, &votes, initial, 1, senders, initial, &signers) && signers == 5);
+}
+
+/* Two sealed tops that are not comparable: the sets are those at the least as written, whose word is the greater. 3 prepares, acknowledges and stores. */
+static void check_least_top(void) {
+    static const char *const lines[] = {
+        "1,0,00000000,00000000,0,0,0,0,0,0",
+        "1,1,00000000,00000000,0,0,0,0,0,0",
+        "1,4,00000000,00000000,0,0,0,0,0,0",
+        "2,1,00000000,00000000,0,0,0,0,0,0",
+        "3,3,00080000,00180000,0,0,0,0,0,0",
+        "4,3,00080000,00000000,0,0,0,0,0,2,00080000,00180000",
+        "3,3,00080000,000b0002,0,0,0,0,0,0",
+        "4,3,00080000,00000000,0,0,0,0,0,2,00080000,000b0002",
+        "7,3,00180000,00000000,0,0,7,0,0,0",
+        "7,4,00180000,00000000,0,0,7,0,0,0",
+        "8,3,00180000,00000000,0,0,7,0,0,0",
+        "8,4,00180000,00000000,0,0,7,0,0,0",
+        "7,3,000b0002,00000000,0,0,7,0,0,0",
+        "7,0,000b0002,00000000,0,0,7,0,0,0",
+        "7,1,000b0002,00000000,0,0,7,0,0,0",
+        "8,0,000b0002,00000000,0,0,7,0,0,0",
+        "6,3,00000000,00000000,0,0,7,0,0,0",
+        "8,3,000b0002,00000000,0,0,7,0,0,0",
+    };
+    static const uint8_t sender[PEKDRAV_NOTICES] = {3};
+    static struct pekdrav_pool votes;
+    struct pekdrav_record record = {{0}, 16};
+    uint64_t initial = pekdrav_view(8, 0);
+    pekdrav_pool_clear(&votes);
+    for (int i = 0; i < 18; i++) {
+        CHECK(pekdrav_pool_append(&votes, bytes(lines[i]), strlen(lines[i]), 1) == i);
+        record.ids[i] = (uint16_t)i;
+    }
+    CHECK(pekdrav_record_ack_set(&record, &votes, initial, 1, sender, 0, 7) == 0);
+    CHECK(pekdrav_record_store_set(&record, &votes, initial, 1, sender, 0, 7) == 0x18);
+    record.count = 18;
+    CHECK(pekdrav_record_ack_set(&record, &votes, initial, 1, sender, 0, 7) == 9);
+    CHECK(pekdrav_record_store_set(&record, &votes, initial, 1, sender, 0, 7) == 9);
+    CHECK(pekdrav_record_ack_set(&record, &votes, initial, 1, senders, 0, 7) == 0 && pekdrav_record_ack_set(&record, &votes, initial, 0, sender, 0, 7) == 0);
+    CHECK(pekdrav_record_who_acked(&record, &votes, pekdrav_view(11, 2), 0, 7) == 9 && pekdrav_record_who_stored(&record, &votes, initial, 0, 7) == 0);
 }
 
 /* A vote for a history of sixteen views, the most there are: one view more or less is another that nobody voted for. */
@@ -238,6 +375,9 @@ static void check_longest(void) {
     CHECK(is_count(pekdrav_record_count_agree_history(&record, &votes, views[0], views, 16), 1, 1));
     CHECK(is_count(pekdrav_record_count_agree_history(&record, &votes, views[0], views, 17), 0, 1));
     CHECK(is_count(pekdrav_record_count_agree_history(&record, &votes, views[0], views, 15), 0, 1));
+    CHECK(pekdrav_record_who_agreed_history(&record, &votes, views[0], views, 16) == 8);
+    CHECK(pekdrav_record_who_agreed_history(&record, &votes, views[0], views, 17) == 0);
+    CHECK(pekdrav_record_who_agreed_history(&record, &votes, views[0], views, 15) == 0);
 }
 
 static void check_pool(void) {
@@ -265,8 +405,10 @@ static void check_workspace(void) {
         uint64_t after[8];
     } lent;
     static struct pekdrav_record all;
+    static uint8_t text[PEKDRAV_SCREEN_BYTES];
     struct pekdrav_evidence told, again;
     struct pekdrav_count reports;
+    uint32_t signers;
     uint64_t initial = pekdrav_view(8, 0);
     memset(&lent, 0xa5, sizeof lent);
     for (uint16_t number = 0; number < PEKDRAV_STATEMENTS; number++) {
@@ -278,6 +420,10 @@ static void check_workspace(void) {
     CHECK(told.certified == 2 && told.payloads[1] == 7 && memcmp(&told, &again, sizeof told) == 0);
     CHECK(pekdrav_raw_record_count_reports(&all, &pool, initial, 2, senders, lent.work.keys, lent.work.groups, initial, &reports));
     CHECK(is_count(reports, 1, 5));
+    CHECK(pekdrav_raw_record_who_reported(&all, &pool, initial, 2, senders, lent.work.keys, lent.work.groups, initial, &signers) && signers == 8);
+    CHECK(pekdrav_raw_record_ack_set(&all, &pool, initial, 2, senders, lent.work.keys, lent.work.groups, 1, 7) == 8);
+    CHECK(pekdrav_raw_record_store_set(&all, &pool, initial, 2, senders, lent.work.keys, lent.work.groups, 1, 7) == 8);
+    CHECK(pekdrav_raw_controller_screen(&controller.fields, &all, &pool, lent.work.keys, lent.work.groups, text, sizeof text) > 0);
     for (int i = 0; i < 8; i++) {
         CHECK(lent.before[i] == 0xa5a5a5a5a5a5a5a5 && lent.after[i] == 0xa5a5a5a5a5a5a5a5);
     }
@@ -291,10 +437,15 @@ int main(void) {
     check_requests();
     check_turns();
     check_record();
+    check_screen();
+    check_schedule_screen();
     check_counts();
+    check_who();
     check_votes();
+    check_least_top();
     check_longest();
     check_pool();
     check_workspace();
+    check_any_screen();
     return failed;
 }

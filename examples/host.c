@@ -26,12 +26,18 @@ static void pass_on(int from, uint64_t number) {
     pekdrav_controller_add(&to->controller, &to->pool, text, length, &value);
 }
 
-/* What was delivered, and after how many statements of its record the controller had the stores of a quorum. */
+/* What was delivered, who stored it, and after how many statements of its record the controller had the stores of a quorum. */
 static void tell(int k, const struct pekdrav_value *value) {
     const struct pekdrav_controller *controller = &ring[k].controller;
     struct pekdrav_count stores =
         pekdrav_controller_count_stores(controller, &ring[k].pool, controller->fields.initial, (uint8_t)value->notice, value->number);
-    printf("%d delivered %" PRIu64 ", notice %" PRIu64 ", stored after %" PRIu64 " statements\n", k, value->number, value->notice, stores.read);
+    printf("%d delivered %" PRIu64 ", notice %" PRIu64 ", stored by", k, value->number, value->notice);
+    for (int signer = 0; signer < PEKDRAV_CONTROLLERS; signer++) {
+        if (value->signers >> signer & 1) {
+            printf(" %d", signer);
+        }
+    }
+    printf(" after %" PRIu64 " statements\n", stores.read);
 }
 
 /* The minute of the week, which a host has from its clock; here it is always 9:30 of weekday 2. Only leaves depend on it, and here nobody leaves. */
@@ -73,8 +79,8 @@ int main(void) {
     pekdrav_controller_send(&ring[1].controller, 1, 8, &value);
     while (turn(0) | turn(1)) {
     }
-    /* A certificate's last field: after how many statements its acks were complete. */
-    uint8_t screen[PEKDRAV_SCREEN_MAX];
+    /* What the screen of a service engineer shows of controller 0. */
+    static uint8_t screen[PEKDRAV_SCREEN_BYTES];
     size_t length = pekdrav_controller_screen(&ring[0].controller, &ring[0].pool, screen, sizeof screen);
     printf("%.*s", (int)length, (const char *)screen);
     return 0;

@@ -20,10 +20,11 @@ fn pass_on(ring: &mut [Seat; 2], from: usize, number: u16) {
     to.controller.add(&mut to.pool, &text);
 }
 
-/// What was delivered, and after how many statements of its record the controller had the stores of a quorum.
-fn tell(Seat { controller, pool }: &Seat, k: usize, notice: u8, payload: u64) {
+/// What was delivered, who stored it, and after how many statements of its record the controller had the stores of a quorum.
+fn tell(Seat { controller, pool }: &Seat, k: usize, notice: u8, payload: u64, signers: u32) {
     let stores = controller.count(pool, &Question::Store { at: controller.initial(), notice, payload });
-    println!("{k} delivered {payload}, notice {notice}, stored after {} statements", stores.read);
+    let signers: String = (0..16).filter(|signer| signers >> signer & 1 == 1).map(|signer| format!(" {signer}")).collect();
+    println!("{k} delivered {payload}, notice {notice}, stored by{signers} after {} statements", stores.read);
 }
 
 /// The minute of the week, which a host has from its clock; here it is always 9:30 of weekday 2. Only leaves depend on it, and here nobody leaves.
@@ -37,7 +38,7 @@ fn turn(ring: &mut [Seat; 2], k: usize) -> bool {
     match controller.turn(pool, minute_of_the_week()) {
         Answer::Signed(number) => pass_on(ring, k, number),
         Answer::Entered(view) => println!("{k} entered {view}"),
-        Answer::Delivered { notice, payload } => tell(&ring[k], k, notice, payload),
+        Answer::Delivered { notice, payload, signers } => tell(&ring[k], k, notice, payload, signers),
         Answer::Refused(refusal) => {
             println!("{k} refused {}", refusal.number());
             return false;
@@ -56,6 +57,6 @@ fn main() {
     ring[0].controller.send(0, 7);
     ring[1].controller.send(1, 8);
     while turn(&mut ring, 0) | turn(&mut ring, 1) {}
-    // A certificate's last field: after how many statements its acks were complete.
+    // What the screen of a service engineer shows of controller 0.
     print!("{}", ring[0].controller.screen(&ring[0].pool));
 }

@@ -32,6 +32,8 @@ extern "C" {
 #define PEKDRAV_TEXT_MAX 3120
 /* No text of what a record shows has more bytes. */
 #define PEKDRAV_SCREEN_MAX 4096
+/* No service screen of a controller has more bytes. */
+#define PEKDRAV_SCREEN_BYTES 32768
 /* No schedule that is run has more bytes. */
 #define PEKDRAV_SCHEDULE_MAX 65536
 /* No schedule's rows have more bytes. */
@@ -46,7 +48,7 @@ enum pekdrav_answer {
     PEKDRAV_ANSWER_TAKEN = 0,     /* 0 */
     PEKDRAV_ANSWER_SIGNED = 1,    /* the statement's number in the pool: send its text to the others */
     PEKDRAV_ANSWER_ENTERED = 2,   /* the view */
-    PEKDRAV_ANSWER_DELIVERED = 3, /* the payload, and with it the notice */
+    PEKDRAV_ANSWER_DELIVERED = 3, /* the payload, and with it the notice and who stored it */
     PEKDRAV_ANSWER_LEFT = 4,      /* 0 */
     PEKDRAV_ANSWER_QUIET = 5,     /* 0 */
     PEKDRAV_ANSWER_REFUSED = 6    /* an enum pekdrav_refusal; all is as before */
@@ -55,7 +57,8 @@ enum pekdrav_answer {
 /* What comes with an answer. */
 struct pekdrav_value {
     uint64_t number;
-    uint64_t notice; /* the notice that was delivered, else 0 */
+    uint64_t notice;  /* the notice that was delivered, else 0 */
+    uint64_t signers; /* who stored it, bit k for controller k: as pekdrav_record_store_set; else 0 */
 };
 
 /* Why a call is refused, by the number in the table of refusals. */
@@ -158,7 +161,8 @@ struct pekdrav_count {
 };
 
 /* Compiles only where the structs lie in memory as the library has them. */
-typedef char pekdrav_layout[sizeof(struct pekdrav_pool) == PEKDRAV_POOL_WORDS * sizeof(uint64_t) &&
+typedef char pekdrav_layout[sizeof(struct pekdrav_value) == 3 * sizeof(uint64_t) &&
+                                    sizeof(struct pekdrav_pool) == PEKDRAV_POOL_WORDS * sizeof(uint64_t) &&
                                     sizeof(struct pekdrav_record) == (PEKDRAV_STATEMENTS + 1) * sizeof(uint16_t) &&
                                     sizeof(struct pekdrav_fields) == 232 * sizeof(uint64_t) &&
                                     sizeof(struct pekdrav_evidence) == 104 * sizeof(uint64_t) &&
@@ -181,17 +185,20 @@ size_t pekdrav_statement_rewrite(const uint8_t *line, size_t line_len, size_t no
 /* Writes the rows of a schedule and answers their length; 0, with `rows` as they were, if they are too short. With PEKDRAV_ROWS_MAX bytes the schedule is
  * run once, with fewer it is run twice. */
 size_t pekdrav_schedule_rows(const uint8_t *schedule, size_t schedule_len, uint8_t *rows, size_t rows_len);
+/* Writes the service screen that controller `number` has after the last line of a schedule, as pekdrav_controller_screen does, and answers its length; 0,
+ * with `out` as it was, if `out` has fewer than PEKDRAV_SCREEN_BYTES bytes or the number is above 15. */
+size_t pekdrav_schedule_screen(const uint8_t *schedule, size_t schedule_len, uint8_t number, uint8_t *out, size_t out_len);
 
-/* What any record shows in a ring of this initial view and of `count` notices with these senders; pekdrav_controller_signers, _count_.., _evidence and
- * _screen ask it of a controller. A count above 64 counts as 64. */
+/* What any record shows in a ring of this initial view and of `count` notices with these senders; pekdrav_controller_signers, _count_.., _who_..,
+ * _ack_set, _store_set and _evidence ask it of a controller. A count above 64 counts as 64. */
 
 /* Who signed a statement of this kind, an enum pekdrav_kind, at this view: bit k for controller k. */
 uint32_t pekdrav_record_signers(const struct pekdrav_record *record, const struct pekdrav_pool *pool, uint8_t kind, uint64_t at);
-/* Writes what the record shows in lines, for a service screen, and answers the text's length; 0, with `out` as it was, if `out` has fewer than
- * PEKDRAV_SCREEN_MAX bytes. The lines: `wished,VIEW`; then `conflict` and nothing more, or `candidates,COUNT,VIEW,..` (`candidates,many` for more than
- * sixteen), `greatest,COUNT,VIEW,..` and for each notice that has a certificate `certificate,NOTICE,PAYLOAD,stored,READ` (without the notice in a ring of
- * one; `kept` if it is not stored; `certificate,none` if no notice has one). After READ statements of the record the certificate's acks were complete: the
- * least that pekdrav_record_count_acks reads, over the sealed tops at which it says yes. */
+/* Writes what the record shows in lines, and answers the text's length; 0, with `out` as it was, if `out` has fewer than PEKDRAV_SCREEN_MAX bytes. The
+ * lines: `wished,VIEW`; then `conflict` and nothing more, or `candidates,COUNT,VIEW,..` (`candidates,many` for more than sixteen), `greatest,COUNT,VIEW,..`
+ * and for each notice that has a certificate `certificate,NOTICE,PAYLOAD,stored,READ` (without the notice in a ring of one; `kept` if it is not stored;
+ * `certificate,none` if no notice has one). After READ statements of the record the certificate's acks were complete: the least that
+ * pekdrav_record_count_acks reads, over the sealed tops at which it says yes. pekdrav_controller_screen tells more, in another form. */
 size_t pekdrav_record_screen(const struct pekdrav_record *record, const struct pekdrav_pool *pool, uint64_t initial, uint8_t count,
                              const uint8_t senders[PEKDRAV_NOTICES], uint8_t *out, size_t out_len);
 
@@ -224,6 +231,21 @@ void pekdrav_raw_record_count(const struct pekdrav_record *record, const struct 
 uint8_t pekdrav_raw_record_count_reports(const struct pekdrav_record *record, const struct pekdrav_pool *pool, uint64_t initial, uint8_t count,
                                          const uint8_t senders[PEKDRAV_NOTICES], uint64_t keys[2 * PEKDRAV_STATEMENTS],
                                          uint64_t groups[PEKDRAV_STATEMENTS], uint64_t view, struct pekdrav_count *out);
+/* The same questions, answered by all members of `at` that signed. */
+uint32_t pekdrav_raw_record_who(const struct pekdrav_record *record, const struct pekdrav_pool *pool, uint8_t kind, uint8_t notice, uint64_t at,
+                                uint64_t what, const uint64_t views[PEKDRAV_VIEWS], size_t len);
+/* Answers 1; or 0, with `out` as it was, where no report is judged. */
+uint8_t pekdrav_raw_record_who_reported(const struct pekdrav_record *record, const struct pekdrav_pool *pool, uint64_t initial, uint8_t count,
+                                        const uint8_t senders[PEKDRAV_NOTICES], uint64_t keys[2 * PEKDRAV_STATEMENTS],
+                                        uint64_t groups[PEKDRAV_STATEMENTS], uint64_t view, uint32_t *out);
+uint32_t pekdrav_raw_record_ack_set(const struct pekdrav_record *record, const struct pekdrav_pool *pool, uint64_t initial, uint8_t count,
+                                    const uint8_t senders[PEKDRAV_NOTICES], uint64_t keys[2 * PEKDRAV_STATEMENTS],
+                                    uint64_t groups[PEKDRAV_STATEMENTS], uint8_t notice, uint64_t payload);
+uint32_t pekdrav_raw_record_store_set(const struct pekdrav_record *record, const struct pekdrav_pool *pool, uint64_t initial, uint8_t count,
+                                      const uint8_t senders[PEKDRAV_NOTICES], uint64_t keys[2 * PEKDRAV_STATEMENTS],
+                                      uint64_t groups[PEKDRAV_STATEMENTS], uint8_t notice, uint64_t payload);
+size_t pekdrav_raw_controller_screen(const struct pekdrav_fields *fields, const struct pekdrav_record *record, const struct pekdrav_pool *pool,
+                                     uint64_t keys[2 * PEKDRAV_STATEMENTS], uint64_t groups[PEKDRAV_STATEMENTS], uint8_t *out, size_t out_len);
 
 #ifdef __cplusplus
 }
@@ -298,6 +320,64 @@ static inline int pekdrav_record_count_reports(const struct pekdrav_record *reco
                                                const uint8_t senders[PEKDRAV_NOTICES], uint64_t view, struct pekdrav_count *out) {
     struct pekdrav_workspace work;
     return pekdrav_raw_record_count_reports(record, pool, initial, count, senders, work.keys, work.groups, view, out);
+}
+
+/* A set that is about no history. */
+static inline uint32_t pekdrav_raw_record_who_of(const struct pekdrav_record *record, const struct pekdrav_pool *pool, uint8_t kind, uint8_t notice,
+                                                 uint64_t at, uint64_t what) {
+    static const uint64_t none[PEKDRAV_VIEWS] = {0};
+    return pekdrav_raw_record_who(record, pool, kind, notice, at, what, none, 0);
+}
+
+/* All members of `at` that signed, bit k for controller k, also those after the signer with whom the count ends: that count says yes exactly where the set
+ * makes a quorum. */
+
+/* Who agreed to this view. */
+static inline uint32_t pekdrav_record_who_agreed_view(const struct pekdrav_record *record, const struct pekdrav_pool *pool, uint64_t at, uint64_t view) {
+    return pekdrav_raw_record_who_of(record, pool, PEKDRAV_KIND_AGREE_VIEW, 0, at, view);
+}
+
+/* Who agreed to the history of these `n` views; nobody agreed to more than sixteen. */
+static inline uint32_t pekdrav_record_who_agreed_history(const struct pekdrav_record *record, const struct pekdrav_pool *pool, uint64_t at,
+                                                         const uint64_t *views, size_t n) {
+    uint64_t listed[PEKDRAV_VIEWS] = {0};
+    for (size_t i = 0; i < n && i < PEKDRAV_VIEWS; i++) {
+        listed[i] = views[i];
+    }
+    return pekdrav_raw_record_who(record, pool, PEKDRAV_KIND_AGREE_HISTORY, 0, at, 0, listed, n);
+}
+
+/* Who acknowledged this payload of the notice at `at`. */
+static inline uint32_t pekdrav_record_who_acked(const struct pekdrav_record *record, const struct pekdrav_pool *pool, uint64_t at, uint8_t notice,
+                                                uint64_t payload) {
+    return pekdrav_raw_record_who_of(record, pool, PEKDRAV_KIND_ACK, notice, at, payload);
+}
+
+/* Who stored it there. */
+static inline uint32_t pekdrav_record_who_stored(const struct pekdrav_record *record, const struct pekdrav_pool *pool, uint64_t at, uint8_t notice,
+                                                 uint64_t payload) {
+    return pekdrav_raw_record_who_of(record, pool, PEKDRAV_KIND_STORE, notice, at, payload);
+}
+
+/* Who has counted reports on `view`. Answers whether it was told, as pekdrav_record_count_reports. */
+static inline int pekdrav_record_who_reported(const struct pekdrav_record *record, const struct pekdrav_pool *pool, uint64_t initial, uint8_t count,
+                                              const uint8_t senders[PEKDRAV_NOTICES], uint64_t view, uint32_t *out) {
+    struct pekdrav_workspace work;
+    return pekdrav_raw_record_who_reported(record, pool, initial, count, senders, work.keys, work.groups, view, out);
+}
+
+/* Who acknowledged this payload of the notice at the least sealed top, as written, that has a certificate for it; nobody if none has. */
+static inline uint32_t pekdrav_record_ack_set(const struct pekdrav_record *record, const struct pekdrav_pool *pool, uint64_t initial, uint8_t count,
+                                              const uint8_t senders[PEKDRAV_NOTICES], uint8_t notice, uint64_t payload) {
+    struct pekdrav_workspace work;
+    return pekdrav_raw_record_ack_set(record, pool, initial, count, senders, work.keys, work.groups, notice, payload);
+}
+
+/* Who stored it at the least sealed top, as written, of which a quorum did; nobody if there is none. */
+static inline uint32_t pekdrav_record_store_set(const struct pekdrav_record *record, const struct pekdrav_pool *pool, uint64_t initial, uint8_t count,
+                                                const uint8_t senders[PEKDRAV_NOTICES], uint8_t notice, uint64_t payload) {
+    struct pekdrav_workspace work;
+    return pekdrav_raw_record_store_set(record, pool, initial, count, senders, work.keys, work.groups, notice, payload);
 }
 
 /* A controller before its setup. */
@@ -387,6 +467,26 @@ static inline struct pekdrav_count pekdrav_controller_count_stores(const struct 
     return pekdrav_record_count_stores(&controller->record, pool, at, notice, payload);
 }
 
+static inline uint32_t pekdrav_controller_who_agreed_view(const struct pekdrav_controller *controller, const struct pekdrav_pool *pool, uint64_t at,
+                                                          uint64_t view) {
+    return pekdrav_record_who_agreed_view(&controller->record, pool, at, view);
+}
+
+static inline uint32_t pekdrav_controller_who_agreed_history(const struct pekdrav_controller *controller, const struct pekdrav_pool *pool, uint64_t at,
+                                                             const uint64_t *views, size_t n) {
+    return pekdrav_record_who_agreed_history(&controller->record, pool, at, views, n);
+}
+
+static inline uint32_t pekdrav_controller_who_acked(const struct pekdrav_controller *controller, const struct pekdrav_pool *pool, uint64_t at,
+                                                    uint8_t notice, uint64_t payload) {
+    return pekdrav_record_who_acked(&controller->record, pool, at, notice, payload);
+}
+
+static inline uint32_t pekdrav_controller_who_stored(const struct pekdrav_controller *controller, const struct pekdrav_pool *pool, uint64_t at,
+                                                     uint8_t notice, uint64_t payload) {
+    return pekdrav_record_who_stored(&controller->record, pool, at, notice, payload);
+}
+
 /* The senders of the controller's notices, and how many they are. */
 static inline uint8_t pekdrav_controller_senders(const struct pekdrav_controller *controller, uint8_t senders[PEKDRAV_NOTICES]) {
     for (int j = 0; j < PEKDRAV_NOTICES; j++) {
@@ -402,6 +502,27 @@ static inline int pekdrav_controller_count_reports(const struct pekdrav_controll
     return pekdrav_record_count_reports(&controller->record, pool, controller->fields.initial, count, senders, view, out);
 }
 
+static inline int pekdrav_controller_who_reported(const struct pekdrav_controller *controller, const struct pekdrav_pool *pool, uint64_t view,
+                                                  uint32_t *out) {
+    uint8_t senders[PEKDRAV_NOTICES];
+    uint8_t count = pekdrav_controller_senders(controller, senders);
+    return pekdrav_record_who_reported(&controller->record, pool, controller->fields.initial, count, senders, view, out);
+}
+
+static inline uint32_t pekdrav_controller_ack_set(const struct pekdrav_controller *controller, const struct pekdrav_pool *pool, uint8_t notice,
+                                                  uint64_t payload) {
+    uint8_t senders[PEKDRAV_NOTICES];
+    uint8_t count = pekdrav_controller_senders(controller, senders);
+    return pekdrav_record_ack_set(&controller->record, pool, controller->fields.initial, count, senders, notice, payload);
+}
+
+static inline uint32_t pekdrav_controller_store_set(const struct pekdrav_controller *controller, const struct pekdrav_pool *pool, uint8_t notice,
+                                                    uint64_t payload) {
+    uint8_t senders[PEKDRAV_NOTICES];
+    uint8_t count = pekdrav_controller_senders(controller, senders);
+    return pekdrav_record_store_set(&controller->record, pool, controller->fields.initial, count, senders, notice, payload);
+}
+
 static inline void pekdrav_controller_evidence(const struct pekdrav_controller *controller, const struct pekdrav_pool *pool,
                                                struct pekdrav_evidence *out) {
     uint8_t senders[PEKDRAV_NOTICES];
@@ -409,11 +530,23 @@ static inline void pekdrav_controller_evidence(const struct pekdrav_controller *
     pekdrav_record_evidence(&controller->record, pool, controller->fields.initial, count, senders, out);
 }
 
+/* Writes the controller's service screen and answers the text's length; 0, with `out` as it was, if `out` has fewer than PEKDRAV_SCREEN_BYTES bytes. Each line
+ * ends with a newline, and no byte ends the text. A view is written as its eight digits and a set of controllers as four; NUMBERS are those of a set or of a
+ * view's members, rising, each after a space. The lines:
+ *
+ * `not set up` and nothing more; or `controller K`;
+ * `left`, `stands in VIEW: NUMBERS`, `entered VIEW: NUMBERS` (the last that it entered) or `entered nothing`;
+ * `wished VIEW: NUMBERS`;
+ * `candidates VIEW ..`, `candidates: more than 16` or `conflict`;
+ * for each notice `notice I: ` and four parts with `; ` between them, after a conflict the first and the last alone: `unbound`, `bound to M` or `barred`;
+ * `no certificate` or `certificate for M acked by SET: NUMBERS` (pekdrav_record_ack_set); `not stored` or `stored by SET: NUMBERS` (pekdrav_record_store_set);
+ * `not delivered` or `delivered`;
+ * then `turns are refused with 7` or `6`; or `waits to enter VIEW for reports on VIEW from SET: NUMBERS` for each view that lacks a quorum of counted reports,
+ * with its members that have none, and `waits for a window to leave`; or `waits for nothing`. */
 static inline size_t pekdrav_controller_screen(const struct pekdrav_controller *controller, const struct pekdrav_pool *pool, uint8_t *out,
                                                size_t out_len) {
-    uint8_t senders[PEKDRAV_NOTICES];
-    uint8_t count = pekdrav_controller_senders(controller, senders);
-    return pekdrav_record_screen(&controller->record, pool, controller->fields.initial, count, senders, out, out_len);
+    struct pekdrav_workspace work;
+    return pekdrav_raw_controller_screen(&controller->fields, &controller->record, pool, work.keys, work.groups, out, out_len);
 }
 
 #endif

@@ -6,5 +6,6 @@ pub mod Verdicts
 pub mod States
 pub mod Starts
 pub mod Runs
+pub mod Ends
 pub mod One
 pub mod Answers

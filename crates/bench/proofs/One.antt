@@ -1,6 +1,7 @@
--- Reading is unique, so that a schedule has one output.
+-- Reading is unique, so that a schedule has one output, and one controller k with one record after its last line.
 --     reads-one    a line reads as one thing only
 --     printed-one  for a schedule one text is printed
+--     after-one    what is told of a controller after a schedule means one controller and one record
 -- Assumes nothing.
 use Prim.Native.Nat.{ℕ, _^_, _<_}
 use native.Mathlib.Omega.{arith}
@@ -18,8 +19,12 @@ use Rattle.text.proofs.Laws.{dec-same}
 use Rattle.statements.specs.Text.{parted, text}
 use Rattle.statements.proofs.One.{text-same}
 use Rattle.schedule.specs.Line.{Line, setup, join, leave, send, give, all, turn, lie, noStatement, Short, joinWord, leaveWord, sendWord, giveWord, allWord, turnWord, lieWord, ended, Byte, Written, Reads, lines}
-use Rattle.bench.specs.Bench.{Bench, newBench, step}
+use Rattle.pool.specs.Pool.{recordIn}
+use Rattle.engine.specs.declared.Controller.{Controller}
+use Rattle.engine.specs.Meaning.{controllerIs}
+use Rattle.bench.specs.Bench.{Bench, newBench, step, seat}
 use Rattle.bench.specs.Rows.{headerText, ReadAll, refusedRow, rowsFrom, Printed}
+use Rattle.bench.specs.After.{benchAfter, lastBench, SeatAfter}
 use Rattle.schedule.proofs.Words.{verbIs, written-verb, OfVerb, of-verb}
 use Rattle.schedule.proofs.Commands.{follows}
 use Rattle.schedule.proofs.Setups.{setup-same}
@@ -114,3 +119,17 @@ printed-one schedule out out′ p q = elim (decLt 65536 (length schedule)) [
   | no l ↦ (let same : p .reading ≡ q .reading = read-all-one newBench (lines schedule) (p .reading) (q .reading) (p .reads (omega arith)) (q .reads (omega arith)) in
       p .prints ∙ rw same (sym (q .prints)))
 ]
+
+-- WHAT IS TOLD OF A CONTROLLER AFTER A SCHEDULE MEANS ONE CONTROLLER AND ONE RECORD
+module _ (schedule : List ℕ) (k : ℕ) (c c′ : Controller) (W W′ ids ids′ : List ℕ) (p : SeatAfter schedule k c W ids) (q : SeatAfter schedule k c′ W′ ids′) where
+  last-one : lastBench schedule (p .reading) ≡ lastBench schedule (q .reading)
+  unfolding lastBench
+  last-one = elim (decLt 65536 (length schedule)) [
+    | yes l ↦ (let long : ltb 65536 (length schedule) ≡ true = lt-ltb 65536 (length schedule) l in
+        either-long (eqb (length schedule) 0) (ltb 65536 (length schedule)) newBench (benchAfter newBench (p .reading)) long
+        ∙ sym (either-long (eqb (length schedule) 0) (ltb 65536 (length schedule)) newBench (benchAfter newBench (q .reading)) long))
+    | no l ↦ ap (lastBench schedule) (read-all-one newBench (lines schedule) (p .reading) (q .reading) (p .reads (omega arith)) (q .reads (omega arith)))
+  ]
+
+  pub after-one : (controllerIs c ≡ controllerIs c′) × (recordIn W ids ≡ recordIn W′ ids′)
+  after-one = (p .controller ∙ ap (λ b. seat b k .controller) last-one ∙ sym (q .controller), p .statements ∙ ap (λ b. seat b k .statements) last-one ∙ sym (q .statements))

@@ -97,7 +97,7 @@ word-for : (a : Answer) → wordIs (wordFor a) ≡ wordText a
 word-for taken = refl
 word-for (signed s) = refl
 word-for (entered v) = refl
-word-for (delivered i m) = refl
+word-for (delivered i m who) = refl
 word-for left = refl
 word-for quiet = refl
 word-for (refused r) = refl

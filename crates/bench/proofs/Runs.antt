@@ -5,12 +5,12 @@ use mathlib.Core.Logic.{_⊎_, inl, inr}
 use mathlib.Core.Bool.{Bool, true, false, _||_, true≢false}
 use mathlib.Core.List.{List, [], _∷_, _++_, append-assoc, append-nil}
 use mathlib.Core.Option.{Option, some, none}
-use Prim.Native.Nat.{ℕ, zero, suc, _+_, _-_, _≤_, _<_, min}
+use Prim.Native.Nat.{ℕ, suc, _+_, _-_, _≤_, _<_, min}
 use native.Mathlib.Decide.{decLt, ℕ-discrete}
 use native.Mathlib.Numerals.{add-one}
 use native.Mathlib.Omega.{arith}
 use lib.Dec.{eqb, ltb}
-use lib.ListN.{length, getD, set, take, drop, replicate, length-replicate, getD-replicate, length-set, length-take, length-drop, length-append, drop-of-length-le}
+use lib.ListN.{length, getD, set, take, drop, replicate, length-replicate, getD-replicate, length-set, length-take, length-drop, length-append, drop-of-length-le, List·getD-eq-default}
 use lib.Seq.{sets, length-sets, getD-set-same, getD-set-other, set-getD, ext-getD, drop-drop, take-all}
 use borrow.Author.Tests.{lt-ltb, le-ltb, eq-eqb, ne-eqb}
 use Rattle.protocol.specs.Lists.{listOf}
@@ -41,12 +41,14 @@ use Rattle.bench.specs.declared.row.Word.{Word}
 use Rattle.bench.specs.declared.row.Value.{Value}
 use Rattle.bench.specs.declared.lines.Place.{Place}
 use Rattle.bench.specs.declared.lines.Moved.{Moved}
+use Rattle.bench.specs.declared.lines.Ended.{Ended}
 use Rattle.schedule.specs.Line.{Line, ended, lines, Reads}
 use Rattle.schedule.specs.Reading.{meant, Tells, ReadAs, LineOf}
 use Rattle.schedule.proofs.Lines.{line-ended, line-tells}
 use Rattle.bench.specs.Bench as bench
 use Rattle.bench.specs.Bench.{Seat, emptySeat, Bench, Reply, newBench, step}
 use Rattle.bench.specs.Rows.{rowText, headerText, rowsFrom, ReadAll, refusedRow, Printed}
+use Rattle.bench.specs.After.{benchAfter}
 use Rattle.bench.specs.Writing.{wordFor, valueIs, rowOf}
 use Rattle.bench.specs.Seats.{blank, seatIs, termsOf, benchOf, Sound, Full, Keeps, ReadFrom, seatOf, setupIn, MayStart, seatsAfter, replyIs, changesIs, CalledAtSeat, IfIdle, Rests, CalledByLine, nextTurn, Judged, LacksNothing, Advanced, SteppedBy, wordOfAnswer, valueOfAnswer}
 use Rattle.bench.specs.Running.{rowIs, seatsIs, benchIs, BenchKept, Fulls, Turnings, Started, Reading, RunSoFar, AtStart, HasRoom, RowWritten, RowPut, fullAfter, LineRun, Ran, PrintedInto}
@@ -61,7 +63,7 @@ unfolding answerIs
 shows W Taken n = (refl, refl)
 shows W (Signed i) n = (refl, refl)
 shows W (Entered v) n = (refl, refl)
-shows W (Delivered i m) n = (refl, refl)
+shows W (Delivered i m who) n = (refl, refl)
 shows W Left n = (refl, refl)
 shows W Quiet n = (refl, refl)
 shows W (Refused r) n = (refl, refl)
@@ -167,7 +169,7 @@ unfolding answerIs
 idle-same W W′ Taken e = refl
 idle-same W W′ (Signed n) e = absurd (true≢false e)
 idle-same W W′ (Entered v) e = refl
-idle-same W W′ (Delivered i m) e = refl
+idle-same W W′ (Delivered i m who) e = refl
 idle-same W W′ Left e = refl
 idle-same W W′ Quiet e = refl
 idle-same W W′ (Refused r) e = refl
@@ -287,13 +289,13 @@ module _ (S : List ℕ) (place on : Place) (b b′ : Bench) (R R′ R″ : List 
   some-left : 0 < length (drop (place .at) S)
   some-left = omega (arith, length-drop (place .at) S)
 
-  rest-of : (L : List (Option Line)) → ReadAll b′ (lines (drop (on .at) S)) L → Reading S (going .printed ++ row) (rowsFrom (on .n) b′ L)
-  unfolding rowsFrom
+  rest-of : (L : List (Option Line)) → ReadAll b′ (lines (drop (on .at) S)) L → Reading S (going .printed ++ row) (rowsFrom (on .n) b′ L) (benchAfter b′ L)
+  unfolding rowsFrom benchAfter
   rest-of L q =
       let q′ : ReadAll b′ (lines (drop (r .next) (drop (place .at) S))) L = subst (λ t. ReadAll b′ (lines t) L) (ap (λ i. drop i S) (p .at) ∙ sym (drop-drop (r .next) (place .at) S)) q in
       let q″ : ReadAll (step b this .bench) (lines (drop (r .next) (drop (place .at) S))) L = subst (λ (t : bench.Stepped). ReadAll (t .bench) (lines (drop (r .next) (drop (place .at) S))) L) (sym left) q′ in
       let all : ReadAll b (lines (drop (place .at) S)) (this ∷ L) = subst (λ t. ReadAll b t (this ∷ L)) (sym (of .first some-left)) (is-this, q″) in
-      let whole : Reading S (going .printed) (rowsFrom (place .n) b (this ∷ L)) = going .rest (this ∷ L) all in
+      let whole : Reading S (going .printed) (rowsFrom (place .n) b (this ∷ L)) (benchAfter b (this ∷ L)) = going .rest (this ∷ L) all in
       record {
         reading = whole .reading;
         reads = whole .reads;
@@ -301,6 +303,7 @@ module _ (S : List ℕ) (place on : Place) (b b′ : Bench) (R R′ R″ : List 
             ∙ ap (λ (t : bench.Stepped). going .printed ++ (rowText (place .n) (t .reply) ++ rowsFrom (suc (place .n)) (t .bench) L)) left
             ∙ sym (append-assoc (going .printed) row (rowsFrom (suc (place .n)) b′ L))
             ∙ ap (λ t. (going .printed ++ row) ++ rowsFrom t b′ L) (sym (p .number ∙ add-one (place .n)));
+        ends = whole .ends ∙ ap (λ (t : bench.Stepped). benchAfter (t .bench) L) left;
       }
 
   goes-on : RunSoFar S on b′ R R″
@@ -494,32 +497,36 @@ module _ (W R : List ℕ) (place : Place) (l : Held) (T : List ℕ) (full : ℕ)
 
 -- ---- the start and the end
 
-pub going-end : {S : List ℕ} {place : Place} {b : Bench} {R R′ : List ℕ} → RunSoFar S place b R R′ → length S ≤ place .at → length S ≤ 65536 → Ran S R R′ (place .out)
-unfolding rowsFrom lines
-going-end {S} {place} {b} {R} {R′} g e l = record {
+pub going-end : {S : List ℕ} {place : Place} {W : List ℕ} (cs : List Controller) (Rs : List (List ℕ)) {R R′ : List ℕ} {k : ℕ} {e : Ended} → RunSoFar S place (benchIs (place .setting) W cs Rs) R R′ → length S ≤ place .at → length S ≤ 65536 → k < 16
+    → (e .out ≡ place .out) × (e .controller ≡ getD cs k blank) × (e .ids ≡ getD Rs k []) → Ran S R R′ k e W
+unfolding rowsFrom benchAfter lines
+going-end {S} {place} {W} cs Rs {R} {R′} {k} {e} g m l h d = record {
   printed = g .printed;
-  wrote = g .wrote;
+  wrote = subst (λ o. Wrote R 22 (g .printed) o R′) (sym (d .0)) (g .wrote);
   small = omega (arith, g .small, g .within);
-  ran = g .rest [] (subst (λ t. ReadAll b (lines t) []) (sym (drop-of-length-le S e)) tt);
+  final = benchIs (place .setting) W cs Rs;
+  ran = g .rest [] (subst (λ t. ReadAll (benchIs (place .setting) W cs Rs) (lines t) []) (sym (drop-of-length-le S m)) tt);
+  sixteen = seats-long W cs Rs;
+  held = seat-there W cs Rs k h ∙ ap₂ (seatIs W) (sym (d .1)) (sym (d .2));
 }
 
 zero-at : (n i : ℕ) → _≡_ {A = ℕ} (getD (replicate n 0) i 0) 0
 zero-at n i = elim (decLt i n) [
   | yes l ↦ getD-replicate n i 0 0 l
-  | no l ↦ getD-past (replicate n 0) i (omega (arith, length-replicate {A = ℕ} n 0))
+  | no l ↦ List·getD-eq-default (replicate n 0) 0 (omega (arith, length-replicate {A = ℕ} n 0))
 ]
-  where
-    getD-past : (l : List ℕ) (i : ℕ) → length l ≤ i → getD l i 0 ≡ 0
-    getD-past [] i h = refl
-    getD-past (x ∷ l) zero h = absurd (omega arith)
-    getD-past (x ∷ l) (suc i) h = getD-past l i (omega arith)
+
+empty-length : (n : ℕ) → recordLen (replicate n 0) ≡ 0
+empty-length n = let z : _≡_ {A = ℕ} (getD (replicate n 0) 512 0) 0 = zero-at n 512 in omega arith
+
+-- a record of zeros is empty
+pub no-record : (W : List ℕ) (n : ℕ) → recordIn W (replicate n 0) ≡ []
+unfolding recordUpTo listOf
+no-record W n = ap (λ i. listOf i (λ i. stmtAt W (getD (replicate n 0) i 0))) (empty-length n)
 
 module _ (c : Controller) (fresh : controllerIs c ≡ controller.notSetUp) (m n : ℕ) (e : m ≡ 16) (W₀ : List ℕ) (empty-pool : poolLen W₀ ≡ 0) where
   abbrev R₀ : List ℕ
   R₀ = replicate n 0
-
-  empty-length : recordLen R₀ ≡ 0
-  empty-length = let z : _≡_ {A = ℕ} (getD R₀ 512 0) 0 = zero-at n 512 in omega arith
 
   record-is : (k : ℕ) → k < 16 → getD (replicate m R₀) k [] ≡ R₀
   record-is k l = getD-replicate m k R₀ [] (omega arith)
@@ -527,13 +534,9 @@ module _ (c : Controller) (fresh : controllerIs c ≡ controller.notSetUp) (m n 
   controller-is : (k : ℕ) → k < 16 → getD (replicate m c) k blank ≡ c
   controller-is k l = getD-replicate m k c blank (omega arith)
 
-  no-record : recordIn W₀ R₀ ≡ []
-  unfolding recordUpTo listOf
-  no-record = ap (λ i. listOf i (λ i. stmtAt W₀ (getD R₀ i 0))) empty-length
-
   no-numbers : AllIn W₀ R₀
   unfolding AllIn
-  no-numbers i l = absurd (omega (arith, empty-length))
+  no-numbers i l = absurd (omega (arith, empty-length n))
 
   pub kept-first : BenchKept W₀ (replicate m c) (replicate m R₀)
   kept-first = record {
@@ -547,7 +550,7 @@ module _ (c : Controller) (fresh : controllerIs c ≡ controller.notSetUp) (m n 
   unfolding seatsIs
   bench-first = ap₂ (λ X P. record { isSetUp = false; faulty = 0; notices = 1; seats = X; pool = P })
       (listOf-cong 16 (λ k. seatIs W₀ (getD (replicate m c) k blank) (getD (replicate m R₀) k [])) (λ k. emptySeat)
-      (λ k l. ap₂ (λ x y. record { controller = controllerIs x; statements = recordIn W₀ y }) (controller-is k l) (record-is k l) ∙ ap₂ (λ x y. record { controller = x; statements = y }) fresh no-record))
+      (λ k l. ap₂ (λ x y. record { controller = controllerIs x; statements = recordIn W₀ y }) (controller-is k l) (record-is k l) ∙ ap₂ (λ x y. record { controller = x; statements = y }) fresh (no-record W₀ n)))
       (sym (no-pool W₀ empty-pool))
 
   pub going-first : (S R : List ℕ) (place : Place) → AtStart place → RunSoFar S place (benchIs (place .setting) W₀ (replicate m c) (replicate m R₀)) R R
@@ -561,6 +564,7 @@ module _ (c : Controller) (fresh : controllerIs c ≡ controller.notSetUp) (m n 
       reading = L;
       reads = subst (λ i. ReadAll newBench (lines (drop i S)) L) (b .at) (subst (λ t. ReadAll t (lines (drop (place .at) S)) L) first-is q);
       rows = ap₂ (λ n t. rowsFrom n t L) (sym (b .number)) (sym first-is);
+      ends = ap (λ t. benchAfter t L) (sym first-is);
     };
   }
     where
@@ -575,7 +579,7 @@ module _ (c : Controller) (fresh : controllerIs c ≡ controller.notSetUp) (m n 
 headed : (S R R′ R″ xs : List ℕ) (r : ℕ) → Printed S (headerText ++ xs) → R′ ≡ sets R 0 headerText → Wrote R′ 22 xs r R″ → length xs ≤ 2621440 → PrintedInto S R r R″
 headed S R R′ R″ xs r p e w m = record { text = headerText ++ xs; printed = p; wrote = both {s = headerText} (record { next = refl; is = e }) w; small = omega (arith, length-append headerText xs) }
 
-empty-reads : (S : List ℕ) → length S ≡ 0 → ReadAll newBench (lines S) []
+pub empty-reads : (S : List ℕ) → length S ≡ 0 → ReadAll newBench (lines S) []
 unfolding lines
 empty-reads [] e = tt
 empty-reads (x ∷ S) e = absurd (omega arith)
@@ -595,8 +599,8 @@ module _ (S R R′ R″ : List ℕ) (r : ℕ) (e : R′ ≡ sets R 0 headerText)
   pub printed-long : 65536 < length S → PrintedInto S R r R″
   printed-long z = refusal (record { reading = []; reads = λ h. absurd (omega arith); prints = ap (λ t. headerText ++ t) (sym (if-true (eqb (length S) 0 || ltb 65536 (length S)) refusedRow (rowsFrom 1 newBench []) (ap (λ b. eqb (length S) 0 || b) (lt-ltb 65536 (length S) z) ∙ or-yes (eqb (length S) 0)))) })
 
-pub printed-run : (S R R′ R″ : List ℕ) (r : ℕ) → R′ ≡ sets R 0 headerText → Ran S R′ R″ r → (length S ≡ 0 → ⊥) → length S ≤ 65536 → PrintedInto S R r R″
-printed-run S R R′ R″ r e m a b = headed S R R′ R″ (m .printed) r (record {
+pub printed-run : (S R R′ R″ : List ℕ) {k : ℕ} {d : Ended} {W : List ℕ} → R′ ≡ sets R 0 headerText → Ran S R′ R″ k d W → (length S ≡ 0 → ⊥) → length S ≤ 65536 → PrintedInto S R (d .out) R″
+printed-run S R R′ R″ {d = d} e m a b = headed S R R′ R″ (m .printed) (d .out) (record {
   reading = m .ran .reading;
   reads = λ h. m .ran .reads;
   prints = ap (λ t. headerText ++ t) (sym (m .ran .rows ∙ append-nil (m .printed)) ∙ sym (if-false (eqb (length S) 0 || ltb 65536 (length S)) refusedRow (rowsFrom 1 newBench (m .ran .reading)) (ap₂ _||_ (ne-eqb (length S) 0 a) (le-ltb 65536 (length S) b))));

@@ -316,7 +316,7 @@ abbrev poolThen : controller.Answer → List Stmt → List Stmt
 poolThen controller.taken P = P
 poolThen (controller.signed s) P = pooled s P
 poolThen (controller.entered v) P = P
-poolThen (controller.delivered i m) P = P
+poolThen (controller.delivered i m who) P = P
 poolThen controller.left P = P
 poolThen controller.quiet P = P
 poolThen (controller.refused r) P = P
@@ -325,7 +325,7 @@ abbrev numberThen : controller.Answer → List Stmt → ℕ
 numberThen controller.taken P = 0
 numberThen (controller.signed s) P = numberOf s P
 numberThen (controller.entered v) P = 0
-numberThen (controller.delivered i m) P = 0
+numberThen (controller.delivered i m who) P = 0
 numberThen controller.left P = 0
 numberThen controller.quiet P = 0
 numberThen (controller.refused r) P = 0
@@ -335,7 +335,7 @@ unfolding bench.afterTurn
 after-turn b k o controller.taken = refl
 after-turn b k o (controller.signed s) = refl
 after-turn b k o (controller.entered v) = refl
-after-turn b k o (controller.delivered i m) = refl
+after-turn b k o (controller.delivered i m who) = refl
 after-turn b k o controller.left = refl
 after-turn b k o controller.quiet = refl
 after-turn b k o (controller.refused r) = refl
@@ -344,7 +344,7 @@ pool-then : (W W′ : List ℕ) (a : controller.Answer) → PoolAfter W (signedO
 pool-then W W′ controller.taken e = ap poolOf e
 pool-then W W′ (controller.signed s) e = e .is
 pool-then W W′ (controller.entered v) e = ap poolOf e
-pool-then W W′ (controller.delivered i m) e = ap poolOf e
+pool-then W W′ (controller.delivered i m who) e = ap poolOf e
 pool-then W W′ controller.left e = ap poolOf e
 pool-then W W′ controller.quiet e = ap poolOf e
 pool-then W W′ (controller.refused r) e = ap poolOf e
@@ -354,7 +354,7 @@ unfolding answerIs
 not-signed W Taken a e h = refl
 not-signed W (Signed n) a e h = let q = ap signedOf e ∙ h in let z : _≡_ {A = ℕ} 0 1 = cc in absurd (omega arith)
 not-signed W (Entered v) a e h = refl
-not-signed W (Delivered i m) a e h = refl
+not-signed W (Delivered i m who) a e h = refl
 not-signed W Left a e h = refl
 not-signed W Quiet a e h = refl
 not-signed W (Refused q) a e h = refl
@@ -363,7 +363,7 @@ number-then : (W W′ : List ℕ) (x : Answer) (a : controller.Answer) → answe
 number-then W W′ x controller.taken e h = sym (not-signed W′ x controller.taken e refl)
 number-then W W′ x (controller.signed s) e h = sym (ap signedNumber (h s refl))
 number-then W W′ x (controller.entered v) e h = sym (not-signed W′ x (controller.entered v) e refl)
-number-then W W′ x (controller.delivered i m) e h = sym (not-signed W′ x (controller.delivered i m) e refl)
+number-then W W′ x (controller.delivered i m who) e h = sym (not-signed W′ x (controller.delivered i m who) e refl)
 number-then W W′ x controller.left e h = sym (not-signed W′ x controller.left e refl)
 number-then W W′ x controller.quiet e h = sym (not-signed W′ x controller.quiet e refl)
 number-then W W′ x (controller.refused r) e h = sym (not-signed W′ x (controller.refused r) e refl)
@@ -382,7 +382,7 @@ turn-keeps : (W W′ : List ℕ) (a : controller.Answer) → poolOf W′ ≡ poo
 turn-keeps W W′ controller.taken e d = (same-distinct e d, same-grows e)
 turn-keeps W W′ (controller.signed s) e d = pooled-keeps W W′ s e d
 turn-keeps W W′ (controller.entered v) e d = (same-distinct e d, same-grows e)
-turn-keeps W W′ (controller.delivered i m) e d = (same-distinct e d, same-grows e)
+turn-keeps W W′ (controller.delivered i m who) e d = (same-distinct e d, same-grows e)
 turn-keeps W W′ controller.left e d = (same-distinct e d, same-grows e)
 turn-keeps W W′ controller.quiet e d = (same-distinct e d, same-grows e)
 turn-keeps W W′ (controller.refused r) e d = (same-distinct e d, same-grows e)
@@ -419,7 +419,7 @@ keeps-after : (W R R′ : List ℕ) (a : controller.Answer) → NumbersAfter W R
 keeps-after W R R′ controller.taken e = subst (Keeps R) (sym e) (keeps-same R)
 keeps-after W R R′ (controller.signed s) e = keeps-pushed R R′ (numberOf s (poolOf W)) e
 keeps-after W R R′ (controller.entered v) e = subst (Keeps R) (sym e) (keeps-same R)
-keeps-after W R R′ (controller.delivered i m) e = subst (Keeps R) (sym e) (keeps-same R)
+keeps-after W R R′ (controller.delivered i m who) e = subst (Keeps R) (sym e) (keeps-same R)
 keeps-after W R R′ controller.left e = subst (Keeps R) (sym e) (keeps-same R)
 keeps-after W R R′ controller.quiet e = subst (Keeps R) (sym e) (keeps-same R)
 keeps-after W R R′ (controller.refused r) e = subst (Keeps R) (sym e) (keeps-same R)
@@ -477,7 +477,7 @@ module _ (W R W′ R′ : List ℕ) (c : Controller) (k minute : ℕ) (ro : Outc
       go Taken e = tt
       go (Signed n) e = tt
       go (Entered v) e = tt
-      go (Delivered i m) e = tt
+      go (Delivered i m who) e = tt
       go Left e = again Left refl (sym (m .answer) ∙ ap (answerIs W′) e) tt
       go Quiet e = again Quiet refl (sym (m .answer) ∙ ap (answerIs W′) e) tt
       go (Refused r) e = tt

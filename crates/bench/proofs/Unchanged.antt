@@ -30,7 +30,7 @@ unfolding answerIs
 idle-answer W Taken e = true≢false e
 idle-answer W (Signed n) e = true≢false e
 idle-answer W (Entered v) e = true≢false e
-idle-answer W (Delivered i m) e = true≢false e
+idle-answer W (Delivered i m who) e = true≢false e
 idle-answer W Left e = tt
 idle-answer W Quiet e = tt
 idle-answer W (Refused r) e = tt
@@ -60,7 +60,7 @@ abbrev pub Resting : controller.Answer → Type 0
 Resting controller.taken = ⊥
 Resting (controller.signed s) = ⊥
 Resting (controller.entered v) = ⊥
-Resting (controller.delivered i m) = ⊥
+Resting (controller.delivered i m who) = ⊥
 Resting controller.left = Unit {0}
 Resting controller.quiet = Unit {0}
 Resting (controller.refused r) = ⊥

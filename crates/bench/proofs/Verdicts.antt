@@ -179,7 +179,7 @@ unfolding answerIs bench.afterTurn
 after-idle W b k o Taken e = absurd (true≢false e)
 after-idle W b k o (Signed n) e = absurd (true≢false e)
 after-idle W b k o (Entered v) e = absurd (true≢false e)
-after-idle W b k o (Delivered i m) e = absurd (true≢false e)
+after-idle W b k o (Delivered i m who) e = absurd (true≢false e)
 after-idle W b k o Left e = refl
 after-idle W b k o Quiet e = refl
 after-idle W b k o (Refused r) e = refl
@@ -188,7 +188,7 @@ still-rests : {W R : List ℕ} {c : Controller} (a : Answer) → Rests W R c a �
 still-rests Taken r = tt
 still-rests (Signed n) r = tt
 still-rests (Entered v) r = tt
-still-rests (Delivered i m) r = tt
+still-rests (Delivered i m who) r = tt
 still-rests Left r = r
 still-rests Quiet r = r
 still-rests (Refused q) r = tt

@@ -108,7 +108,7 @@ module _ (b : Bench) where
   afterTurn k o (signed s) = at k o (pooled s (b .pool)) (numberOf s (b .pool))
   afterTurn k o taken = at k o (b .pool) 0
   afterTurn k o (entered v) = at k o (b .pool) 0
-  afterTurn k o (delivered i m) = at k o (b .pool) 0
+  afterTurn k o (delivered i m who) = at k o (b .pool) 0
   afterTurn k o left = at k o (b .pool) 0
   afterTurn k o quiet = at k o (b .pool) 0
   afterTurn k o (refused r) = at k o (b .pool) 0

@@ -19,7 +19,7 @@ abbrev pub wordText : Answer → List ℕ
 wordText taken = 116 ∷ 97 ∷ 107 ∷ 101 ∷ 110 ∷ []
 wordText (signed s) = 115 ∷ 105 ∷ 103 ∷ 110 ∷ 101 ∷ 100 ∷ []
 wordText (entered v) = 101 ∷ 110 ∷ 116 ∷ 101 ∷ 114 ∷ 101 ∷ 100 ∷ []
-wordText (delivered i m) = 100 ∷ 101 ∷ 108 ∷ 105 ∷ 118 ∷ 101 ∷ 114 ∷ 101 ∷ 100 ∷ []
+wordText (delivered i m who) = 100 ∷ 101 ∷ 108 ∷ 105 ∷ 118 ∷ 101 ∷ 114 ∷ 101 ∷ 100 ∷ []
 wordText left = 108 ∷ 101 ∷ 102 ∷ 116 ∷ []
 wordText quiet = 113 ∷ 117 ∷ 105 ∷ 101 ∷ 116 ∷ []
 wordText (refused r) = 114 ∷ 101 ∷ 102 ∷ 117 ∷ 115 ∷ 101 ∷ 100 ∷ []

@@ -7,9 +7,10 @@ use mathlib.Core.Option.{Option, some}
 use Prim.Native.Nat.{ℕ, _+_, _*_, _<_, _≤_}
 use lib.ListN.{length, getD, drop}
 use Rattle.protocol.specs.Lists.{listOf}
+use Rattle.protocol.specs.Controller.{notSetUp}
 use Rattle.protocol.specs.Call.{Setup, started}
 use Rattle.text.specs.Written.{Wrote}
-use Rattle.pool.specs.Pool.{recordLen, AllIn}
+use Rattle.pool.specs.Pool.{recordLen, recordIn, AllIn}
 use Rattle.engine.specs.declared.Controller.{Controller}
 use Rattle.engine.specs.declared.Answer.{Answer}
 use Rattle.engine.specs.Meaning.{controllerIs}
@@ -18,9 +19,11 @@ use Rattle.bench.specs.declared.state.Verdict.{Verdict}
 use Rattle.bench.specs.declared.state.Verdict.the-variants.{Open}
 use Rattle.bench.specs.declared.lines.Place.{Place}
 use Rattle.bench.specs.declared.lines.Moved.{Moved}
+use Rattle.bench.specs.declared.lines.Ended.{Ended}
 use Rattle.schedule.specs.Line.{Line, ended, lines, Reads}
-use Rattle.bench.specs.Bench.{Seat, Bench, Reply, newBench}
-use Rattle.bench.specs.Rows.{rowText, rowsFrom, ReadAll, Printed}
+use Rattle.bench.specs.Bench.{Seat, Bench, Reply, newBench, seat}
+use Rattle.bench.specs.Rows.{rowText, rowsFrom, ReadAll, refusedRow, Printed}
+use Rattle.bench.specs.After.{benchAfter, lastBench, SeatAfter}
 use Rattle.bench.specs.Writing.{rowOf}
 use Rattle.bench.specs.Seats.{blank, seatIs, termsOf, benchOf, Distinct, Full, IfIdle, Rests, Advanced, wordOfAnswer, valueOfAnswer}
 
@@ -59,11 +62,12 @@ pub record Started (p : Setup) (cs : List Controller) (Rs : List (List ℕ)) : T
   pub records : length Rs ≡ 16
   pub each : (k : ℕ) → k < 16 → (controllerIs (getD cs k blank) ≡ started k p) × (recordLen (getD Rs k []) ≡ 0)
 
--- The whole schedule reads so, and its rows are those printed and then those of the rest.
-pub record Reading (S : List ℕ) (printed rest : List ℕ) : Type 0 where
+-- The whole schedule reads so, its rows are those printed and then those of the rest, and the bench after it is `final`.
+pub record Reading (S : List ℕ) (printed rest : List ℕ) (final : Bench) : Type 0 where
   pub reading : List (Option Line)
   pub reads : ReadAll newBench (lines S) reading
   pub rows : rowsFrom 1 newBench reading ≡ printed ++ rest
+  pub ends : benchAfter newBench reading ≡ final
 
 -- The lines before the place were run, and b is the bench; `printed` stands in the rows R′ after the header.
 pub record RunSoFar (S : List ℕ) (place : Place) (b : Bench) (R R′ : List ℕ) : Type 0 where
@@ -72,7 +76,7 @@ pub record RunSoFar (S : List ℕ) (place : Place) (b : Bench) (R R′ : List �
   pub small : length printed ≤ 40 * place .at
   pub number : place .n ≤ place .at + 1
   pub within : place .at ≤ length S
-  pub rest : (L : List (Option Line)) → ReadAll b (lines (drop (place .at) S)) L → Reading S printed (rowsFrom (place .n) b L)
+  pub rest : (L : List (Option Line)) → ReadAll b (lines (drop (place .at) S)) L → Reading S printed (rowsFrom (place .n) b L) (benchAfter b L)
 
 -- A run before the first line, with the rows after the header.
 pub record AtStart (place : Place) : Type 0 where
@@ -115,12 +119,15 @@ pub record LineRun (W R : List ℕ) (place : Place) (k : ℕ) (T : List ℕ) (ro
   pub advanced : Advanced W R (place .setting) k line reply (s .place .setting) (s .fresh) W′ R′ S A
   pub full-is : s .fresh ≡ false → Full R′ (s .full)
 
--- The rows of a schedule stand after the header.
-pub record Ran (S : List ℕ) (R R′ : List ℕ) (out : ℕ) : Type 0 where
+-- The rows of a schedule stand after the header; `final` is the bench after its last line, and e has controller k of it, whose record is over the pool's memory W.
+pub record Ran (S : List ℕ) (R R′ : List ℕ) (k : ℕ) (e : Ended) (W : List ℕ) : Type 0 where
   pub printed : List ℕ
-  pub wrote : Wrote R 22 printed out R′
+  pub wrote : Wrote R 22 printed (e .out) R′
   pub small : length printed ≤ 2621440
-  pub ran : Reading S printed []
+  pub final : Bench
+  pub ran : Reading S printed [] final
+  pub sixteen : length (final .seats) ≡ 16
+  pub held : seat final k ≡ seatIs W (e .controller) (e .ids)
 
 -- Of what is printed for S, as much as has room stands in R′ from the start; r is the length of all of it.
 pub record PrintedInto (S R : List ℕ) (r : ℕ) (R′ : List ℕ) : Type 0 where
@@ -128,6 +135,19 @@ pub record PrintedInto (S R : List ℕ) (r : ℕ) (R′ : List ℕ) : Type 0 whe
   pub printed : Printed S text
   pub wrote : Wrote R 0 text r R′
   pub small : length text ≤ 2621504
+
+-- What is left of a schedule that is not run: its only row stands after the header, and e has a controller that is not set up, with an empty record.
+pub record NotRun (R : List ℕ) (e : Ended) (R′ : List ℕ) : Type 0 where
+  pub wrote : Wrote R 22 refusedRow (e .out) R′
+  pub small : length refusedRow ≤ 40
+  pub controller : controllerIs (e .controller) ≡ notSetUp
+  pub none : (W : List ℕ) → recordIn W (e .ids) ≡ []
+
+-- A schedule was run over the rows R and the pool's memory, which is W after it, and e has what is told of controller k.
+pub record RanWith (S R : List ℕ) (k : ℕ) (e : Ended) (R′ W : List ℕ) : Type 0 where
+  pub into : PrintedInto S R (e .out) R′
+  pub after : SeatAfter S k (e .controller) W (e .ids)
+  pub sixteen : length (lastBench S (after .reading) .seats) ≡ 16
 
 -- r is the length of what is printed for S.
 pub record Long (S : List ℕ) (r : ℕ) : Type 0 where

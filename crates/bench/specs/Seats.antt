@@ -160,7 +160,7 @@ abbrev pub changesIs : Answer → Bool
 changesIs Taken = true
 changesIs (Signed n) = true
 changesIs (Entered v) = true
-changesIs (Delivered i m) = true
+changesIs (Delivered i m who) = true
 changesIs Left = false
 changesIs Quiet = false
 changesIs (Refused r) = false
@@ -225,7 +225,7 @@ abbrev pub turnAfter : Answer → Verdict
 turnAfter Taken = Open
 turnAfter (Signed n) = Open
 turnAfter (Entered v) = Open
-turnAfter (Delivered i m) = Open
+turnAfter (Delivered i m who) = Open
 turnAfter Left = Idle Left
 turnAfter Quiet = Idle Quiet
 turnAfter (Refused r) = Open
@@ -376,7 +376,7 @@ abbrev pub wordOfAnswer : Answer → Word
 wordOfAnswer Taken = word.Taken
 wordOfAnswer (Signed n) = word.Signed
 wordOfAnswer (Entered v) = word.Entered
-wordOfAnswer (Delivered i m) = word.Delivered
+wordOfAnswer (Delivered i m who) = word.Delivered
 wordOfAnswer Left = word.Left
 wordOfAnswer Quiet = word.Quiet
 wordOfAnswer (Refused r) = word.Refused
@@ -385,7 +385,7 @@ abbrev pub valueOfAnswer : Answer → ℕ → Value
 valueOfAnswer Taken n = value.Number n
 valueOfAnswer (Signed i) n = value.Number n
 valueOfAnswer (Entered v) n = value.View v
-valueOfAnswer (Delivered i m) n = value.Number m
+valueOfAnswer (Delivered i m who) n = value.Number m
 valueOfAnswer Left n = value.Number 0
 valueOfAnswer Quiet n = value.Number 0
 valueOfAnswer (Refused r) n = value.Number (refusalNumber (refusalIs r))

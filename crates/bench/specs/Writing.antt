@@ -20,7 +20,7 @@ abbrev pub wordFor : Answer → Word
 wordFor taken = Taken
 wordFor (signed s) = Signed
 wordFor (entered v) = Entered
-wordFor (delivered i m) = Delivered
+wordFor (delivered i m who) = Delivered
 wordFor left = Left
 wordFor quiet = Quiet
 wordFor (refused r) = Refused
@@ -30,7 +30,7 @@ abbrev pub wordIs : Word → List ℕ
 wordIs Taken = wordText taken
 wordIs Signed = wordText (signed noStmt)
 wordIs Entered = wordText (entered noView)
-wordIs Delivered = wordText (delivered 0 0)
+wordIs Delivered = wordText (delivered 0 0 0)
 wordIs Left = wordText left
 wordIs Quiet = wordText quiet
 wordIs Refused = wordText (refused outOfPlace)

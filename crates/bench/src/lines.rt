@@ -7,9 +7,10 @@ ghost use Rattle.text.specs.Written.{Wrote};
 ghost use Rattle.engine.specs.Meaning.{setupIs};
 ghost use Rattle.schedule.specs.declared.line.Parsed.the-variants.{Readable};
 ghost use Rattle.bench.specs.Rows.{refusedRow, Answered};
+ghost use Rattle.bench.specs.After.{SeatAfter};
 ghost use Rattle.bench.specs.Seats.{Sound, Full, ReadFrom, seatOf, isCall, wordOfAnswer, valueOfAnswer, MayStart};
 ghost use Rattle.bench.specs.Writing.{rowOf};
-ghost use Rattle.bench.specs.Running.{rowIs, Started, HasRoom, RowPut, fullAfter, LineRun, AtStart, Ran, PrintedInto, Long};
+ghost use Rattle.bench.specs.Running.{rowIs, Started, HasRoom, RowPut, fullAfter, LineRun, AtStart, Ran, NotRun, RanWith, PrintedInto, Long};
 ghost use Rattle.pool.specs.Pool.{poolLen};
 use crate::row;
 use crate::row::Value;
@@ -49,7 +50,7 @@ fn word_of(a: Answer) -> Word
         Answer::Taken => Word::Taken,
         Answer::Signed(_) => Word::Signed,
         Answer::Entered(_) => Word::Entered,
-        Answer::Delivered(_, _) => Word::Delivered,
+        Answer::Delivered(_, _, _) => Word::Delivered,
         Answer::Left => Word::Left,
         Answer::Quiet => Word::Quiet,
         Answer::Refused(_) => Word::Refused,
@@ -63,7 +64,7 @@ fn value_of(a: Answer, n: u64) -> Value
         Answer::Taken => Value::Number(n),
         Answer::Signed(_) => Value::Number(n),
         Answer::Entered(v) => Value::View(v),
-        Answer::Delivered(_, m) => Value::Number(m),
+        Answer::Delivered(_, m, _) => Value::Number(m),
         Answer::Left => Value::Number(0),
         Answer::Quiet => Value::Number(0),
         Answer::Refused(r) => Value::Number(engine::refusal_number(r)),
@@ -83,6 +84,13 @@ struct Moved {
     place: Place,
     fresh: bool,
     full: usize,
+}
+
+// What a run leaves: where its rows end, and the controller that was asked for, with its record.
+struct Ended {
+    out: usize,
+    controller: Controller,
+    ids: [u16; RECORD],
 }
 
 // Writes a row, and goes on with the line that starts so many bytes later.
@@ -226,10 +234,21 @@ fn first() -> Place
     }
 }
 
-// The rows of a schedule's lines, after the header.
-fn run_lines(schedule: &[u8], rows: &mut [u8]) -> usize
-    requires { ⌜ length (now schedule) ≤ 65536 ⌝ }
-    ensures { λ r. ⌜ Ran (now (schedule .entry)) (now (rows .entry)) (now (rows .exit)) r ⌝ }
+// Beside `run_lines`, which it keeps shorter.
+fn end_of(out: usize, controller: Controller, ids: [u16; RECORD]) -> Ended
+    ensures { λ r. ⌜ (r .out ≡ out) × (r .controller ≡ controller) × (r .ids ≡ ids) ⌝ }
+{
+    Ended {
+        out,
+        controller,
+        ids,
+    }
+}
+
+// The rows of a schedule's lines, after the header, and one controller after the last line. The pool is in lent memory.
+fn run_lines(schedule: &[u8], rows: &mut [u8], words: &mut [u64; POOL_WORDS], who: usize) -> Ended
+    requires { ⌜ (length (now schedule) ≤ 65536) × (who < 16) ⌝ }
+    ensures { λ r. ⌜ Ran (now (schedule .entry)) (now (rows .entry)) (now (rows .exit)) who r (now (words .exit)) ⌝ }
 {
     let c = Controller::new();
     let mut seats = [c; SEATS];
@@ -238,8 +257,7 @@ fn run_lines(schedule: &[u8], rows: &mut [u8]) -> usize
     let mut full = [0usize; SEATS];
     // A turn that finds nothing to do, and waits for no window, finds nothing again until its controller or its record changes.
     let mut turns = [Verdict::Open; SEATS];
-    let mut words = [0u64; POOL_WORDS];
-    pool::clear(&mut words);
+    pool::clear(words);
     let mut place = first();
     while place.at < schedule.len() {
         let at = place.at;
@@ -263,7 +281,7 @@ fn run_lines(schedule: &[u8], rows: &mut [u8]) -> usize
                 continue;
             }
             let named = seats[k];
-            let o = state::call(named, &mut records[k], &mut words, line);
+            let o = state::call(named, &mut records[k], words, line);
             let a = o.answer;
             if state::changes(a) {
                 let d = o.controller;
@@ -277,7 +295,7 @@ fn run_lines(schedule: &[u8], rows: &mut [u8]) -> usize
         let below = full[k];
         let setting = place.setting;
         // Nothing changes, and most lines of a long honest schedule are such.
-        if state::lacks_nothing(line, setting, &words, below) {
+        if state::lacks_nothing(line, setting, words, below) {
             let on = put_line(rows, place, next, k as u64, Word::Taken, Value::Number(0));
             place = on;
             continue;
@@ -289,7 +307,7 @@ fn run_lines(schedule: &[u8], rows: &mut [u8]) -> usize
             rows,
             place,
             &mut records[k],
-            &mut words,
+            words,
             line,
             text,
             below,
@@ -313,7 +331,9 @@ fn run_lines(schedule: &[u8], rows: &mut [u8]) -> usize
             turns = [Verdict::Open; SEATS];
         }
     }
-    place.out
+    let controller = seats[who];
+    let ids = records[who];
+    end_of(place.out, controller, ids)
 }
 
 // The only row of a schedule that is not run.
@@ -330,19 +350,38 @@ fn put_refused(rows: &mut [u8]) -> usize
     )
 }
 
-// Of the rows of a schedule, writes what has room, and answers how many bytes they all have. No schedule has more than 65,536 lines, and
-// no row more than 40 bytes.
-fn run_rows(schedule: &[u8], rows: &mut [u8]) -> usize
-    ensures { λ r. ⌜ PrintedInto (now (schedule .entry)) (now (rows .entry)) r (now (rows .exit)) ⌝ }
+// A schedule that is not run: its only row, a controller that is not set up, and an empty record.
+fn not_run(rows: &mut [u8]) -> Ended
+    ensures { λ r. ⌜ NotRun (now (rows .entry)) r (now (rows .exit)) ⌝ }
+{
+    let out = put_refused(rows);
+    let c = Controller::new();
+    end_of(out, c, [0u16; RECORD])
+}
+
+// Of the rows of a schedule, writes what has room, and answers how many bytes they all have, with one controller after its last line and its record.
+// No schedule has more than 65,536 lines, and no row more than 40 bytes.
+fn run_with(schedule: &[u8], rows: &mut [u8], words: &mut [u64; POOL_WORDS], who: usize) -> Ended
+    requires { ⌜ who < 16 ⌝ }
+    ensures { λ r. ⌜ RanWith (now (schedule .entry)) (now (rows .entry)) who r (now (rows .exit)) (now (words .exit)) ⌝ }
 {
     row::put_header(rows);
     if schedule.len() == 0 {
-        return put_refused(rows);
+        return not_run(rows);
     }
     if schedule.len() > SCHEDULE_MAX {
-        return put_refused(rows);
+        return not_run(rows);
     }
-    run_lines(schedule, rows)
+    run_lines(schedule, rows, words, who)
+}
+
+// The rows alone.
+fn run_rows(schedule: &[u8], rows: &mut [u8]) -> usize
+    ensures { λ r. ⌜ PrintedInto (now (schedule .entry)) (now (rows .entry)) r (now (rows .exit)) ⌝ }
+{
+    let mut words = [0u64; POOL_WORDS];
+    let e = run_with(schedule, rows, &mut words, 0);
+    e.out
 }
 
 // How many bytes the rows of a schedule have.
@@ -371,4 +410,27 @@ pub fn run(schedule: &[u8], rows: &mut [u8]) -> usize
         return run_short(schedule, rows);
     }
     run_rows(schedule, rows)
+}
+
+// Controller k after the last line of a schedule. Its record is left in `ids`, over the pool in `words`; what these had before does not matter.
+// A schedule that is empty or too long is not run. There is no controller above 15: it is answered as one that is not set up, with an empty record.
+pub fn after(
+    schedule: &[u8],
+    k: u8,
+    ids: &mut [u16; RECORD],
+    words: &mut [u64; POOL_WORDS],
+) -> Controller
+    ensures { λ r. ⌜ SeatAfter (now (schedule .entry)) k r (now (words .exit)) (now (ids .exit)) ⌝ }
+{
+    let mut none = [0u8; 1];
+    let seat = k as usize;
+    // A run is asked for a seat that there is; what it answers for another number is not used.
+    let e = run_with(schedule, &mut none, words, seat % SEATS);
+    if seat >= SEATS {
+        pool::record_clear(ids);
+        return Controller::new();
+    }
+    let left = e.ids;
+    *ids = left;
+    e.controller
 }

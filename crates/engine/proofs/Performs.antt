@@ -13,6 +13,7 @@ use lib.ListN.{length, set}
 use Rattle.protocol.specs.Lists.{if_then_else_, any, put}
 use Rattle.protocol.specs.View.{View}
 use Rattle.protocol.specs.Statement.{Stmt, Binding, bound, sameStmt, fieldRules}
+use Rattle.protocol.specs.Signers.{storeSet}
 use Rattle.protocol.specs.Controller as controller
 use Rattle.protocol.specs.Call as call
 use Rattle.protocol.specs.Pool.{numberOf, hasRoom}
@@ -49,7 +50,7 @@ use Rattle.engine.specs.Meaning.{controllerIs, answerIs, refusalIs}
 use Rattle.rules.specs.Actions.{statementOf, actionIs, Makes}
 use Rattle.rules.specs.Rules.{SituationOf}
 use Rattle.engine.specs.Steps.{PlacedAs, KeptFor, restIs}
-use Rattle.engine.specs.Situation.{Doing, Known, EntersMerged}
+use Rattle.engine.specs.Situation.{RingOf, Doing, Known, EntersMerged}
 use Rattle.engine.specs.Promise.{unchanged, grown, Meets, Turns, Adds, AddsFor}
 use Rattle.engine.proofs.Requests.{settled, refused-so}
 use Rattle.engine.proofs.Keeps.{not-full, all-in, record-more}
@@ -157,9 +158,12 @@ module _ (W R : List ℕ) (c : Controller) (s : Situation) (H : List View) (B : 
   unfolding turn.perform actionIs answerIs controllerIs
   enter-is v d e f = rw d (settled W R c r _ (controller.entered (viewIs v)) (ap (answerIs W) e) f (λ s p. let z : _≡_ {A = ℕ} 0 1 = cc in omega arith) (λ t. absurd t))
 
-  pub deliver-is : (j m : ℕ) → a ≡ Deliver j m → r .answer ≡ Delivered j m → controllerIs (r .controller) ≡ controller.withDelivered (put j true (controllerIs c .delivered)) (controllerIs c) → Performed W R
+  pub deliver-is : (j m set : ℕ) → a ≡ Deliver j m → r .answer ≡ Delivered j m set → controllerIs (r .controller) ≡ controller.withDelivered (put j true (controllerIs c .delivered)) (controllerIs c)
+      → RingOf c (s .ring) → set ≡ storeSet (ringIs (s .ring)) (recordIn W R) j m → Performed W R
   unfolding turn.perform actionIs answerIs
-  deliver-is j m d e f = rw d (settled W R c r _ (controller.delivered j m) (ap (answerIs W) e) f (λ s p. let z : _≡_ {A = ℕ} 0 1 = cc in omega arith) (λ t. absurd t))
+  deliver-is j m set d e f k q =
+      rw d (settled W R c r _ (controller.delivered j m (storeSet (controllerIs c .ring) (recordIn W R) j m))
+      (ap (answerIs W) e ∙ ap (controller.delivered j m) (q ∙ ap (λ R′. storeSet R′ (recordIn W R) j m) (k .is))) f (λ s p. let z : _≡_ {A = ℕ} 0 1 = cc in omega arith) (λ t. absurd t))
 
   ack-signs : (j m : ℕ) → a ≡ Ack j m → actionIs s H B b a ≡ some (turn.bindAndSign j m (statementOf s H B a))
   unfolding actionIs

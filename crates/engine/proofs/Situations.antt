@@ -28,9 +28,9 @@ use Rattle.views.proofs.Held.{held-fits}
 use Rattle.views.proofs.Histories.{top-some}
 use Rattle.evidence.specs.declared.Evidence.{Evidence}
 use Rattle.evidence.specs.declared.Ring as declared
-use Rattle.evidence.specs.Evidence.{ringIs, certificateAt, EvidenceOf, Settled, Narrow}
+use Rattle.evidence.specs.Evidence.{ringIs, certificateAt, EvidenceOf, Narrow}
 use Rattle.evidence.specs.Notices.{sendersOf}
-use Rattle.order.proofs.Counts.{some-view}
+use Rattle.evidence.proofs.Fitting.{some-view}
 use Rattle.windows.specs.Windows.{windowsIn}
 use Rattle.engine.specs.declared.Controller.{Controller}
 use Rattle.rules.specs.declared.Situation.{Situation}
@@ -82,27 +82,28 @@ module _ (c : Controller) (minute : ℕ) where
 
 -- ---- what the rules look at
 
-module _ (X : List Stmt) (C G P : List ℕ) (c : Controller) (r : declared.Ring) (q : RingOf c r) (e : Evidence) (k : Settled (ringIs r) (sendersOf (c .senders) (r .notices)) X C G P e) where
+-- where there is no conflict, however many candidates there are
+module _ (X : List Stmt) (C G P : List ℕ) (c : Controller) (r : declared.Ring) (q : RingOf c r) (e : Evidence) (o : EvidenceOf (ringIs r) (sendersOf (c .senders) (r .notices)) X C G P e) (agree : e .conflict ≡ false) where
   abbrev d : protocol.Controller
   d = controllerIs c
 
   shown : EvidenceOf (d .ring) (d .senders) X C G P e
-  shown = of-controller q (k .of)
+  shown = of-controller q o
 
   -- the payload of the certificate for notice i
   pub the-certificate : (i : ℕ) → i < length (d .senders) → turn.certificate d X i ≡ certificateAt e P i
   unfolding turn.certificate
-  the-certificate i l = sym (shown .certificate (k .agree) i l)
+  the-certificate i l = sym (shown .certificate agree i l)
 
   module _ (narrow : Narrow G (e .length)) (whole : viewIn (e .wished) ≡ viewOf (e .wished)) (minute : ℕ) (s : Situation) (l : Situated c r G e minute s) where
     the-greatest : turn.G d X ≡ viewsOf G (e .length)
     unfolding turn.G
-    the-greatest = sym (shown .greatest (k .agree))
+    the-greatest = sym (shown .greatest agree)
 
     the-top : turn.T d X ≡ viewIs (s .top)
     unfolding turn.T
     the-top =
-        let some = some-view (ringIs r) (sendersOf (c .senders) (r .notices)) X C G P e k in
+        let some = some-view (ringIs r) (sendersOf (c .senders) (r .notices)) X C G P e o agree in
         ap (top (d .ring)) the-greatest ∙ sym (slots-top (d .ring) G (e .length) some) ∙ sym (narrow .at (e .length - 1) (omega arith)) ∙ sym (l .top)
 
     has-entered : (v : View) → turn.hasEntered d X v ≡ any (sameView v) (viewsIs (c .entered))
@@ -136,7 +137,7 @@ module _ (X : List Stmt) (C G P : List ℕ) (c : Controller) (r : declared.Ring)
     is-stored : (i m : ℕ) → i < length (d .senders) → turn.certificate d X i ≡ some m → isStored (d .ring) X i m ≡ bit (s .shown .stored) i
     is-stored i m h f =
         let (b, y) = when-some (bit (e .certified) i) (sym (the-certificate i h) ∙ f) in
-        ap (isStored (d .ring) X i) (sym y) ∙ sym (shown .stored (k .agree) i h (is-true (bit (e .certified) i) b)) ∙ ap (λ x. bit (x .stored) i) (sym (l .shown))
+        ap (isStored (d .ring) X i) (sym y) ∙ sym (shown .stored agree i h (is-true (bit (e .certified) i) b)) ∙ ap (λ x. bit (x .stored) i) (sym (l .shown))
 
     leaves : (d .leaveRequested && isOpen (d .windows) (s .minute)) ≡ s .leaving
     unfolding leavesAt controllerIs

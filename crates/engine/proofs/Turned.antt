@@ -27,11 +27,11 @@ use Rattle.views.specs.Held.{viewIs}
 use Rattle.pool.specs.Pool.{recordIn, poolOf}
 use Rattle.evidence.specs.declared.Evidence.{Evidence}
 use Rattle.evidence.specs.declared.Ring.{Ring}
+use Rattle.evidence.specs.Shown.{BackedIn}
 use Rattle.evidence.specs.Evidence.{ringIs, EvidenceOf, Settled, Narrow}
 use Rattle.evidence.specs.Notices.{sendersOf, bindingHeld}
-use Rattle.evidence.proofs.Reporting.{count-most, length-most}
-use Rattle.evidence.proofs.Fitting.{wished-narrow, candidates-narrow, greatest-narrow}
-use Rattle.order.proofs.Counts.{some-view}
+use Rattle.evidence.proofs.Reporting.{count-most}
+use Rattle.evidence.proofs.Fitting.{some-view, length-most, wished-narrow, candidates-narrow, greatest-narrow}
 use Rattle.rules.specs.declared.Action.{Action}
 use Rattle.rules.proofs.Action as action
 use Rattle.rules.specs.declared.Action.the-variants.{Rest, Report, Enter, AgreeView, AgreeHistory, Ack, Store, Deliver, Join, Leave, Prepare}
@@ -140,14 +140,14 @@ ack-known d X k t j m (sends i n l e f g) = absurd (let z : _≡_ {A = ℕ} 7 6 
 module _ (W R : List ℕ) (c : Controller) (r : Ring) (q : RingOf c r) (C G P : List ℕ) (e : Evidence) (k : Settled (ringIs r) (sendersOf (c .senders) (r .notices)) (recordIn W R) C G P e) where
   -- what `of_controller` asks
   pub looking : (0 < e .length) × (e .length ≤ 16)
-  looking = (some-view _ _ _ _ _ _ e k, length-most _ _ _ _ _ _ e k)
+  looking = (some-view _ _ _ _ _ _ e (k .of) (k .agree), length-most _ _ _ _ _ _ e (k .of) (k .agree))
 
   narrow-greatest : Narrow G (e .length)
-  narrow-greatest = greatest-narrow (r .init) (sendersOf (c .senders) (r .notices)) W R C G P e (init-fits q) k
+  narrow-greatest = greatest-narrow (r .init) (sendersOf (c .senders) (r .notices)) W R C G P e (init-fits q) (k .of) (k .agree)
 
   module _ (minute : ℕ) (s : Situation) (l : Situated c r G e minute s) where
     situated : SituationOf (controllerIs c) (recordIn W R) s
-    situated = situation (recordIn W R) C G P c r q e k narrow-greatest (wished-narrow (r .init) (sendersOf (c .senders) (r .notices)) W R C G P e (k .of)) minute s l
+    situated = situation (recordIn W R) C G P c r q e (k .of) (k .agree) narrow-greatest (wished-narrow (r .init) (sendersOf (c .senders) (r .notices)) W R C G P e (k .of)) minute s l
 
     -- what the first rule asks
     pub choosing : Settled (ringIs (s .ring)) (sendersOf (c .senders) (s .ring .notices)) (recordIn W R) C G P (s .shown)
@@ -177,7 +177,7 @@ module _ (W R : List ℕ) (c : Controller) (r : Ring) (q : RingOf c r) (C G P : 
     module _ (B : List ℕ) (n : ℕ) (n-is : n ≡ min (c .notices) 64) (t : ToldTo (c .held) e P n B) where
       told-of : ToldOf (controllerIs c) (recordIn W R) B
       unfolding controllerIs
-      told-of = record { at = λ i h. t .at i (omega (arith, senders-count (c .senders) (c .notices))) ∙ ap (tells (bindingHeld (c .held) i)) (sym (the-certificate (recordIn W R) C G P c r q e k i h)) }
+      told-of = record { at = λ i h. t .at i (omega (arith, senders-count (c .senders) (c .notices))) ∙ ap (tells (bindingHeld (c .held) i)) (sym (the-certificate (recordIn W R) C G P c r q e (k .of) (k .agree) i h)) }
 
       sends-of : SendsOf (controllerIs c) (s .requested) (c .sends)
       unfolding controllerIs
@@ -214,8 +214,13 @@ module _ (W R : List ℕ) (c : Controller) (r : Ring) (q : RingOf c r) (C G P : 
 
         -- what doing it asks, and what that comes to
 
-        pub performing : (a ≡ Rest → ⊥) → Doing c (recordIn W R) C G P s × Known a
-        performing n = (doing, known a n chosen)
+        pub performing : (a ≡ Rest → ⊥) → {groups : List ℕ} → BackedIn W R (r .init) groups (e .backed)
+            → Doing c (recordIn W R) C G P s × Known a × BackedIn W R (s .ring .init) groups (s .shown .backed)
+        performing n {groups} b = (
+          doing,
+          known a n chosen,
+          subst (λ r. BackedIn W R (r .init) groups (s .shown .backed)) (sym (l .ring)) (subst (λ e. BackedIn W R (r .init) groups (e .backed)) (sym (l .shown)) b),
+        )
 
         pub performed : (W′ R′ : List ℕ) (x : Outcome) → Turns W R c (turn.perform (controllerIs c) (recordIn W R) (hasRoom (poolOf W)) (doneBy c (recordIn W R) C B s a)) x W′ R′
             → Turns W R c (turn.perform (controllerIs c) (recordIn W R) (hasRoom (poolOf W)) (turn.firstRule (controllerIs c) (recordIn W R) minute)) x W′ R′

@@ -66,7 +66,7 @@ abbrev pub signedNumber : Answer → ℕ
 signedNumber Taken = 0
 signedNumber (Signed n) = n
 signedNumber (Entered v) = 0
-signedNumber (Delivered i m) = 0
+signedNumber (Delivered i m a) = 0
 signedNumber Left = 0
 signedNumber Quiet = 0
 signedNumber (Refused r) = 0
@@ -76,7 +76,7 @@ unfoldable pub answerIs : List ℕ → Answer → controller.Answer
 answerIs W Taken = controller.taken
 answerIs W (Signed n) = controller.signed (stmtAt W n)
 answerIs W (Entered v) = controller.entered (viewIs v)
-answerIs W (Delivered i m) = controller.delivered i m
+answerIs W (Delivered i m a) = controller.delivered i m a
 answerIs W Left = controller.left
 answerIs W Quiet = controller.quiet
 answerIs W (Refused r) = controller.refused (refusalIs r)

@@ -45,7 +45,7 @@ abbrev pub IsRefused : controller.Answer → Type 0
 IsRefused controller.taken = ⊥
 IsRefused (controller.signed s) = ⊥
 IsRefused (controller.entered v) = ⊥
-IsRefused (controller.delivered i m) = ⊥
+IsRefused (controller.delivered i m a) = ⊥
 IsRefused controller.left = ⊥
 IsRefused controller.quiet = ⊥
 IsRefused (controller.refused r) = Unit {0}
@@ -55,7 +55,7 @@ abbrev pub signedOf : controller.Answer → Change
 signedOf controller.taken = unchanged
 signedOf (controller.signed s) = grown s
 signedOf (controller.entered v) = unchanged
-signedOf (controller.delivered i m) = unchanged
+signedOf (controller.delivered i m a) = unchanged
 signedOf controller.left = unchanged
 signedOf controller.quiet = unchanged
 signedOf (controller.refused r) = unchanged
@@ -82,7 +82,7 @@ abbrev pub startedOf : controller.Answer → Change
 startedOf controller.taken = emptied
 startedOf (controller.signed s) = unchanged
 startedOf (controller.entered v) = unchanged
-startedOf (controller.delivered i m) = unchanged
+startedOf (controller.delivered i m a) = unchanged
 startedOf controller.left = unchanged
 startedOf controller.quiet = unchanged
 startedOf (controller.refused r) = unchanged
@@ -100,7 +100,7 @@ abbrev pub addedOf : controller.Answer → Stmt → Change
 addedOf controller.taken s = grown s
 addedOf (controller.signed x) s = unchanged
 addedOf (controller.entered v) s = unchanged
-addedOf (controller.delivered i m) s = unchanged
+addedOf (controller.delivered i m a) s = unchanged
 addedOf controller.left s = unchanged
 addedOf controller.quiet s = unchanged
 addedOf (controller.refused r) s = unchanged

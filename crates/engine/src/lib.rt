@@ -15,8 +15,10 @@ pub use add::add_statement;
 pub use calls::is_notice;
 pub use calls::refuse;
 use evidence::Notice;
+pub use situation::of_controller;
 pub use start::is_allowed;
 use statements::NOTICES;
+pub use turn::ring_of;
 use views::History;
 use views::View;
 use windows::WINDOWS;
@@ -63,12 +65,12 @@ pub enum Refusal {
     BadMinute,
 }
 
-// A signed statement is answered by its number in the pool, a delivery by the notice and its payload.
+// A signed statement is answered by its number in the pool, a delivery by the notice, its payload and the set of those behind its store quorum, bit k for controller k.
 pub enum Answer {
     Taken,
     Signed(u16),
     Entered(View),
-    Delivered(u8, u64),
+    Delivered(u8, u64, u32),
     Left,
     Quiet,
     Refused(Refusal),

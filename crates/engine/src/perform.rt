@@ -9,6 +9,7 @@ ghost use Rattle.protocol.specs.Controller.{withBinding, withDelivered};
 ghost use Rattle.protocol.specs.Turn as protocol;
 ghost use Rattle.statements.specs.Meaning.{stmtOf};
 ghost use Rattle.pool.specs.Pool.{recordIn, poolOf};
+ghost use Rattle.evidence.specs.Shown.{BackedIn};
 ghost use Rattle.engine.specs.Meaning.{controllerIs};
 ghost use Rattle.engine.specs.Situation.{Doing, Known, doneBy, EntersMerged};
 ghost use Rattle.engine.specs.Steps.{restIs};
@@ -19,6 +20,7 @@ use crate::Outcome;
 use crate::Refusal;
 use crate::calls;
 use crate::keep;
+use evidence::GROUPS;
 use evidence::Notice;
 use pool::POOL_WORDS;
 use pool::RECORD;
@@ -129,13 +131,13 @@ pub fn rest(gone: bool) -> Answer
     Answer::Quiet
 }
 
-// Notice j is delivered.
-fn deliver(c: Controller, j: u8, m: u64) -> Outcome
+// Notice j is delivered, and `set` is behind its store quorum.
+fn deliver(c: Controller, j: u8, m: u64, set: u32) -> Outcome
     requires { ⌜ j < 64 ⌝ }
-    ensures { λ r. ⌜ (r .answer ≡ Answer.Delivered j m) × (controllerIs (r .controller) ≡ withDelivered (put j true (controllerIs c .delivered)) (controllerIs c)) ⌝ }
+    ensures { λ r. ⌜ (r .answer ≡ Answer.Delivered j m set) × (controllerIs (r .controller) ≡ withDelivered (put j true (controllerIs c .delivered)) (controllerIs c)) ⌝ }
 {
     Outcome {
-        answer: Answer::Delivered(j, m),
+        answer: Answer::Delivered(j, m, set),
         controller: Controller {
             delivered: statements::with_notice(c.delivered, j as usize),
             ..c
@@ -143,7 +145,8 @@ fn deliver(c: Controller, j: u8, m: u64) -> Outcome
     }
 }
 
-// Does the action a, of a rule that applies. The one statement of a turn is made here, where it is signed; `told` is the block that a report tells.
+// Does the action a, of a rule that applies. The one statement of a turn is made here, where it is signed; `told` is the block that a report tells. Who stored what is delivered is
+// asked here alone, by the groups of stores by quorums, so that no other turn pays for it.
 pub fn perform(
     c: Controller,
     ids: &mut [u16; RECORD],
@@ -151,16 +154,22 @@ pub fn perform(
     candidates: &[u64; View::LIMIT],
     greatest: &[u64; View::LIMIT],
     certs: &[u64; NOTICES],
+    groups: &[u64; GROUPS],
     told: &[u64; BLOCK],
     s: Situation,
     a: Action,
 ) -> Outcome
-    requires { ⌜ Doing c (recordIn (now words) (now ids)) (now candidates) (now greatest) (now certs) s × Known a ⌝ }
+    requires { ⌜ Doing c (recordIn (now words) (now ids)) (now candidates) (now greatest) (now certs) s × Known a × BackedIn (now words) (now ids) (s .ring .init) (now groups) (s .shown .backed) ⌝ }
     ensures { λ r. ⌜ Turns (now (words .entry)) (now (ids .entry)) c (protocol.perform (controllerIs c) (recordIn (now (words .entry)) (now (ids .entry))) (hasRoom (poolOf (now (words .entry)))) (doneBy c (recordIn (now (words .entry)) (now (ids .entry))) (now (candidates .entry)) (now (told .entry)) s a)) r (now (words .exit)) (now (ids .exit)) ⌝ }
 {
     match a {
         Action::Enter(v) => enter(c, ids, words, candidates, greatest, certs, s, v),
-        Action::Deliver(j, m) => deliver(c, j, m),
+        Action::Deliver(j, m) => {
+            let e = s.shown;
+            let ring = s.ring;
+            let set = evidence::stored_by(words, ids, ring.init, groups, e.backed as usize, j, m);
+            deliver(c, j, m, set)
+        }
         Action::Ack(j, m) => {
             let st = rules::statement(candidates, s, a);
             bind_and_sign(c, ids, words, j, m, st, told)

@@ -57,7 +57,7 @@ fn tell_notice(
 }
 
 // The ring of a controller.
-fn ring_of(c: Controller) -> Ring
+pub fn ring_of(c: Controller) -> Ring
     ensures { λ r. ⌜ RingOf c r ⌝ }
 {
     let view = c.init;
@@ -138,6 +138,7 @@ impl Controller {
                 &candidates,
                 &greatest,
                 &certs,
+                groups,
                 &told,
                 s,
                 a,

@@ -33,7 +33,8 @@ use Rattle.votes.specs.Votes.{entry, voteAt}
 use Rattle.votes.proofs.Alike.{Alike, says-alike}
 use Rattle.statements.specs.Sets.{PutBit}
 use Rattle.evidence.specs.Shown.{isBacked, Backed, AckedOf, PreparedList, listed, certifiesBy, storesOne, OneCertificate, CertificatesOf, StoredOf}
-use Rattle.evidence.proofs.Backing.{Late, Cast, cast-of, signed-map, cast-quorum, quorum-cast}
+use Rattle.evidence.specs.Casts.{Late}
+use Rattle.evidence.proofs.Backing.{Cast, cast-of, signed-map, cast-quorum, quorum-cast}
 
 -- a statement of a record, by its place
 pub placed : (W ids : List ℕ) (len : ℕ) {s : Stmt} → s ∈ recordUpTo W ids len → (i : ℕ) × (i < min len 512) × (entry W ids i ≡ s)
@@ -180,7 +181,7 @@ module _ (W ids : List ℕ) (len init : ℕ) (G : List ℕ) (n : ℕ) (backed : 
   X = recordUpTo W ids len
 
   -- the group of what a quorum of a sealed top cast
-  group : (k i m : ℕ) {H : List View} → Late init X k → Shown (ringOfWord init) X (sealed H) → Quorum 16 (top (ringOfWord init) H) (Signed X (Cast init X k (top (ringOfWord init) H) i m))
+  group : (k i m : ℕ) {H : List View} → Late k → Shown (ringOfWord init) X (sealed H) → Quorum 16 (top (ringOfWord init) H) (Signed X (Cast init X k (top (ringOfWord init) H) i m))
       → (g : ℕ) × (g < n) × (vote W ids G n g .kind ≡ k) × (vote W ids G n g .notice ≡ i) × (payloadOf (vote W ids G n g) ≡ m)
   group k i m l g q =
       let (_, (s, p, _, c)) = someone q in

@@ -28,6 +28,7 @@ use Rattle.pool.specs.Pool.{stmtAt}
 use Rattle.votes.specs.Votes.{alike, entry, tagBy, GroupCounts}
 use Rattle.votes.proofs.Alike.{Alike, says-alike, alike-same}
 use Rattle.evidence.specs.Shown.{isBacked, listed, certifiesBy, storesOne}
+use Rattle.evidence.specs.Casts.{Late}
 
 -- ---- tests of one statement
 
@@ -131,9 +132,6 @@ module _ (init : ℕ) (X : List Stmt) where
     pub at : s .at ≡ t
     pub notice : s .notice ≡ i
     pub payload : payloadOf s ≡ m
-
-  abbrev pub Late : ℕ → Type 0
-  Late k = (k ≡ 7) ⊎ (k ≡ 8)
 
   pub cast-of : (k : ℕ) {s x : Stmt} → Late k → s .kind ≡ k → Alike s x → Cast k (s .at) (s .notice) (payloadOf s) x
   cast-of k (inl e) q al = record { kind = al .kind ∙ q; at = al .at; notice = al .notice (omega (arith, q, e)); payload = al .acked (q ∙ e) }

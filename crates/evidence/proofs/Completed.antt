@@ -28,7 +28,8 @@ use Rattle.views.proofs.Views.{fails}
 use Rattle.pool.specs.Pool.{recordUpTo}
 use Rattle.votes.specs.Votes.{alike, entry, voteAt}
 use Rattle.votes.proofs.Alike.{Alike, says-alike}
-use Rattle.evidence.specs.Shown.{isBacked, Backed, acksIt, lesserSome}
+use Rattle.evidence.specs.Shown.{isBacked, Backed, lesserSome}
+use Rattle.evidence.specs.Casts.{castFor}
 use Rattle.evidence.proofs.Acked.{placed}
 use Rattle.evidence.proofs.Backing.{Cast, signed-map, quorum-cast, says-backed-by}
 
@@ -61,14 +62,14 @@ is-true {b = true} t = refl
 
 -- ---- tests of one statement
 
-module _ (i m k : ℕ) (s : Stmt) (kind : k ≡ s .kind) where
-  pub acks-other : (k ≡ 7 → ⊥) → false ≡ acksIt i m s
-  unfolding acksIt isKind
-  acks-other d = sym (ap (λ b. b && eqb (s .notice) i && eqb (payloadOf s) m) (ne-eqb (s .kind) 7 (λ q. d (kind ∙ q))))
+module _ (w i m k : ℕ) (s : Stmt) (kind : k ≡ s .kind) where
+  pub casts-other : (k ≡ w → ⊥) → false ≡ castFor w i m s
+  unfolding castFor isKind
+  casts-other d = sym (ap (λ b. b && eqb (s .notice) i && eqb (payloadOf s) m) (ne-eqb (s .kind) w (λ q. d (kind ∙ q))))
 
-  pub acks-same : (j p : ℕ) (r : Bool) → k ≡ 7 → j ≡ s .notice → p ≡ payloadOf s → r ≡ (eqb j i && eqb p m) → r ≡ acksIt i m s
-  unfolding acksIt isKind
-  acks-same j p r seven e f g = g ∙ ap₂ (λ a b. eqb a i && eqb b m) e f ∙ sym (ap (λ b. b && eqb (s .notice) i && eqb (payloadOf s) m) (eq-eqb (s .kind) 7 (sym kind ∙ seven)))
+  pub casts-same : (j p : ℕ) (r : Bool) → k ≡ w → j ≡ s .notice → p ≡ payloadOf s → r ≡ (eqb j i && eqb p m) → r ≡ castFor w i m s
+  unfolding castFor isKind
+  casts-same j p r such e f g = g ∙ ap₂ (λ a b. eqb a i && eqb b m) e f ∙ sym (ap (λ b. b && eqb (s .notice) i && eqb (payloadOf s) m) (eq-eqb (s .kind) w (sym kind ∙ such)))
 
 module _ (a b : ℕ) where
   pub lesser-none : a ≡ 0 → b ≡ lesserSome a b
@@ -101,12 +102,12 @@ module _ (W ids : List ℕ) (len init : ℕ) (G : List ℕ) (n : ℕ) (backed : 
   abbrev read : ℕ → ℕ
   read h = placeIn (getD G h 0) + 1
 
-  says-acks-it : (s : Stmt) → Says (acksIt i m s) (((s .kind ≡ 7) × (s .notice ≡ i)) × (payloadOf s ≡ m))
-  unfolding acksIt
+  says-acks-it : (s : Stmt) → Says (castFor 7 i m s) (((s .kind ≡ 7) × (s .notice ≡ i)) × (payloadOf s ≡ m))
+  unfolding castFor
   says-acks-it s = says-and (says-and (says-kind 7 s) says-eqb) says-eqb
 
   -- what is like such an ack is an ack at its view
-  alike-acks : (s : Stmt) → T (acksIt i m s) → alike s ≡ acks (s .at) i m
+  alike-acks : (s : Stmt) → T (castFor 7 i m s) → alike s ≡ acks (s .at) i m
   alike-acks s t j x = says-unique (says-map to from (says-alike s x)) says-acks j
     where
       parts : ((s .kind ≡ 7) × (s .notice ≡ i)) × (payloadOf s ≡ m)
@@ -136,7 +137,7 @@ module _ (W ids : List ℕ) (len init : ℕ) (G : List ℕ) (n : ℕ) (backed : 
       (says-any (λ H. says-and (says-shown R X (sealed H)) (says-self (signedByQuorum 16 (take k X) (top R H) (acks (top R H) i m)))) (named R X))
 
   -- then a group tells no more
-  back : (k : ℕ) → T (by k) → (h : ℕ) × (h < n) × T (acksIt i m (vote h)) × (read h ≤ k)
+  back : (k : ℕ) → T (by k) → (h : ℕ) × (h < n) × T (castFor 7 i m (vote h)) × (read h ≤ k)
   back k t =
       let (H, g, q) = says-by k .sound t in
       let Q : Quorum 16 (top R H) (Signed X (Ack (top R H) i m)) = signed-mono (take-in k X) (says-backed (λ s. says-acks) .sound q) in
@@ -149,7 +150,7 @@ module _ (W ids : List ℕ) (len init : ℕ) (G : List ℕ) (n : ℕ) (backed : 
       let it = says-acks-it (vote h) .complete ((seven, sym (a .notice (omega (arith, seven))) ∙ ap (λ s. s .notice) e ∙ c .notice), sym (a .acked seven) ∙ ap (λ s. payloadOf s) e ∙ c .payload) in
       (h, u, it, no-more h u it (sym (a .at) ∙ ap (λ s. s .at) e ∙ c .at) q)
     where
-      no-more : (h : ℕ) → h < n → T (acksIt i m (vote h)) → {t : View} → vote h .at ≡ t → T (signedByQuorum 16 (take k X) t (acks t i m)) → read h ≤ k
+      no-more : (h : ℕ) → h < n → T (castFor 7 i m (vote h)) → {t : View} → vote h .at ≡ t → T (signedByQuorum 16 (take k X) t (acks t i m)) → read h ≤ k
       no-more h u it {t} at q = elim (decLt k (read h)) [
         | yes l ↦ absurd (both (signedByQuorum 16 (take k X) (vote h .at) (alike (vote h)))
             (subst (λ p. T (signedByQuorum 16 (take k X) (vote h .at) p)) (sym (alike-acks (vote h) it)) (subst (λ t. T (signedByQuorum 16 (take k X) t (acks t i m))) (sym at) q))
@@ -161,7 +162,7 @@ module _ (W ids : List ℕ) (len init : ℕ) (G : List ℕ) (n : ℕ) (backed : 
           both true y z = z
 
   -- a group tells as many as there have to be
-  forth : (h : ℕ) → h < n → T (acksIt i m (vote h)) → T (by (read h)) × (read h ≤ length X)
+  forth : (h : ℕ) → h < n → T (castFor 7 i m (vote h)) → T (by (read h)) × (read h ≤ length X)
   forth h l it =
       let (_, (H, g, e)) = says-backed-by init X (vote h) .sound (backed .sound h l) in
       let stop = stops 16 (vote h .at) (alike (vote h)) X in
@@ -172,20 +173,20 @@ module _ (W ids : List ℕ) (len init : ℕ) (G : List ℕ) (n : ℕ) (backed : 
   -- ---- the loop: r is the least that those before g tell, or 0 if none does
 
   pub record LeastTo (g r : ℕ) : Type 0 where
-    pub some : 0 < r → (h : ℕ) × (h < g) × T (acksIt i m (vote h)) × (r ≡ read h)
-    pub least : (h : ℕ) → h < g → T (acksIt i m (vote h)) → (0 < r) × (r ≤ read h)
+    pub some : 0 < r → (h : ℕ) × (h < g) × T (castFor 7 i m (vote h)) × (r ≡ read h)
+    pub least : (h : ℕ) → h < g → T (castFor 7 i m (vote h)) → (0 < r) × (r ≤ read h)
 
   pub least-first : LeastTo 0 0
   least-first = record { some = λ l. absurd (omega arith); least = λ h l. absurd (omega arith) }
 
-  module _ {g r : ℕ} (w : LeastTo g r) (f : ℕ) (p : f ≡ placeIn (getD G g 0)) (b : Bool) (asked : b ≡ acksIt i m (entry W ids f)) where
-    here : b ≡ acksIt i m (vote g)
-    here = asked ∙ ap (λ j. acksIt i m (entry W ids j)) p
+  module _ {g r : ℕ} (w : LeastTo g r) (f : ℕ) (p : f ≡ placeIn (getD G g 0)) (b : Bool) (asked : b ≡ castFor 7 i m (entry W ids f)) where
+    here : b ≡ castFor 7 i m (vote g)
+    here = asked ∙ ap (λ j. castFor 7 i m (entry W ids j)) p
 
     pub least-skip : b ≡ false → LeastTo (g + 1) r
     least-skip e = record {
       some = λ l. let (h, k, t, q) = w .some l in (h, omega arith, t, q);
-      least = λ h l t. elim (ℕ-discrete h g) [ yes q ↦ absurd (subst T (sym here ∙ e) (subst (λ h. T (acksIt i m (vote h))) q t)) | no d ↦ w .least h (omega arith) t ];
+      least = λ h l t. elim (ℕ-discrete h g) [ yes q ↦ absurd (subst T (sym here ∙ e) (subst (λ h. T (castFor 7 i m (vote h))) q t)) | no d ↦ w .least h (omega arith) t ];
     }
 
     pub least-take : (r′ : ℕ) → b ≡ true → r′ ≡ lesserSome r (f + 1) → LeastTo (g + 1) r′

@@ -5,10 +5,11 @@ pub mod Backing
 pub mod Kept
 pub mod Acked
 pub mod Completed
-pub mod Needed
+pub mod Behind
+pub mod Needing
+pub mod Fitting
 pub mod Reporting
 pub mod Merges
 pub mod Turns
-pub mod Fitting
 pub mod Tied
 pub mod Unvoted

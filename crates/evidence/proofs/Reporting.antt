@@ -18,10 +18,10 @@ use Rattle.protocol.specs.Statement.{Group, Stmt, groupOf, isKind, reportsOn}
 use Rattle.protocol.specs.Evidence.{wished, candidate, candidates, greatest, certificates, isConflict, isCandidate, hasQuorum, signs, signedByQuorum, isCertified, isCountedFor, isCounted, isCountedOn, isSkipped, Certificate}
 use Rattle.protocol.proofs.Says.{from-true, says-map, says-unique, says-self, says-and, says-eqb, says-every, says-all, says-any}
 use Rattle.protocol.proofs.Found.{first-in, first-none}
-use Rattle.protocol.proofs.Histories.{sealed-short}
 use Rattle.protocol.proofs.Decided.{says-same, says-in, says-shown, says-certified}
-use Rattle.protocol.proofs.Asked.{says-holds, candidates-exact, certificates-in, certificates-out, one-payload, greatest-holds}
+use Rattle.protocol.proofs.Asked.{says-holds, candidates-exact, certificates-in, certificates-out, one-payload}
 use Rattle.protocol.specs.Count.{Count, countQuorum}
+use Rattle.protocol.specs.Signers.{signers}
 use Rattle.protocol.proofs.Count.{stops}
 use Rattle.views.specs.View.{viewOf, ringOfWord, viewsOf}
 use Rattle.views.proofs.Tables.{views-count, all-zero, all-more, all-miss}
@@ -36,6 +36,7 @@ use Rattle.evidence.specs.Reports.{toldCount, bindingHolds, keptHolds, t
 use Rattle.evidence.proofs.Listing.{any-filter, any-same}
 use Rattle.evidence.proofs.Senders.{told-in, told-out, told-barred, told-bound, told-free, told-stored, told-unstored}
 use Rattle.evidence.proofs.Payloads.{twofold-is}
+use Rattle.evidence.proofs.Fitting as fitting
 
 -- ---- what is told of a notice
 
@@ -264,7 +265,7 @@ module _ (init : ℕ) (senders : List ℕ) (X : List Stmt) (C Gr P : List ℕ) (
       omega (arith, views-count C (e .count), ap length c)
 
   pub length-most : e .length ≤ 16
-  length-most = omega (arith, views-count Gr (e .length), ap length (settled .of .greatest (settled .agree)), sealed-short (greatest-holds R senders X no-conflict .0))
+  length-most = fitting.length-most R senders X C Gr P e (settled .of) (settled .agree)
 
   certified-by : (i m : ℕ) → i < length senders → isCertified R senders X i m ≡ (bit (e .certified) i && eqb m (getD P i 0))
   certified-by i m l = go (bit (e .certified) i) refl
@@ -330,6 +331,9 @@ module _ (init : ℕ) (senders : List ℕ) (X : List Stmt) (C Gr P : List ℕ) (
     unfolding reportsCount
     reports-count by is u = ap (λ q. countQuorum 16 u (countsOn q C P K u) X) is ∙ ap (λ p. countQuorum 16 u p X) (λ i s. on-is u s i)
 
+    pub reports-signers : (by : Judge) → by ≡ q → (u : View) → signers 16 X u (countsOn by C P K u) ≡ signers 16 X u (isCountedOn R senders X u)
+    reports-signers by is u = ap (λ q. signers 16 X u (countsOn q C P K u)) is ∙ ap (signers 16 X u) (λ i s. on-is u s i)
+
     signs-is : (u : View) (k : ℕ) → signs (countsOn q C P K u) (filter (isKind 5) X) k ≡ signs (isCountedOn R senders X u) X k
     unfolding signs countsOn isCountedOn reportsOn isKind
     signs-is u k =
@@ -339,7 +343,7 @@ module _ (init : ℕ) (senders : List ℕ) (X : List Stmt) (C Gr P : List ℕ) (
 
     -- the views that need reports, in a list
     module _ (L : List ℕ) (n : ℕ) (needed : RemainingOf R Gr (e .length) (e .skipped) L n) where
-      remaining-is : viewsOf L n ≡ remainingViews R senders X
+      pub remaining-is : viewsOf L n ≡ remainingViews R senders X
       unfolding remainingViews
       remaining-is =
           needed .are (isSkipped R X) (settled .of .skipped (settled .agree))

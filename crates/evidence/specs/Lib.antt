@@ -5,4 +5,5 @@ pub mod Notices
 -- ---- inside: what functions tell each other, and what loops keep; Evidence is what the crate tells those above it
 pub mod Evidence
 pub mod Shown
+pub mod Casts
 pub mod Reports

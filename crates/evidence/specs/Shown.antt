@@ -119,10 +119,6 @@ pub record StoredOf (init : ℕ) (X : List Stmt) (some : ℕ) (P : List ℕ) (r 
 
 -- ---- after how many statements a certificate was complete
 
--- An ack of notice i for m.
-unfoldable pub acksIt : ℕ → ℕ → Stmt → Bool
-acksIt i m s = isKind 7 s && eqb (s .notice) i && eqb (payloadOf s) m
-
 -- The lesser of two numbers, where 0 stands for none.
 unfoldable pub lesserSome : ℕ → ℕ → ℕ
 lesserSome a b = cond (eqb a 0) b (min a b)

@@ -11,7 +11,8 @@ ghost use Rattle.pool.specs.Pool.{stmtAt, recordLen, recordIn};
 ghost use Rattle.votes.specs.Votes.{entry, tagBy, GroupCounts, GroupsIn};
 ghost use Rattle.sealing.specs.Memos.{VerdictsHeld};
 ghost use Rattle.evidence.specs.Notices.{sendersOf};
-ghost use Rattle.evidence.specs.Shown.{isBacked, Ended, BackedIn, AckedOf, Linked, PreparedList, certifiesBy, storesOne, OneCertificate, CertificatesOf, StoredOf, acksIt, lesserSome};
+ghost use Rattle.evidence.specs.Shown.{isBacked, Ended, BackedIn, AckedOf, Linked, PreparedList, certifiesBy, storesOne, OneCertificate, CertificatesOf, StoredOf, lesserSome};
+ghost use Rattle.evidence.specs.Casts.{castFor};
 use crate::notices;
 use crate::prepares;
 use pool::POOL_WORDS;
@@ -24,6 +25,8 @@ use votes::GROUPS;
 
 // The kind of a group's votes is the lowest byte of its tag.
 const KIND: u64 = 256;
+
+const ACK: u64 = 7;
 
 // The notices that have a certificate, as a set, or that one has certificates for two payloads.
 pub struct Certified {
@@ -352,11 +355,12 @@ pub fn stored(
     seen
 }
 
-// Whether statement s is an ack of notice j for m.
-fn acks_it(words: &[u64; POOL_WORDS], s: u16, j: usize, m: u64) -> bool
-    ensures { λ r. ⌜ r ≡ acksIt j m (stmtAt (now (words .entry)) s) ⌝ }
+// Whether statement s is a vote of this kind, an ack or a store, of notice j for m.
+pub fn casts(words: &[u64; POOL_WORDS], s: u16, kind: u64, j: usize, m: u64) -> bool
+    requires { ⌜ (kind ≡ 5 → ⊥) ⌝ }
+    ensures { λ r. ⌜ r ≡ castFor kind j m (stmtAt (now (words .entry)) s) ⌝ }
 {
-    if pool::kind(words, s) != 7 {
+    if pool::kind(words, s) != kind {
         return false;
     }
     is_same(notices::notice_of(words, s), pool::payload(words, s), j, m)
@@ -393,7 +397,7 @@ pub fn complete_after(
     while g < n {
         let x = groups[g];
         let f = views::place_of(x);
-        if !acks_it(words, ids[f], j, m) {
+        if !casts(words, ids[f], ACK, j, m) {
             g += 1;
             continue;
         }

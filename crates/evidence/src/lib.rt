@@ -6,13 +6,19 @@ mod notices;
 mod prepares;
 mod remaining;
 mod reports;
+mod signers;
 mod summary;
 
 pub use certificates::complete_after;
 pub use merging::merged;
 pub use notices::word_of;
+pub use remaining::needed;
 pub use reports::count_reports;
 pub use reports::reported;
+pub use reports::reporters;
+pub use signers::ack_set;
+pub use signers::acked_by;
+pub use signers::stored_by;
 use statements::Binding;
 pub use summary::of_record;
 

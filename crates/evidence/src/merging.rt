@@ -77,7 +77,7 @@ fn list_counted(
     let known = prepares::list(words, ids, ring.notices, senders, &mut keys, &mut rows);
     let q = reports::judge_by(ring, e, known);
     let mut needed = [0u64; View::LIMIT];
-    let n = remaining::list(greatest, e.length, e.skipped, ring.init, &mut needed);
+    let n = remaining::needed(greatest, e.length, e.skipped, ring.init, &mut needed);
     among_in(
         words,
         ids,

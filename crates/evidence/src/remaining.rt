@@ -31,7 +31,7 @@ fn is_needed(u: u64, t: u64, skipped: u32, i: usize) -> bool
 }
 
 // Lists those among its first n views: how many. Every view is written, and stays only if it needs reports, so that the loop has no branch.
-pub fn list(
+pub fn needed(
     greatest: &[u64; View::LIMIT],
     n: usize,
     skipped: u32,

@@ -7,7 +7,9 @@ ghost use Rattle.protocol.specs.Lists.{any, filter};
 ghost use Rattle.protocol.specs.View.{sameView, member};
 ghost use Rattle.protocol.specs.History.{holds};
 ghost use Rattle.protocol.specs.Statement.{groupOf, isKind};
+ghost use Rattle.protocol.specs.Evidence.{isCountedOn};
 ghost use Rattle.protocol.specs.Count.{countQuorum};
+ghost use Rattle.protocol.specs.Signers.{signers};
 ghost use Rattle.protocol.proofs.Bits.{Fits};
 ghost use Rattle.views.specs.View.{viewOf, viewsOf};
 ghost use Rattle.views.specs.Tally.{countIs};
@@ -352,7 +354,7 @@ pub fn reported(
     let mut listed = [0u16; RECORD];
     reports_in(words, ids, &mut listed);
     let mut needed = [0u64; View::LIMIT];
-    let n = remaining::list(greatest, e.length, e.skipped, ring.init, &mut needed);
+    let n = remaining::needed(greatest, e.length, e.skipped, ring.init, &mut needed);
     let mut i = 0usize;
     while i < n {
         let u = views::list_at(&needed, i);
@@ -384,6 +386,58 @@ pub fn count_reports(
     let known = prepares::list(words, ids, ring.notices, senders, &mut keys, &mut rows);
     let q = judge_by(ring, e, known);
     count_on(words, ids, q, candidates, certs, &keys, &rows, u)
+}
+
+// The members of u who signed reports on it that count, all of them.
+fn signers_on(
+    words: &[u64; POOL_WORDS],
+    ids: &[u16; RECORD],
+    q: Judge,
+    candidates: &[u64; View::LIMIT],
+    certs: &[u64; NOTICES],
+    keys: &[u64; KEYS],
+    rows: &[u16; ROWS],
+    u: u64,
+) -> u32
+    requires { ⌜ Usable q (now keys) (now rows) ⌝ }
+    ensures { λ r. ⌜ r ≡ signers 16 (recordIn (now (words .entry)) (now (ids .entry))) (viewOf u) (countsOn q (now (candidates .entry)) (now (certs .entry)) (now (keys .entry)) (viewOf u)) ⌝ }
+{
+    let end = pool::record_length(ids);
+    let mut seen = 0u32;
+    let mut i = 0usize;
+    while i < end {
+        let s = ids[i];
+        let hit = counts_on(words, q, candidates, certs, keys, rows, u, s);
+        if !hit {
+            i += 1;
+            continue;
+        }
+        seen = views::note(seen, hit, pool::origin(words, s));
+        i += 1;
+    }
+    views::members_among(u, seen)
+}
+
+// The members of u of whom the record has a report on it that counts.
+pub fn reporters(
+    words: &[u64; POOL_WORDS],
+    ids: &[u16; RECORD],
+    ring: Ring,
+    senders: &[u8; NOTICES],
+    e: Evidence,
+    candidates: &[u64; View::LIMIT],
+    greatest: &[u64; View::LIMIT],
+    certs: &[u64; NOTICES],
+    u: u64,
+) -> u32
+    requires { ⌜ Settled (ringIs ring) (sendersOf (now senders) (ring .notices)) (recordIn (now words) (now ids)) (now candidates) (now greatest) (now certs) e ⌝ }
+    ensures { λ r. ⌜ r ≡ signers 16 (recordIn (now (words .entry)) (now (ids .entry))) (viewOf u) (isCountedOn (ringIs ring) (sendersOf (now (senders .entry)) (ring .notices)) (recordIn (now (words .entry)) (now (ids .entry))) (viewOf u)) ⌝ }
+{
+    let mut keys = [0u64; KEYS];
+    let mut rows = [0u16; ROWS];
+    let known = prepares::list(words, ids, ring.notices, senders, &mut keys, &mut rows);
+    let q = judge_by(ring, e, known);
+    signers_on(words, ids, q, candidates, certs, &keys, &rows, u)
 }
 
 // Whether statement s is a report that counts, on one of the first n views of a list.

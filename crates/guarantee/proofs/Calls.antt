@@ -15,11 +15,11 @@ use Rattle.protocol.specs.Window.{windowsAllowed}
 use Rattle.protocol.specs.Call.{Setup, setupAllowed, started, setup}
 use Rattle.protocol.specs.Pool.{numberOf, pooled, hasRoom}
 use Rattle.protocol.specs.Run.{Call, turnCall, outcome, call, Run, event, returned, controllerOf, recordOf, TurnAnswers, IsRun}
-use Rattle.protocol.specs.Promises.{observed, Promises, NoConflict}
+use Rattle.protocol.specs.Promises.{observed, Promises, DeliveredSets, NoConflict}
 use Rattle.protocol.proofs.Numbered.{listOf-cong}
 use Rattle.protocol.proofs.Steps.{Next, waits, acts, Start, starts, begun, called, next}
-use Rattle.protocol.proofs.Promises.{promises, no-conflict}
-use Rattle.protocol.proofs.Carried.{carried, carried-no-conflict}
+use Rattle.protocol.proofs.Promises.{promises, delivered-sets, no-conflict}
+use Rattle.protocol.proofs.Carried.{carried, carried-sets, carried-no-conflict}
 use Rattle.pool.specs.Pool.{stmtAt, recordUpTo as recordAt, recordLen, recordIn, poolOf, AllIn, Grows}
 use Rattle.pool.specs.Changes.{Emptied}
 use Rattle.engine.specs.declared.Controller.{Controller}
@@ -83,7 +83,7 @@ module _ {W R left R′ W′ : List ℕ} {c : Controller} {o : controller.Outcom
       go Taken e = rw e
       go (Signed i) e = rw e (signed-same i e)
       go (Entered v) e = rw e
-      go (Delivered i x) e = rw e
+      go (Delivered i x who) e = rw e
       go Left e = rw e
       go Quiet e = rw e
       go (Refused q) e = rw e
@@ -176,6 +176,10 @@ module _ {run : Run} (is : IsRun run) (e : ℕ → ℕ → Engine) (engines : En
   -- WHAT THE ENGINE ANSWERS KEEPS THE PROMISES
   pub calls-keep : Promises (engineCalls run e)
   calls-keep = carried (observed run) (EngineAnswers run e) (λ k n. recordIn (e k n .pool) (e k n .ids)) there back same (promises is)
+
+  -- each delivered set is the one behind its store quorum
+  pub calls-sets : DeliveredSets (engineCalls run e)
+  calls-sets = carried-sets (observed run) (EngineAnswers run e) (λ k n. recordIn (e k n .pool) (e k n .ids)) there back same (delivered-sets is)
 
   -- and no turn is refused with 7
   pub calls-no-conflict : NoConflict (engineCalls run e)

@@ -51,7 +51,7 @@ abbrev answerIn : List Stmt → Answer → controller.Answer
 answerIn P Taken = controller.taken
 answerIn P (Signed n) = controller.signed (at P n)
 answerIn P (Entered v) = controller.entered (viewIs v)
-answerIn P (Delivered i m) = controller.delivered i m
+answerIn P (Delivered i m who) = controller.delivered i m who
 answerIn P Left = controller.left
 answerIn P Quiet = controller.quiet
 answerIn P (Refused r) = controller.refused (refusalIs r)
@@ -61,7 +61,7 @@ abbrev numbered : List Stmt → List Stmt → Answer → Bool
 numbered P P′ Taken = true
 numbered P P′ (Signed n) = ltb n (length P′) && eqb n (numberOf (at P′ n) P)
 numbered P P′ (Entered v) = true
-numbered P P′ (Delivered i m) = true
+numbered P P′ (Delivered i m who) = true
 numbered P P′ Left = true
 numbered P P′ Quiet = true
 numbered P P′ (Refused r) = false
@@ -131,7 +131,7 @@ module _ (P P′ : List Stmt) (f : T (fits P)) (f′ : T (fits P′)) where
   answer-in Taken t = refl
   answer-in (Signed n) t = ap controller.signed (stmt-at P′ f′ n (says-and (says-leb {m = suc n} {n = length P′}) (says-self (eqb n (numberOf (at P′ n) P))) .sound t .0))
   answer-in (Entered v) t = refl
-  answer-in (Delivered i m) t = refl
+  answer-in (Delivered i m who) t = refl
   answer-in Left t = refl
   answer-in Quiet t = refl
 
@@ -141,7 +141,7 @@ module _ (P P′ : List Stmt) (f : T (fits P)) (f′ : T (fits P′)) where
       ap Signed (says-and (says-self (ltb n (length P′))) (says-eqb {m = n} {n = numberOf (at P′ n) P}) .sound t .1 ∙ ap₂ numberOf q (sym (pool-is P f)))
   number-in Taken t s e = absurd (let z : _≡_ {A = ℕ} 0 1 = cc in omega arith)
   number-in (Entered v) t s e = absurd (let z : _≡_ {A = ℕ} 0 1 = cc in omega arith)
-  number-in (Delivered i m) t s e = absurd (let z : _≡_ {A = ℕ} 0 1 = cc in omega arith)
+  number-in (Delivered i m who) t s e = absurd (let z : _≡_ {A = ℕ} 0 1 = cc in omega arith)
   number-in Left t s e = absurd (let z : _≡_ {A = ℕ} 0 1 = cc in omega arith)
   number-in Quiet t s e = absurd (let z : _≡_ {A = ℕ} 0 1 = cc in omega arith)
 

@@ -63,17 +63,17 @@ printed = record { reading = reading; reads = λ h. reads; prints = refl }
 pub record Facts : Type 0 where
   setUp : SetupTaken reading (InText out) 0 alone 0
   prepared : Says reading (InText out) 2 0 (signed (prepare 0 0 7))
-  delivers : Says reading (ShownRow reading out) 5 0 (delivered 0 7)
+  delivers : Says reading (ShownRow reading out) 5 0 (delivered 0 7 1)
   kept : Kept reading (ShownRow reading out) alone 0
   readOff : ReadOff reading out alone 0
 
 rows : (getElem? (lines out) 1 ≡ some (rowText 1 (record { who = 0; answer = taken; number = 0 })))
     × (getElem? (lines out) 3 ≡ some (rowText 3 (record { who = 0; answer = signed (prepare 0 0 7); number = 0 })))
-    × (getElem? (lines out) 6 ≡ some (rowText 6 (record { who = 0; answer = delivered 0 7; number = 0 })))
+    × (getElem? (lines out) 6 ≡ some (rowText 6 (record { who = 0; answer = delivered 0 7 1; number = 0 })))
 unfolding lines rowText parted digits decText
 rows = (refl, refl, refl)
 
-computed : (getElem? (finalPool reading) 0 ≡ some (prepare 0 0 7)) × (step (after reading 5) (some (turn 0 0)) .reply ≡ record { who = 0; answer = delivered 0 7; number = 0 })
+computed : (getElem? (finalPool reading) 0 ≡ some (prepare 0 0 7)) × (step (after reading 5) (some (turn 0 0)) .reply ≡ record { who = 0; answer = delivered 0 7 1; number = 0 })
 unfolding opened numberOf pooled hasRoom shownSender setUp giveTo giveAll afterTurn turnAt lieOf step afterLine after
 computed = (refl, refl)
 

@@ -10,12 +10,12 @@ use Rattle.protocol.specs.View.{controllers, View, isView}
 use Rattle.protocol.specs.Statement.{Stmt}
 use Rattle.protocol.specs.Controller as controller
 use Rattle.protocol.specs.Run.{Call, turnCall, call, Run, event, returned, recordOf, TurnAnswers, IsRun}
-use Rattle.protocol.specs.Promises.{observed, Promises, NoConflict}
+use Rattle.protocol.specs.Promises.{observed, Promises, DeliveredSets, NoConflict}
 use Rattle.protocol.proofs.Order.{fits}
 use Rattle.protocol.proofs.Steps.{Next, waits, acts, next}
 use Rattle.protocol.proofs.Model.{entered-top, top-is-view}
-use Rattle.protocol.proofs.Promises.{promises, no-conflict}
-use Rattle.protocol.proofs.Carried.{carried, carried-no-conflict}
+use Rattle.protocol.proofs.Promises.{promises, delivered-sets, no-conflict}
+use Rattle.protocol.proofs.Carried.{carried, carried-sets, carried-no-conflict}
 use Rattle.views.specs.View.{viewOf}
 use Rattle.views.specs.Held.{viewIs}
 use Rattle.engine.specs.declared.Answer.{Answer}
@@ -23,7 +23,7 @@ use Rattle.engine.specs.declared.Answer.the-variants.{Taken, Signed, Entered, D
 use Rattle.engine.specs.Meaning.{answerIs, refusalIs}
 use Rattle.pool.specs.Pool.{recordIn}
 use Rattle.host.specs.Memory.{controllerAt}
-use Rattle.host.specs.Host.{answerNumber, valueNumber, noticeNumber}
+use Rattle.host.specs.Host.{answerNumber, valueNumber, noticeNumber, setNumber}
 use Rattle.guarantee.specs.Hosts.{Host, HostRun, HostRuns, said, HostAnswers, hostCalls}
 use Rattle.guarantee.specs.Calls.{Engine, EngineCalls, EngineWaits, EngineRun}
 use Rattle.guarantee.proofs.Laws.{refusal-at}
@@ -45,12 +45,12 @@ view-of-word v t = go (fits t .joined) (fits t .left)
         ap₂ (λ j l. record { joined = j; left = l }) x y
 
 -- (a view that is entered is one of the ring)
-answer-said : (W : List ℕ) (a : Answer) → ((v : View) → answerIs W a ≡ controller.entered v → T (isView controllers v)) → said W (answerNumber a) (valueNumber a) (noticeNumber a) ≡ answerIs W a
+answer-said : (W : List ℕ) (a : Answer) → ((v : View) → answerIs W a ≡ controller.entered v → T (isView controllers v)) → said W (answerNumber a) (valueNumber a) (noticeNumber a) (setNumber a) ≡ answerIs W a
 unfolding said answerNumber valueNumber answerIs
 answer-said W Taken f = refl
 answer-said W (Signed n) f = refl
 answer-said W (Entered v) f = ap controller.entered (view-of-word (viewIs v) (f (viewIs v) refl))
-answer-said W (Delivered i m) f = refl
+answer-said W (Delivered i m who) f = refl
 answer-said W Left f = refl
 answer-said W Quiet f = refl
 answer-said W (Refused q) f = ap controller.refused (refusal-at (refusalIs q))
@@ -101,24 +101,25 @@ module _ {run : Run} (is : IsRun run) {k : ℕ} (ok : T (run .follows k)) {h : �
 
   -- the host got the numbers of what the engine answered
   numbers : (n : ℕ) (c : Call) → event run n ≡ some (call k c)
-      → (h (suc n) .answer ≡ answerNumber (told (suc n))) × (h (suc n) .value ≡ valueNumber (told (suc n))) × (h (suc n) .notice ≡ noticeNumber (told (suc n)))
+      → (h (suc n) .answer ≡ answerNumber (told (suc n))) × (h (suc n) .value ≡ valueNumber (told (suc n))) × (h (suc n) .notice ≡ noticeNumber (told (suc n))) × (h (suc n) .set ≡ setNumber (told (suc n)))
   unfolding toldBy told
   numbers n c e = go (next is k ok n)
     where
-      both : {a b c d : ℕ} → a ∷ b ∷ [] ≡ c ∷ d ∷ [] → (a ≡ c) × (b ≡ d)
-      both p = (cc, cc)
+      each : {a b c d e f : ℕ} → a ∷ b ∷ c ∷ [] ≡ d ∷ e ∷ f ∷ [] → (a ≡ d) × (b ≡ e) × (c ≡ f)
+      each p = (cc, cc, cc)
 
       go : (x : Next is k n)
           → (h (suc n) .answer ≡ answerNumber (toldBy n x (told n))) × (h (suc n) .value ≡ valueNumber (toldBy n x (told n))) × (h (suc n) .notice ≡ noticeNumber (toldBy n x (told n)))
-      go (acts d f _) = let s = host .called n d f in let (p, q) = both (s .called .valued) in (s .called .answered, p, q)
+          × (h (suc n) .set ≡ setNumber (toldBy n x (told n)))
+      go (acts d f _) = let s = host .called n d f in let (p, q, i) = each (s .called .valued) in (s .called .answered, p, q, i)
       go (waits _ f) = absurd (f c e)
 
   -- so they say what the run's turn answers
-  pub said-so : (n minute : ℕ) → event run n ≡ some (call k (turnCall minute)) → said (h (suc n) .pool) (h (suc n) .answer) (h (suc n) .value) (h (suc n) .notice) ≡ returned run k (suc n) .answer
+  pub said-so : (n minute : ℕ) → event run n ≡ some (call k (turnCall minute)) → said (h (suc n) .pool) (h (suc n) .answer) (h (suc n) .value) (h (suc n) .notice) (h (suc n) .set) ≡ returned run k (suc n) .answer
   said-so n minute e =
       let a = answers is ok engine-run n minute e in
-      let (p, q, i) = numbers n (turnCall minute) e in
-      ap₂ (λ f x. f x) (ap₂ (said (h (suc n) .pool)) p q) i ∙ answer-said (h (suc n) .pool) (told (suc n)) (λ v f. entered-view v (record { minute = minute; isTurn = e; answers = sym a ∙ f })) ∙ a
+      let (p, q, i, j) = numbers n (turnCall minute) e in
+      ap₂ (λ f x. f x) (ap₂ (λ f x. f x) (ap₂ (said (h (suc n) .pool)) p q) i) j ∙ answer-said (h (suc n) .pool) (told (suc n)) (λ v f. entered-view v (record { minute = minute; isTurn = e; answers = sym a ∙ f })) ∙ a
     where
       entered-view : (v : View) → TurnAnswers run n k (controller.entered v) → T (isView controllers v)
       entered-view v t = let (H, s, q) = entered-top is ok t in subst (λ u. T (isView controllers u)) q (top-is-view is s)
@@ -138,6 +139,10 @@ module _ {run : Run} (is : IsRun run) (h : ℕ → ℕ → Host) (hosts : HostRu
   -- WHAT A HOST IS TOLD KEEPS THE PROMISES
   pub hosts-keep : Promises (hostCalls run h)
   hosts-keep = carried (observed run) (HostAnswers run h) (λ k n. recordIn (h k n .pool) (h k n .ids)) there back same (promises is)
+
+  -- each delivered set that it is told is the one behind its store quorum
+  pub hosts-sets : DeliveredSets (hostCalls run h)
+  hosts-sets = carried-sets (observed run) (HostAnswers run h) (λ k n. recordIn (h k n .pool) (h k n .ids)) there back same (delivered-sets is)
 
   -- and no turn is refused with 7
   pub hosts-no-conflict : NoConflict (hostCalls run h)

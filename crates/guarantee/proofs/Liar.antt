@@ -1,4 +1,4 @@
--- A schedule with a liar and two notices meets the premises: a ring of four in which 3 is marked faulty and signs acks of both notices; 0 sends 7 as notice 1, and delivers it.
+-- A schedule with a liar and two notices meets the premises: a ring of four in which 3 is marked faulty and signs acks of both notices; 0 sends 7 as notice 1, and delivers it; behind its store quorum stand 0, 1 and the liar.
 -- Assumes nothing.
 use mathlib.Core.Path.{_≡_, refl, sym, subst}
 use mathlib.Core.Bool.{not, _&&_}
@@ -116,7 +116,7 @@ printed = record { reading = reading; reads = λ h. reads; prints = refl }
 
 -- in the first view one of four is marked, and nobody agrees on another
 tests : T (leb (count controllers (λ k. member four k && bit 8 k)) ((memberCount controllers four - 1) / 3)) × T (everyOne (λ s. not (isKind 4 s)) (finalPool reading)) × (getElem? (finalPool reading) 0 ≡ some (prepare 0 1 7))
-    × (step (after reading 14) (some (turn 0 0)) .reply ≡ record { who = 0; answer = delivered 1 7; number = 0 })
+    × (step (after reading 14) (some (turn 0 0)) .reply ≡ record { who = 0; answer = delivered 1 7 11; number = 0 })
 unfolding opened numberOf pooled hasRoom shownSender setUp giveTo giveAll afterTurn turnAt lieOf step afterLine after
 tests = (tt, tt, refl, refl)
 
@@ -134,7 +134,7 @@ few = record { few = go }
 
 rows : (getElem? (lines out) 1 ≡ some (rowText 1 (record { who = 1; answer = taken; number = 0 })))
     × (getElem? (lines out) 3 ≡ some (rowText 3 (record { who = 0; answer = signed (prepare 0 1 7); number = 0 })))
-    × (getElem? (lines out) 15 ≡ some (rowText 15 (record { who = 0; answer = delivered 1 7; number = 0 })))
+    × (getElem? (lines out) 15 ≡ some (rowText 15 (record { who = 0; answer = delivered 1 7 11; number = 0 })))
 unfolding lines rowText parted digits decText
 rows = (refl, refl, refl)
 
@@ -145,7 +145,7 @@ pub record Facts : Type 0 where
   setUp : SetupTaken reading (InText out) 0 setting 8
   few : FewFaulty reading 15 8
   prepared : Says reading (InText out) 2 0 (signed (prepare 0 1 7))
-  delivers : Says reading (ShownRow reading out) 14 0 (delivered 1 7)
+  delivers : Says reading (ShownRow reading out) 14 0 (delivered 1 7 11)
   kept : Kept reading (ShownRow reading out) setting 8
   readOff : ReadOff reading out setting 8
 

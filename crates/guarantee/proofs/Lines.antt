@@ -69,7 +69,7 @@ abbrev pub Acts : Answer → Type 0
 Acts taken = ⊥
 Acts (signed s) = Unit {0}
 Acts (entered v) = Unit {0}
-Acts (delivered i m) = Unit {0}
+Acts (delivered i m who) = Unit {0}
 Acts left = ⊥
 Acts quiet = ⊥
 Acts (refused r) = T (eqb (refusalNumber r) 7)
@@ -79,7 +79,7 @@ unfolding signedIn
 unsigned taken f = refl
 unsigned (signed s) f = absurd (f tt)
 unsigned (entered v) f = refl
-unsigned (delivered i m) f = refl
+unsigned (delivered i m who) f = refl
 unsigned left f = refl
 unsigned quiet f = refl
 unsigned (refused r) f = refl
@@ -434,7 +434,7 @@ module _ (u : Taken) where
         go (signed s) e = turned (signed s) (pooled s (b .pool)) (numberOf s (b .pool)) e refl (grown-pooled (b .pool) s) (λ x f. let p : s ≡ x = cc (f) in numbered s (b .pool) ∙ ap some p)
         go taken e = still taken e refl refl
         go (entered v) e = still (entered v) e refl refl
-        go (delivered i m) e = still (delivered i m) e refl refl
+        go (delivered i m who) e = still (delivered i m who) e refl refl
         go left e = still left e refl refl
         go quiet e = still quiet e refl refl
         go (refused r) e = still (refused r) e refl refl

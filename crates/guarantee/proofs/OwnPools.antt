@@ -242,7 +242,7 @@ abbrev zero10 : State
 zero10 = state 0 true true false poolZero [] Taken (0 ∷ 1 ∷ 2 ∷ 3 ∷ 4 ∷ [])
 
 abbrev zero11 : State
-zero11 = state 0 true true true poolZero [] (Delivered 0 7) (0 ∷ 1 ∷ 2 ∷ 3 ∷ 4 ∷ [])
+zero11 = state 0 true true true poolZero [] (Delivered 0 7 3) (0 ∷ 1 ∷ 2 ∷ 3 ∷ 4 ∷ [])
 
 -- Controller 1. Its host puts both statements of 0 into the pool before they are added: the ack right after a call on 1, the store while 0 is called.
 
@@ -271,7 +271,7 @@ abbrev one12 : State
 one12 = state 1 false true false poolOne [] Taken (0 ∷ 1 ∷ 2 ∷ 3 ∷ 4 ∷ [])
 
 abbrev one13 : State
-one13 = state 1 false true true poolOne [] (Delivered 0 7) (0 ∷ 1 ∷ 2 ∷ 3 ∷ 4 ∷ [])
+one13 = state 1 false true true poolOne [] (Delivered 0 7 3) (0 ∷ 1 ∷ 2 ∷ 3 ∷ 4 ∷ [])
 
 abbrev zeros : List State
 zeros = zero1 ∷ zero2 ∷ zero2 ∷ zero4 ∷ zero4 ∷ zero4 ∷ zero7 ∷ zero8 ∷ zero8 ∷ zero10 ∷ zero11 ∷ zero11 ∷ zero11 ∷ []
@@ -341,19 +341,19 @@ own-run = tested run source (λ k t. omega (arith, follows-two k t)) tt tt (λ n
 pub own-promises : Promises (engineCalls run e)
 own-promises = calls-keep own-run e own-engines
 
--- and it says something: both engines answer that they deliver
+-- and it says something: both engines answer that they deliver, with both behind the store quorum
 
-pub zero-delivers : EngineAnswers run e 10 0 (delivered 0 7)
+pub zero-delivers : EngineAnswers run e 10 0 (delivered 0 7 3)
 unfolding answerIs
 zero-delivers = record { minute = 0; isTurn = refl; answers = refl }
 
-pub one-delivers : EngineAnswers run e 12 1 (delivered 0 7)
+pub one-delivers : EngineAnswers run e 12 1 (delivered 0 7 3)
 unfolding answerIs
 one-delivers = record { minute = 0; isTurn = refl; answers = refl }
 
 -- what an engine prepared earlier, over the pool of 0, as the promise has it of the delivery over the pool of 1
 pub own-integrity : (i : ℕ) × (i < 12) × EngineAnswers run e i 0 (signed prepared)
-own-integrity = own-promises .integrity 0 12 1 7 tt (tt, one-delivers)
+own-integrity = own-promises .integrity 0 12 1 7 tt (tt, (3, one-delivers))
 
 -- the acks have other numbers in the two pools
 pub own-numbers : (stmtAt (e 0 13 .pool) 1 ≡ acked 0) × (stmtAt (e 0 13 .pool) 2 ≡ acked 1) × (stmtAt (e 1 13 .pool) 1 ≡ acked 1) × (stmtAt (e 1 13 .pool) 2 ≡ acked 0)

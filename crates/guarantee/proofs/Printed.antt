@@ -21,7 +21,7 @@ use Rattle.protocol.proofs.Found.{none≢some, some-injective}
 use Rattle.protocol.proofs.Bits.{bit-zero}
 use Rattle.protocol.proofs.Rules.{and-second}
 use Rattle.protocol.proofs.Order.{says-view}
-use Rattle.protocol.proofs.Carried.{carried, carried-no-conflict}
+use Rattle.protocol.proofs.Carried.{carried, carried-sets, carried-no-conflict}
 use Rattle.schedule.specs.Line.{Line, lines}
 use Rattle.bench.specs.Bench.{Bench, newBench, Reply, step}
 use Rattle.bench.specs.Rows.{rowText, headerText, refusedRow, rowsFrom, ReadAll, Printed}
@@ -97,7 +97,7 @@ module _ (schedule out : List ℕ) (printed : Printed schedule out) (short : len
     fits : (v : View) → T (isView controllers v) → (v .joined < 2 ^ 16) × (v .left < 2 ^ 16)
     fits v t = says-view controllers v .sound t .0
 
-    -- what a row says in the text was answered, but for the notice of a delivery
+    -- what a row says in the text was answered, but for the notice and the set of a delivery
     said : (n k : ℕ) (a : Answer) → T (follower faulty k) → Says L (InText out) n k a → (b : Answer) × Meant a b × Says L (RepliedTo L) n k b
     said n k taken t s = let b = reply-of n _ (s .row) in (taken, refl, same n b taken (b .told) tt)
     said n k (signed x) t s =
@@ -111,7 +111,7 @@ module _ (schedule out : List ℕ) (printed : Printed schedule out) (short : len
         let (u, e, f) = b .told in
         let here = entered-view S few n k (b .number) u t (replies n b (entered u) e) in
         (entered v, refl, same n b (entered v) (e ∙ ap entered (view-told u v (fits u here) (fits v (s .names)) f)) (s .names))
-    said n k (delivered i m) t s = let b = reply-of n _ (s .row) in let (notice, e) = b .told in (delivered notice m, (notice, refl), same n b (delivered notice m) e tt)
+    said n k (delivered i m who) t s = let b = reply-of n _ (s .row) in let (notice, (set, e)) = b .told in (delivered notice m set, (notice, (set, refl)), same n b (delivered notice m set) e tt)
     said n k left t s = let b = reply-of n _ (s .row) in (left, refl, same n b left (b .told) tt)
     said n k quiet t s = let b = reply-of n _ (s .row) in (quiet, refl, same n b quiet (b .told) tt)
     said n k (refused r) t s = let b = reply-of n _ (s .row) in (refused r, refl, same n b (refused r) (b .told) tt)
@@ -131,31 +131,33 @@ module _ (schedule out : List ℕ) (printed : Printed schedule out) (short : len
         let o : Observed = rows L (RepliedTo L) setting faulty in
         record {
           promises = carried o (Says L (ShownRow L out)) (o .recordOf) (λ n k a t. answers n k a) (λ n k s t. shows n k (signed s)) (λ k n t. refl) (kept .promises);
+          sets = carried-sets o (Says L (ShownRow L out)) (o .recordOf) (λ n k a t. answers n k a) (λ n k s t. shows n k (signed s)) (λ k n t. refl) (kept .sets);
           noConflict = carried-no-conflict o (Says L (ShownRow L out)) (o .recordOf) (λ n k a t. answers n k a) (λ n k s t. shows n k (signed s)) (λ k n t. refl) (kept .noConflict);
         }
 
     -- ---- of the rows alone
 
     -- a line has one reply
-    one-notice : (n k i j m m′ : ℕ) → Says L (RepliedTo L) n k (delivered i m) → Says L (RepliedTo L) n k (delivered j m′) → i ≡ j
-    one-notice n k i j m m′ p q =
-        let e : delivered i m ≡ delivered j m′ = ap (λ r. r .answer) (sym (p .row .reply) ∙ ap (λ l. step (after L n) l .reply) (some-injective (sym (p .row .there) ∙ q .row .there)) ∙ q .row .reply) in
-        cc (e)
+    one-reply : (n k i j m m′ a b : ℕ) → Says L (RepliedTo L) n k (delivered i m a) → Says L (RepliedTo L) n k (delivered j m′ b) → (i ≡ j) × (a ≡ b)
+    one-reply n k i j m m′ a b p q =
+        let e : delivered i m a ≡ delivered j m′ b = ap (λ r. r .answer) (sym (p .row .reply) ∙ ap (λ l. step (after L n) l .reply) (some-injective (sym (p .row .there) ∙ q .row .there)) ∙ q .row .reply) in
+        (cc (e), cc (e))
 
     -- a delivery in a ring of one notice is of notice 0
-    of-first : length (setting .senders) ≡ 1 → (n k m : ℕ) → Delivered out faulty n k m → Says L (RepliedTo L) n k (delivered 0 m)
+    of-first : length (setting .senders) ≡ 1 → (n k m : ℕ) → Delivered out faulty n k m → (set : ℕ) × Says L (RepliedTo L) n k (delivered 0 m set)
     of-first one n k m d =
         let b = reply-of n _ (d .row) in
-        let (notice, e) = b .told in
-        let s = same n b (delivered notice m) e tt in
-        let first : notice ≡ 0 = omega (arith, one, kept .promises .ofSetup notice n k m (d .follows, s)) in
-        subst (λ i. Says L (RepliedTo L) n k (delivered i m)) first s
+        let (notice, (set, e)) = b .told in
+        let s = same n b (delivered notice m set) e tt in
+        let first : notice ≡ 0 = omega (arith, one, kept .promises .ofSetup notice n k m (d .follows, (set, s))) in
+        (set, subst (λ i. Says L (RepliedTo L) n k (delivered i m set)) first s)
 
     read-off : ReadOff L out setting faulty
     unfolding NoConflict
     read-off = record {
       answered = λ n k a t s. let (b, e, r) = said n k a t s in (b, e, shows n k b r);
-      oneNotice = λ n k i j m m′ p q. one-notice n k i j m m′ (answers n k (delivered i m) p) (answers n k (delivered j m′) q);
+      oneNotice = λ n k i j m m′ a b p q. one-reply n k i j m m′ a b (answers n k (delivered i m a) p) (answers n k (delivered j m′ b) q) .0;
+      oneSet = λ n k i j m m′ a b p q. one-reply n k i j m m′ a b (answers n k (delivered i m a) p) (answers n k (delivered j m′ b) q) .1;
       signed = λ n k number row.
           let b = reply-of n _ row in
           let (s, e, f) = b .told in

@@ -1,6 +1,6 @@
 -- What is promised holds of the replies to the lines of a schedule.
 --     acting         a row `signed`, `entered`, `delivered` or `refused,7` is that of a turn
---     rows-kept      demand 3, and no row `refused,7`
+--     rows-kept      demand 3, the sets of the deliveries, and no row `refused,7`
 --     signed-number  the number in a row `signed` is that of the statement in the final pool
 --     entered-view   a view in a row `entered` is one of the ring
 -- Assumes nothing.
@@ -16,15 +16,16 @@ use lib.Dec.{T}
 use lib.ListN.{length, getElem?}
 use Rattle.protocol.specs.Lists.{if_then_else_}
 use Rattle.protocol.specs.View.{controllers, View, isView}
-use Rattle.protocol.specs.Statement.{Stmt, prepare}
+use Rattle.protocol.specs.Statement.{Stmt, prepare, stores}
 use Rattle.protocol.specs.Evidence.{senderOf, Certificate}
+use Rattle.protocol.specs.Signers.{Behind}
 use Rattle.protocol.specs.Controller.{Answer, signed, entered, delivered, refused, conflict}
 use Rattle.protocol.specs.Call.{ringOf}
 use Rattle.protocol.specs.Run.{call, turnCall, signing, signedIn, Run, event, returned, TurnAnswers, IsRun}
-use Rattle.protocol.specs.Promises.{observed, HasEntered, Promises, NoConflict}
+use Rattle.protocol.specs.Promises.{observed, HasEntered, Promises, DeliveredSets, NoConflict}
 use Rattle.protocol.proofs.Monotone.{mono, signed-mono}
 use Rattle.protocol.proofs.Model.{entered-top, top-is-view}
-use Rattle.protocol.proofs.Promises.{promises, no-conflict}
+use Rattle.protocol.proofs.Promises.{promises, delivered-sets, no-conflict}
 use Rattle.schedule.specs.Line.{Line}
 use Rattle.bench.specs.Bench.{step}
 use Rattle.protocol.proofs.Says.{is-true}
@@ -142,15 +143,15 @@ module _ (S : Schedule) where
 
     promised : Promises (rows L (RepliedTo L) setting faulty)
     promised = record {
-      ofSetup = λ notice n k m (t, s). kept .ofSetup notice (at n) k m (t, turn-at n k (delivered notice m) tt t (s .row) .turns);
-      consistency = λ notice i j m n k m′ (t, s) (t′, s′).
-          kept .consistency notice (at i) j m (at n) k m′ (t, turn-at i j (delivered notice m) tt t (s .row) .turns) (t′, turn-at n k (delivered notice m′) tt t′ (s′ .row) .turns);
-      noDuplication = λ notice i n k m m′ (t, s) (t′, s′).
-          let a = turn-at i k (delivered notice m) tt t (s .row) in
-          let b = turn-at n k (delivered notice m′) tt t′ (s′ .row) in
-          same-row i n k (delivered notice m) (delivered notice m′) a b (kept .noDuplication notice (at i) (at n) k m m′ (t, a .turns) (t′, b .turns));
-      integrity = λ notice n k m t (t′, s).
-          let (j, l, u) = kept .integrity notice (at n) k m t (t′, turn-at n k (delivered notice m) tt t′ (s .row) .turns) in
+      ofSetup = λ notice n k m (t, (set, s)). kept .ofSetup notice (at n) k m (t, (set, turn-at n k (delivered notice m set) tt t (s .row) .turns));
+      consistency = λ notice i j m n k m′ (t, (set, s)) (t′, (set′, s′)).
+          kept .consistency notice (at i) j m (at n) k m′ (t, (set, turn-at i j (delivered notice m set) tt t (s .row) .turns)) (t′, (set′, turn-at n k (delivered notice m′ set′) tt t′ (s′ .row) .turns));
+      noDuplication = λ notice i n k m m′ (t, (set, s)) (t′, (set′, s′)).
+          let a = turn-at i k (delivered notice m set) tt t (s .row) in
+          let b = turn-at n k (delivered notice m′ set′) tt t′ (s′ .row) in
+          same-row i n k (delivered notice m set) (delivered notice m′ set′) a b (kept .noDuplication notice (at i) (at n) k m m′ (t, (set, a .turns)) (t′, (set′, b .turns)));
+      integrity = λ notice n k m t (t′, (set, s)).
+          let (j, l, u) = kept .integrity notice (at n) k m t (t′, (set, turn-at n k (delivered notice m set) tt t′ (s .row) .turns)) in
           let sender : ℕ = senderOf (setting .senders) notice in
           let (i, e, r) = row-of j sender (prepare sender notice m) u in
           (i, earlier i n (omega (arith, e, l)), r);
@@ -162,7 +163,14 @@ module _ (S : Schedule) where
           (kept .storedIsKept notice H m (at n) k v (mono more h) (signed-mono more q) (t, a .turns) g (at i) (apart n i k (entered v) a l));
     }
 
+    behind-sets : DeliveredSets (rows L (RepliedTo L) setting faulty)
+    behind-sets = record {
+      behind = λ notice n k m set t s.
+          let a = turn-at n k (delivered notice m set) tt t (s .row) in
+          subst (λ x. Behind (ringOf (setting .members)) (x .statements) (λ v. stores v notice m) set) (linked S n (a .later) .seats k t) (delivered-sets is .behind notice (at n) k m set t (a .turns));
+    }
+
     -- WHAT IS PROMISED OF THE ROWS HOLDS
     pub rows-kept : Kept L (RepliedTo L) setting faulty
     unfolding NoConflict
-    rows-kept = record { promises = promised; noConflict = λ n k t s. no-conflict is (at n) k t (turn-at n k (refused conflict) tt t (s .row) .turns) }
+    rows-kept = record { promises = promised; sets = behind-sets; noConflict = λ n k t s. no-conflict is (at n) k t (turn-at n k (refused conflict) tt t (s .row) .turns) }

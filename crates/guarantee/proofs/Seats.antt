@@ -16,6 +16,7 @@ use Rattle.protocol.specs.View.{controllers, View, member, hasMembers, isView}
 use Rattle.protocol.specs.History.{top}
 use Rattle.protocol.specs.Statement.{Stmt, Binding, bound, sameStmt, fieldRules}
 use Rattle.protocol.specs.Evidence.{senderOf, candidates, isConflict}
+use Rattle.protocol.specs.Signers.{storeSet}
 use Rattle.protocol.specs.Controller.{Controller, notSetUp, withBinding, withEntered, withDelivered, withRequests, Refusal, badSetup, badStatement, repeated, full, badRequest, manyCandidates, conflict, outOfPlace, unknownNotice, badMinute, Answer, taken, entered, delivered, left, quiet, refused, Outcome}
 use Rattle.protocol.specs.Window.{lastMinute, windowsAllowed}
 use Rattle.protocol.specs.Call.{Setup, ringOf, isFull, setupAllowed, started, setup, refuse, note, requestJoin, requestLeave, requestSend, add}
@@ -218,7 +219,7 @@ module _ (u : Taken) where
         rests (entered v) (withEntered (enteredAfter v (c .entered)) (withBinding b c)) refl (record { isSetUp = s .isSetUp; number = s .number; ring = s .ring; senders = s .senders; binding = s .binding; send = s .send })
     performs room t u minute (some (deliver i m)) e =
         let s = ok .inRing in
-        rests (delivered i m) (withDelivered (put i true (c .delivered)) c) refl (record { isSetUp = s .isSetUp; number = s .number; ring = s .ring; senders = s .senders; binding = s .binding; send = s .send })
+        rests (delivered i m (storeSet (c .ring) X i m)) (withDelivered (put i true (c .delivered)) c) refl (record { isSetUp = s .isSetUp; number = s .number; ring = s .ring; senders = s .senders; binding = s .binding; send = s .send })
 
     abbrev Good : Outcome → Type 0
     Good o = Yields P k o

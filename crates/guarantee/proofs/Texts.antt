@@ -82,7 +82,7 @@ unfolding all
 plain-word taken = plain-of (wordText taken) tt
 plain-word (signed s) = plain-of (wordText (signed s)) tt
 plain-word (entered v) = plain-of (wordText (entered v)) tt
-plain-word (delivered i m) = plain-of (wordText (delivered i m)) tt
+plain-word (delivered i m who) = plain-of (wordText (delivered i m who)) tt
 plain-word left = plain-of (wordText left) tt
 plain-word quiet = plain-of (wordText quiet) tt
 plain-word (refused r) = plain-of (wordText (refused r)) tt
@@ -92,7 +92,7 @@ unfolding viewText
 plain-value n taken = plain-dec n
 plain-value n (signed s) = plain-dec n
 plain-value n (entered v) = least-append 48 (hexText 4 (v .joined)) (hexText 4 (v .left)) (plain-hex 4 (v .joined)) (plain-hex 4 (v .left))
-plain-value n (delivered i m) = plain-dec m
+plain-value n (delivered i m who) = plain-dec m
 plain-value n left = plain-dec 0
 plain-value n quiet = plain-dec 0
 plain-value n (refused r) = plain-dec (refusalNumber r)
@@ -165,7 +165,7 @@ unfolding wordPlace
 word-place-is taken = refl
 word-place-is (signed s) = refl
 word-place-is (entered v) = refl
-word-place-is (delivered i m) = refl
+word-place-is (delivered i m who) = refl
 word-place-is left = refl
 word-place-is quiet = refl
 word-place-is (refused r) = refl
@@ -175,7 +175,7 @@ abbrev Tells : ℕ → Answer → Type 0
 Tells zero a = a ≡ taken
 Tells (suc zero) a = (s : Stmt) × (a ≡ signed s)
 Tells (suc (suc zero)) a = (v : View) × (a ≡ entered v)
-Tells (suc (suc (suc zero))) a = (i : ℕ) × (m : ℕ) × (a ≡ delivered i m)
+Tells (suc (suc (suc zero))) a = (i : ℕ) × (m : ℕ) × (set : ℕ) × (a ≡ delivered i m set)
 Tells (suc (suc (suc (suc zero)))) a = a ≡ left
 Tells (suc (suc (suc (suc (suc zero))))) a = a ≡ quiet
 Tells (suc (suc (suc (suc (suc (suc n)))))) a = (r : Refusal) × (a ≡ refused r)
@@ -184,7 +184,7 @@ tells : (a : Answer) → Tells (answerWord a) a
 tells taken = refl
 tells (signed s) = (s, refl)
 tells (entered v) = (v, refl)
-tells (delivered i m) = (i, m, refl)
+tells (delivered i m set) = (i, m, set, refl)
 tells left = refl
 tells quiet = refl
 tells (refused r) = (r, refl)
@@ -209,7 +209,7 @@ abbrev pub Told : ℕ → Answer → ℕ → Answer → Type 0
 Told i a j taken = a ≡ taken
 Told i a j (signed s) = (t : Stmt) × (a ≡ signed t) × (i ≡ j)
 Told i a j (entered v) = (u : View) × (a ≡ entered u) × (viewText u ≡ viewText v)
-Told i a j (delivered x m) = (notice : ℕ) × (a ≡ delivered notice m)
+Told i a j (delivered x m who) = (notice : ℕ) × ((set : ℕ) × (a ≡ delivered notice m set))
 Told i a j left = a ≡ left
 Told i a j quiet = a ≡ quiet
 Told i a j (refused r) = a ≡ refused r
@@ -218,7 +218,9 @@ told : (i j : ℕ) (a b : Answer) → wordText a ≡ wordText b → valueText (a
 told i j a taken w v = word-told a taken w
 told i j a (signed s) w v = let (t, e) = word-told a (signed s) w in (t, e, dec-told i j (sym (ap (λ a. valueText (answerValue i a)) e) ∙ v))
 told i j a (entered x) w v = let (u, e) = word-told a (entered x) w in (u, e, sym (ap (λ a. valueText (answerValue i a)) e) ∙ v)
-told i j a (delivered y m) w v = let (x, n, e) = word-told a (delivered y m) w in (x, e ∙ ap (delivered x) (dec-told n m (sym (ap (λ a. valueText (answerValue i a)) e) ∙ v)))
+told i j a (delivered y m who) w v =
+    let (x, n, set, e) = word-told a (delivered y m who) w in
+    (x, (set, e ∙ ap (λ n. delivered x n set) (dec-told n m (sym (ap (λ a. valueText (answerValue i a)) e) ∙ v))))
 told i j a left w v = word-told a left w
 told i j a quiet w v = word-told a quiet w
 told i j a (refused r) w v = let (q, e) = word-told a (refused r) w in e ∙ ap refused (refusal-told q r (dec-told (refusalNumber q) (refusalNumber r) (sym (ap (λ a. valueText (answerValue i a)) e) ∙ v)))
@@ -243,11 +245,11 @@ pub conflict-row : (n k number : ℕ) → rowText n (record { who = k; answer = 
 unfolding rowText decText digits
 conflict-row n k number = refl
 
--- And a row n,k,delivered,m names no notice.
-pub delivered-row : (n k notice m number : ℕ)
-    → rowText n (record { who = k; answer = delivered notice m; number = number }) ≡ parted (decText n ∷ decText k ∷ (100 ∷ 101 ∷ 108 ∷ 105 ∷ 118 ∷ 101 ∷ 114 ∷ 101 ∷ 100 ∷ []) ∷ decText m ∷ []) ++ (10 ∷ [])
+-- And a row n,k,delivered,m names neither notice nor set.
+pub delivered-row : (n k notice m set number : ℕ)
+    → rowText n (record { who = k; answer = delivered notice m set; number = number }) ≡ parted (decText n ∷ decText k ∷ (100 ∷ 101 ∷ 108 ∷ 105 ∷ 118 ∷ 101 ∷ 114 ∷ 101 ∷ 100 ∷ []) ∷ decText m ∷ []) ++ (10 ∷ [])
 unfolding rowText
-delivered-row n k notice m number = refl
+delivered-row n k notice m set number = refl
 
 -- ---- the lines of the output
 

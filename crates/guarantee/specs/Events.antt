@@ -25,7 +25,7 @@ abbrev pub isTaken : Answer → Bool
 isTaken taken = true
 isTaken (signed s) = false
 isTaken (entered v) = false
-isTaken (delivered i m) = false
+isTaken (delivered i m who) = false
 isTaken left = false
 isTaken quiet = false
 isTaken (refused r) = false

@@ -15,7 +15,7 @@ use Rattle.views.specs.View.{viewOf}
 use Rattle.pool.specs.Pool.{stmtAt, poolOf, recordIn, Grows}
 use Rattle.host.specs.Host.{Fresh, HostCalled}
 
--- What a host has of one controller: the words of its pool, the controller's words and the numbers of its record, and the answer, the value and the notice that the last call on it told.
+-- What a host has of one controller: the words of its pool, the controller's words and the numbers of its record, and the answer, the value, the notice and the set that the last call on it told.
 pub record Host : Type 0 where
   pub pool : List ℕ
   pub fields : List ℕ
@@ -23,11 +23,12 @@ pub record Host : Type 0 where
   pub answer : ℕ
   pub value : ℕ
   pub notice : ℕ
+  pub set : ℕ
 
 -- A call took the host from h to h′. After it the host may have put statements into the pool.
 pub record HostCalls (h : Host) (k : Call) (h′ : Host) : Type 0 where
   pub left : List ℕ
-  pub called : HostCalled (h .pool) (h .fields) (h .ids) k (h′ .answer) (h′ .value ∷ h′ .notice ∷ []) left (h′ .fields) (h′ .ids)
+  pub called : HostCalled (h .pool) (h .fields) (h .ids) k (h′ .answer) (h′ .value ∷ h′ .notice ∷ h′ .set ∷ []) left (h′ .fields) (h′ .ids)
   pub grows : Grows left (h′ .pool)
 
 -- No call took place: the pool alone may have grown.
@@ -53,17 +54,18 @@ HostRuns run h = (k : ℕ) → T (run .follows k) → HostRun run k (h k)
 abbrev pub refusalOf : ℕ → Refusal
 refusalOf n = getD (outOfPlace ∷ badSetup ∷ badStatement ∷ repeated ∷ full ∷ badRequest ∷ manyCandidates ∷ conflict ∷ outOfPlace ∷ unknownNotice ∷ badWindow ∷ badMinute ∷ []) n outOfPlace
 
--- What an answer, a value and a notice say: a statement by its number in the pool W, a view by its word, a payload as it is, a refusal by its number. The notice is that of a delivery.
-unfoldable pub said : List ℕ → ℕ → ℕ → ℕ → Answer
-said W answer value notice =
+-- What an answer, a value, a notice and a set say: a statement by its number in the pool W, a view by its word, a payload as it is, a refusal by its number. The notice and the set are
+-- those of a delivery, the set with bit k for controller k.
+unfoldable pub said : List ℕ → ℕ → ℕ → ℕ → ℕ → Answer
+said W answer value notice set =
     if eqb answer 0 then taken else if eqb answer 1 then signed (stmtAt W value) else if eqb answer 2 then entered (viewOf value)
-    else if eqb answer 3 then delivered notice value else if eqb answer 4 then left else if eqb answer 5 then quiet else refused (refusalOf value)
+    else if eqb answer 3 then delivered notice value set else if eqb answer 4 then left else if eqb answer 5 then quiet else refused (refusalOf value)
 
 -- Event n is a turn of controller k, and the numbers that the host got say a.
 pub record HostAnswers (run : Run) (h : ℕ → ℕ → Host) (n k : ℕ) (a : Answer) : Type 0 where
   pub minute : ℕ
   pub isTurn : event run n ≡ some (call k (turnCall minute))
-  pub says : said (h k (suc n) .pool) (h k (suc n) .answer) (h k (suc n) .value) (h k (suc n) .notice) ≡ a
+  pub says : said (h k (suc n) .pool) (h k (suc n) .answer) (h k (suc n) .value) (h k (suc n) .notice) (h k (suc n) .set) ≡ a
 
 -- The run as a host sees it.
 abbrev pub hostCalls : Run → (ℕ → ℕ → Host) → Observed

@@ -1,7 +1,7 @@
 -- What is promised of the rows that are printed for a schedule (document 01, "A run" and "Bench schedule"; document 02, A1).
 -- Lines are counted from 0 here; the row of line n has the number n + 1.
--- A row of a delivery shows its payload and not its notice. So the promises by notice are about the rows and the replies that they show, and beside them stands what a reader
--- of the rows alone has (`ReadOff`).
+-- A row of a delivery shows its payload, neither its notice nor the set behind its store quorum. So the promises by notice and of the sets are about the rows and the replies that
+-- they show, and beside them stands what a reader of the rows alone has (`ReadOff`).
 -- Assumes nothing.
 use mathlib.Core.Path.{_≡_}
 use mathlib.Core.Bool.{_&&_}
@@ -17,7 +17,7 @@ use Rattle.protocol.specs.Statement.{Stmt, noStmt}
 use Rattle.protocol.specs.Evidence.{Sealed, senderOf}
 use Rattle.protocol.specs.Controller.{Answer, taken, signed, entered, delivered, left, quiet, refused}
 use Rattle.protocol.specs.Call.{Setup, ringOf}
-use Rattle.protocol.specs.Promises.{Observed, Promises, NoConflict}
+use Rattle.protocol.specs.Promises.{Observed, Promises, DeliveredSets, NoConflict}
 use Rattle.schedule.specs.Line.{Line, setup, lines}
 use Rattle.bench.specs.Bench.{Reply, newBench, step, seat}
 use Rattle.bench.specs.Rows.{rowText, ReadAll, Printed, Answered}
@@ -27,20 +27,20 @@ use Rattle.guarantee.specs.Events.{follower, after}
 abbrev pub InText : List ℕ → ℕ → Reply → Type 0
 InText out n r = getElem? (lines out) (suc n) ≡ some (rowText (suc n) r)
 
--- The answer that was given, where a row says a: all but the notice of a delivery.
+-- The answer that was given, where a row says a: all but the notice and the set of a delivery.
 abbrev pub Meant : Answer → Answer → Type 0
 Meant taken b = b ≡ taken
 Meant (signed s) b = b ≡ signed s
 Meant (entered v) b = b ≡ entered v
-Meant (delivered i m) b = (notice : ℕ) × (b ≡ delivered notice m)
+Meant (delivered i m who) b = (notice : ℕ) × ((set : ℕ) × (b ≡ delivered notice m set))
 Meant left b = b ≡ left
 Meant quiet b = b ≡ quiet
 Meant (refused r) b = b ≡ refused r
 
--- The row of line n is that of a delivery of m by controller k, which is not marked. It is the same for every notice.
+-- The row of line n is that of a delivery of m by controller k, which is not marked. It is the same for every notice and every set.
 pub record Delivered (out : List ℕ) (faulty n k m : ℕ) : Type 0 where
   pub follows : T (follower faulty k)
-  pub row : InText out n (record { who = k; answer = delivered 0 m; number = 0 })
+  pub row : InText out n (record { who = k; answer = delivered 0 m 0; number = 0 })
 
 module _ (L : List (Option Line)) where
   -- The reply to line n is r.
@@ -68,7 +68,7 @@ module _ (L : List (Option Line)) where
   Names taken number = Unit {0}
   Names (signed s) number = getElem? finalPool number ≡ some s
   Names (entered v) number = T (isView controllers v)
-  Names (delivered i m) number = Unit {0}
+  Names (delivered i m who) number = Unit {0}
   Names left number = Unit {0}
   Names quiet number = Unit {0}
   Names (refused r) number = Unit {0}
@@ -99,19 +99,22 @@ module _ (L : List (Option Line)) where
         recordOf = λ k n. seat (after L n) k .statements;
       }
 
-      -- Demand 3 holds of the rows, and no row of a controller that is not marked is `refused,7`.
+      -- Demand 3 holds of the rows, the set of each delivery is the one behind its store quorum, by the record of that controller before the line, and no row of a controller
+      -- that is not marked is `refused,7`.
       pub record Kept : Type 0 where
         pub promises : Promises rows
+        pub sets : DeliveredSets rows
         pub noConflict : NoConflict rows
 
   module _ (out : List ℕ) (p : Setup) (faulty : ℕ) where
     -- What a reader has of the rows alone.
     pub record ReadOff : Type 0 where
-      -- What the row of a controller that is not marked says was answered, a delivery with some notice; by the promise `ofSetup` this is one of the setup, and by
-      -- `noDuplication` two rows of one controller that are of one notice are one row.
+      -- What the row of a controller that is not marked says was answered, a delivery with some notice and some set; by the promise `ofSetup` this notice is one of the
+      -- setup, by `noDuplication` two rows of one controller that are of one notice are one row, and by `sets` the set is the one behind the store quorum.
       pub answered : (n k : ℕ) (a : Answer) → T (follower faulty k) → Says (InText out) n k a → (b : Answer) × Meant a b × Says (ShownRow out) n k b
-      -- A row is of one notice.
-      pub oneNotice : (n k i j m m′ : ℕ) → Says (ShownRow out) n k (delivered i m) → Says (ShownRow out) n k (delivered j m′) → i ≡ j
+      -- A row is of one notice, and of one set.
+      pub oneNotice : (n k i j m m′ a b : ℕ) → Says (ShownRow out) n k (delivered i m a) → Says (ShownRow out) n k (delivered j m′ b) → i ≡ j
+      pub oneSet : (n k i j m m′ a b : ℕ) → Says (ShownRow out) n k (delivered i m a) → Says (ShownRow out) n k (delivered j m′ b) → a ≡ b
       -- A row `signed,number` is of the statement of that number in the final pool, which has its notice.
       pub signed : (n k number : ℕ) → InText out n (record { who = k; answer = signed noStmt; number = number }) → (s : Stmt) × (getElem? finalPool number ≡ some s) × Says (ShownRow out) n k (signed s)
       -- No row of a controller that is not marked is `refused,7`.

@@ -37,7 +37,7 @@ unfolding answerNumber answerIs
 idle W Taken e = absurd (omega arith)
 idle W (Signed n) e = absurd (omega arith)
 idle W (Entered v) e = absurd (omega arith)
-idle W (Delivered i m) e = absurd (omega arith)
+idle W (Delivered i m who) e = absurd (omega arith)
 idle W Left e = tt
 idle W Quiet e = tt
 idle W (Refused r) e = tt
@@ -48,7 +48,7 @@ unfolding answerNumber answerIs
 is-idle W Taken t = absurd t
 is-idle W (Signed n) t = absurd t
 is-idle W (Entered v) t = absurd t
-is-idle W (Delivered i m) t = absurd t
+is-idle W (Delivered i m who) t = absurd t
 is-idle W Left t = absurd t
 is-idle W Quiet t = absurd t
 is-idle W (Refused r) t = omega arith

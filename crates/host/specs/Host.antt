@@ -32,10 +32,20 @@ abbrev pub noticeNumber : Answer → ℕ
 noticeNumber Taken = 0
 noticeNumber (Signed n) = 0
 noticeNumber (Entered v) = 0
-noticeNumber (Delivered i m) = i
+noticeNumber (Delivered i m who) = i
 noticeNumber Left = 0
 noticeNumber Quiet = 0
 noticeNumber (Refused r) = 0
+
+-- The set of those behind the store quorum of what was delivered, bit k for controller k.
+abbrev pub setNumber : Answer → ℕ
+setNumber Taken = 0
+setNumber (Signed n) = 0
+setNumber (Entered v) = 0
+setNumber (Delivered i m who) = who
+setNumber Left = 0
+setNumber Quiet = 0
+setNumber (Refused r) = 0
 
 -- The answer's number, 0 to 6, and the value beside it. The pool does not matter to them.
 unfoldable pub answerNumber : Answer → ℕ
@@ -44,9 +54,9 @@ answerNumber a = controller.answerWord (answerIs [] a)
 unfoldable pub valueNumber : Answer → ℕ
 valueNumber a = valueWord (controller.answerValue (signedNumber a) (answerIs [] a))
 
--- What is told beside the answer's number: the value and the notice.
+-- What is told beside the answer's number: the value, the notice and the set.
 abbrev pub valueWords : Answer → List ℕ
-valueWords a = valueNumber a ∷ noticeNumber a ∷ []
+valueWords a = valueNumber a ∷ noticeNumber a ∷ setNumber a ∷ []
 
 -- ---- calls
 

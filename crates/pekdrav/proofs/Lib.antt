@@ -3,3 +3,4 @@ pub mod Told
 pub mod Placing
 pub mod Calling
 pub mod Counting
+pub mod Screening

@@ -6,10 +6,12 @@ use mathlib.Core.List.{List, [], _∷_}
 use Prim.Native.Nat.{ℕ}
 use lib.Dec.{T, ltb}
 use lib.ListN.{length}
+use Rattle.protocol.specs.Lists.{if_then_else_}
 use Rattle.protocol.specs.View.{View, Ring}
 use Rattle.protocol.specs.Statement.{Stmt}
 use Rattle.protocol.specs.Evidence.{candidates, isConflict, isCountedOn}
 use Rattle.protocol.specs.Count.{Count, countQuorum}
+use Rattle.protocol.specs.Signers.{signers, storeSet}
 use Rattle.pekdrav.specs.Evidence.{flag}
 
 -- Two words.
@@ -20,7 +22,20 @@ countWords c = flag (c .reached) ∷ c .read ∷ []
 unfoldable pub judges : Ring → List ℕ → List Stmt → Bool
 judges R senders X = not (isConflict R senders X) && not (ltb 16 (length (candidates R X)))
 
--- r was answered for the count of the reports on u that count, over `out`, which holds `after` then: 1 and the count, or 0 and what it held.
-pub record ReportsTold (R : Ring) (senders : List ℕ) (X : List Stmt) (u : View) (out : List ℕ) (r : ℕ) (after : List ℕ) : Type 0 where
-  pub told : T (judges R senders X) → (r ≡ 1) × (after ≡ countWords (countQuorum (R .width) u (isCountedOn R senders X u) X))
-  pub untold : T (not (judges R senders X)) → (r ≡ 0) × (after ≡ out)
+-- r was answered for a value that is told only where something was judged, over memory that held `before` and holds `after` then: 1 and the value, or 0 and what it held.
+pub record ToldWhere {A : Type 0} (judged : Bool) (value before : A) (r : ℕ) (after : A) : Type 0 where
+  pub told : T judged → (r ≡ 1) × (after ≡ value)
+  pub untold : T (not judged) → (r ≡ 0) × (after ≡ before)
+
+module _ (R : Ring) (senders : List ℕ) (X : List Stmt) (u : View) where
+  -- The count of the reports on u that count.
+  abbrev pub ReportsTold : List ℕ → ℕ → List ℕ → Type 0
+  ReportsTold = ToldWhere (judges R senders X) (countWords (countQuorum (R .width) u (isCountedOn R senders X u) X))
+
+  -- The set of those who signed them.
+  abbrev pub ReportersTold : ℕ → ℕ → ℕ → Type 0
+  ReportersTold = ToldWhere (judges R senders X) (signers (R .width) X u (isCountedOn R senders X u))
+
+-- The set behind a store quorum, in a ring with these senders: a notice that the setup lacks has none.
+unfoldable pub storesOf : Ring → List ℕ → List Stmt → ℕ → ℕ → ℕ
+storesOf R senders X i m = if ltb i (length senders) then storeSet R X i m else 0

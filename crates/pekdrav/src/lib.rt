@@ -4,5 +4,7 @@ mod count;
 mod pooled;
 mod rows;
 mod scan;
+mod screens;
 mod shown;
 mod statement;
+mod who;

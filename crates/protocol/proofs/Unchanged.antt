@@ -22,7 +22,7 @@ abbrev pub Idle : Answer → Type 0
 Idle taken = ⊥
 Idle (signed s) = ⊥
 Idle (entered v) = ⊥
-Idle (delivered i m) = ⊥
+Idle (delivered i m a) = ⊥
 Idle left = Unit {0}
 Idle quiet = Unit {0}
 Idle (refused r) = Unit {0}

@@ -1,52 +1,13 @@
 // Runs the schedule of the file that its one argument names, or of standard input where it has none, and prints the rows.
 // What it cannot open, read or write, and a second argument, it says in one line on standard error. A program has no exit status of its own.
-ghost use Prim.Native.Nat.{_-_, _≤_};
-ghost use lib.ListN.{length};
 ghost use Rattle.bench.specs.Rows.{Answered};
-ghost use Rattle.ring_bench.specs.Program.{InputWithin};
+use input::Input;
 use libc::STDERR_FILENO;
 use libc::STDIN_FILENO;
 use libc::STDOUT_FILENO;
 
 // One byte more than the longest schedule has, so that a longer one is known.
 const TEXT_BYTES: usize = 65537;
-
-// How many bytes were read, or that a read failed.
-enum Input {
-    Bytes(usize),
-    Failed,
-}
-
-// One read, to position n and on; it reads nothing where the input ends.
-fn read_some(fd: i32, text: &mut [u8], n: usize) -> Input
-    requires { ⌜ n ≤ length (now text) ⌝ }
-    ensures { λ r. ⌜ InputWithin r (length (now (text .entry)) - n) ⌝ }
-{
-    let rest = &mut text[n..];
-    let got = libc::read(fd, rest);
-    if got < 0 {
-        return Input::Failed;
-    }
-    Input::Bytes(io::count(got, rest))
-}
-
-// Reads until the memory is full, the input ends or a read fails.
-fn read_all(fd: i32, text: &mut [u8]) -> Input
-    ensures { λ r. ⌜ InputWithin r (length (now (text .exit))) ⌝ }
-{
-    let mut n = 0usize;
-    while n < text.len() {
-        let got = read_some(fd, text, n);
-        let Input::Bytes(more) = got else {
-            return Input::Failed;
-        };
-        if more == 0 {
-            return Input::Bytes(n);
-        }
-        n += more;
-    }
-    Input::Bytes(n)
-}
 
 // Writes the rows of a schedule to standard output by way of lent memory, and answers how many bytes they have.
 fn print_rows(schedule: &[u8], rows: &mut [u8]) -> usize
@@ -62,8 +23,8 @@ fn print_rows(schedule: &[u8], rows: &mut [u8]) -> usize
 // Runs what the descriptor reads; the name is for the line that says that it cannot be read.
 fn run_input(fd: i32, name: &[u8]) {
     let mut text = [0u8; TEXT_BYTES];
-    let input = read_all(fd, &mut text);
-    let Input::Bytes(n) = input else {
+    let read = input::read_all(fd, &mut text);
+    let Input::Bytes(n) = read else {
         os::fail(name);
         return;
     };

@@ -4,3 +4,4 @@ pub mod Sets
 pub mod Tables
 pub mod Tallies
 pub mod Views
+pub mod Signing

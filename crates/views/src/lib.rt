@@ -11,11 +11,16 @@ ghost use Rattle.views.specs.View.{viewOf, viewIn};
 ghost use Rattle.views.specs.Held.{viewIs, heldAt, viewsIs};
 
 mod lists;
+mod signers;
 mod tally;
 mod words;
 
 pub use lists::list_at;
 pub use lists::list_room;
+pub use signers::makes_quorum;
+pub use signers::members_among;
+pub use signers::members_without;
+pub use signers::written_before;
 pub use tally::Count;
 pub use tally::is_complete;
 pub use tally::own_of;

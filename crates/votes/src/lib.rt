@@ -12,6 +12,7 @@ pub use groups::has_votes;
 use pool::CAPACITY;
 pub use question::Question;
 pub use question::count;
+pub use question::signers;
 pub use wish::wished_by;
 
 // The tables of what quorums chose and agreed to.

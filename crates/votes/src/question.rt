@@ -1,10 +1,11 @@
-// Counting a quorum of those who voted for one thing: it ends with the signer who completes it.
+// Counting a quorum of those who voted for one thing, which ends with the signer who completes it; and who they are.
 ghost use mathlib.Core.Path.{_≡_};
 ghost use mathlib.Core.Bool.{_&&_};
 ghost use lib.Dec.{eqb};
 ghost use Rattle.protocol.specs.History.{sameViews};
 ghost use Rattle.protocol.specs.Statement.{payloadOf};
 ghost use Rattle.protocol.specs.Count.{countQuorum};
+ghost use Rattle.protocol.specs.Signers as protocol;
 ghost use Rattle.views.specs.View.{viewOf, viewsOf};
 ghost use Rattle.views.specs.Tally.{countIs};
 ghost use Rattle.pool.specs.Pool.{stmtAt, recordIn};
@@ -116,4 +117,29 @@ pub fn count(
         reached: false,
         read: end,
     }
+}
+
+// The members of the view that signed such votes, all of them: it reads the whole record.
+pub fn signers(
+    words: &[u64; POOL_WORDS],
+    ids: &[u16; RECORD],
+    q: Question,
+    history: &[u64; View::LIMIT],
+) -> u32
+    ensures { λ r. ⌜ r ≡ protocol.signers 16 (recordIn (now (words .entry)) (now (ids .entry))) (viewOf (q .at)) (asks q (now (history .entry))) ⌝ }
+{
+    let end = pool::record_length(ids);
+    let mut seen = 0u32;
+    let mut i = 0usize;
+    while i < end {
+        let s = ids[i];
+        let hit = says(words, s, q, history);
+        if !hit {
+            i += 1;
+            continue;
+        }
+        seen = views::note(seen, hit, pool::origin(words, s));
+        i += 1;
+    }
+    views::members_among(q.at, seen)
 }

@@ -13,13 +13,13 @@ use crate::measure::{self, head, measure, row};
 /// The completing signer is the last of the first tenth.
 const TENTH: usize = STATEMENTS / 10;
 
-const EVERYBODY: View = View::new(0xffff, 0);
+pub const EVERYBODY: View = View::new(0xffff, 0);
 /// Of sixteen members eleven are a quorum.
 const QUORUM: usize = 11;
-const PAYLOAD: u64 = 7;
+pub const PAYLOAD: u64 = 7;
 
 /// Records of each kind, so that no count goes by what the processor learnt from the one before.
-const RECORDS: usize = 32;
+pub const RECORDS: usize = 32;
 
 const KINDS: [&str; 4] = ["complete after a tenth", "without a quorum", "reports, complete after a tenth", "reports, without a quorum"];
 
@@ -29,7 +29,7 @@ fn shuffle<T>(rng: &mut Rng, list: &mut [T]) {
 
 /// Acks at one view. Eleven members acknowledge the payload, the last of them as statement 51, and the others later; or ten do, anywhere. All other acks are
 /// for other payloads.
-fn acks(rng: &mut Rng, complete: bool) -> Vec<Statement> {
+pub fn acks(rng: &mut Rng, complete: bool) -> Vec<Statement> {
     let mut members: Vec<u8> = (0..16).collect();
     shuffle(rng, &mut members);
     let ack = |origin, payload| Statement::new(origin, Body::Ack { at: EVERYBODY, notice: 0, payload });
@@ -50,7 +50,7 @@ fn acks(rng: &mut Rng, complete: bool) -> Vec<Statement> {
 }
 
 /// Reports on one view, all of which count. Ten members report again and again, an eleventh as statement 51 and everybody later; or ten do to the end.
-fn reports(rng: &mut Rng, complete: bool) -> Vec<Statement> {
+pub fn reports(rng: &mut Rng, complete: bool) -> Vec<Statement> {
     let mut members: Vec<u8> = (0..16).collect();
     shuffle(rng, &mut members);
     let history = History::new(&[EVERYBODY]);

@@ -1,23 +1,27 @@
 //! How fast the proved code is beside the reference: one run, the same inputs, both built for release.
 //!
-//! `ring-benchmark [PART ..]`, with parts `statements`, `scan`, `counts`, `evidence`, `turns` and `schedules`; all of them without an argument.
-//! `ring-benchmark repeat PART CASE SIDE ROUNDS` does the work of one case of `statements`, `counts` or `evidence` and times nothing: `instructions`
-//! counts what it takes.
+//! `ring-benchmark [PART ..]`, with parts `statements`, `scan`, `counts`, `signers`, `evidence`, `turns`, `screens` and `schedules`; all of them without
+//! an argument. `ring-benchmark repeat PART CASE SIDE ROUNDS` does the work of one case of `statements`, `counts`, `screens` or `evidence` and times
+//! nothing: `instructions` counts what it takes.
 
 mod counts;
 mod evidence;
 mod measure;
 mod scan;
 mod schedules;
+mod screens;
+mod signers;
 mod statements;
 mod turns;
 
-const PARTS: [(&str, fn()); 6] = [
+const PARTS: [(&str, fn()); 8] = [
     ("statements", statements::print),
     ("scan", scan::print),
     ("counts", counts::print),
+    ("signers", signers::print),
     ("evidence", evidence::print),
     ("turns", turns::print),
+    ("screens", screens::print),
     ("schedules", schedules::print),
 ];
 
@@ -28,6 +32,7 @@ fn main() {
             let repeat = match part.as_str() {
                 "statements" => statements::repeat,
                 "counts" => counts::repeat,
+                "screens" => screens::repeat,
                 _ => evidence::repeat,
             };
             return repeat(case, side, rounds.parse().unwrap_or(0));

@@ -5,7 +5,7 @@ use std::time::Instant;
 
 use compare::records::{gaps, pool_of, prepares, reports, short_of_quorum, skipped, votes, Case, NEWCOMER, WAITING};
 use pekdrav::{Controller, Pool};
-use reference::{Answer, Body, Document, Evidence, Record, Statement, Window, WINDOWS};
+use reference::{Answer, Body, Document, Evidence, Record, Statement, View, Window, WINDOWS};
 
 use crate::measure::{head, measure_in, median, medians, row, Times};
 
@@ -21,10 +21,10 @@ const OUTSIDER: u8 = 15;
 const ROUNDS: usize = 200;
 
 /// The same controller twice, and how many of the signed statements it was given.
-struct Seat {
-    mine: Controller,
-    pool: Pool,
-    theirs: reference::Controller,
+pub struct Seat {
+    pub mine: Controller,
+    pub pool: Pool,
+    pub theirs: reference::Controller,
     heard: usize,
 }
 
@@ -45,14 +45,13 @@ fn timed<T>(work: impl FnOnce() -> T) -> (T, f64) {
 }
 
 impl Seat {
-    /// A controller in a ring of that many notices of sender 0, with these windows. The memory of the pool is kept from run to run.
-    fn new(number: u8, members: u16, notices: usize, windows: &[Window], mut pool: Pool) -> Seat {
+    /// A controller in a ring of notices with these senders, and with these windows. The memory of the pool is kept from run to run.
+    fn new(number: u8, members: u16, senders: &[u8], windows: &[Window], mut pool: Pool) -> Seat {
         pool.clear();
         let mut seat = Seat { mine: Controller::new(), pool, theirs: reference::Controller::new(number), heard: 0 };
-        let senders = vec![0; notices];
         let listed: Vec<_> = windows.iter().map(|window| pekdrav::Window::new(window.weekday, window.first, window.end)).collect();
-        seat.mine.setup(number, members, &senders, &listed);
-        seat.theirs.setup(members, &senders, windows);
+        seat.mine.setup(number, members, senders, &listed);
+        seat.theirs.setup(members, senders, windows);
         seat
     }
 }
@@ -60,7 +59,7 @@ impl Seat {
 impl Ring {
     fn new(notices: usize, pools: Vec<Pool>) -> Ring {
         let members = (1u16 << (pools.len() / 2)) - 1;
-        let seat = |(number, pool)| Seat::new(number, members, notices, &[], pool);
+        let seat = |(number, pool)| Seat::new(number, members, &vec![0; notices], &[], pool);
         Ring { seats: (0..).zip(pools).map(seat).collect(), sent: Vec::new(), mine: 0.0, theirs: 0.0, turns: 0 }
     }
 
@@ -177,9 +176,9 @@ fn compared(size: u8, notices: usize, noise: u64) {
     row(&format!("{prefix}{size} controllers, records to {longest}, {turns} turns"), &times);
 }
 
-/// A controller with the statements of a record.
-fn seated(number: u8, case: &Case, windows: &[Window]) -> Seat {
-    let mut seat = Seat::new(number, case.initial.joined(), case.senders.len(), windows, Pool::new());
+/// A controller with the statements of a record, in a ring of notices with these senders.
+pub fn seated(number: u8, case: &Case, senders: &[u8], windows: &[Window]) -> Seat {
+    let mut seat = Seat::new(number, case.initial.joined(), senders, windows, Pool::new());
     for statement in &case.statements {
         seat.mine.add(&mut seat.pool, &statement.write());
         seat.theirs.add(statement);
@@ -203,7 +202,8 @@ fn quiet(rounds: usize, seat: Seat) -> Times {
 
 /// Turns of a controller that waits, over a record of the worst that liars can write.
 fn waited(name: &str, case: &Case) {
-    let times = quiet(ROUNDS, seated(WAITING, case, &[]));
+    // Also the votes have sender 0 alone, so that a third of them are for what is prepared.
+    let times = quiet(ROUNDS, seated(WAITING, case, &vec![0; case.senders.len()], &[]));
     row(&format!("64 notices, {name}, {} statements", case.statements.len()), &times);
 }
 
@@ -214,7 +214,7 @@ const SHORT_ROUNDS: usize = 2_000;
 fn waited_for_window(case: &Case, member: u8) {
     let windows: Vec<Window> = (0..WINDOWS as u16).map(|place| Window::new(place % 7, 480 + place, 540)).collect();
     for (name, leaves) in [("no leave", false), ("a leave that waits for its window", true)] {
-        let mut seat = seated(member, case, &windows);
+        let mut seat = seated(member, case, &vec![0; case.senders.len()], &windows);
         if leaves {
             seat.mine.leave();
             seat.theirs.leave();
@@ -231,25 +231,49 @@ fn lifetime() -> Option<(Case, u8)> {
     Some((case, member))
 }
 
-/// Turns of a newcomer that enters past skipped views. It enters once, so that every turn has a controller of its own; entering signs nothing, so that
-/// one pool serves all.
-fn entered(name: &str, case: &Case) {
-    let Seat { mine: prepared, mut pool, .. } = seated(NEWCOMER, case, &[]);
+/// Turns that change a controller but sign nothing: each has a controller of its own, made from the record, and one pool serves all. `due` says whether both
+/// answered as they should.
+fn once(name: &str, k: u8, case: &Case, due: impl Fn(pekdrav::Answer, &Answer) -> bool) {
+    let Seat { mine: prepared, mut pool, .. } = seated(k, case, &case.senders, &[]);
     let mut round = || {
         let mut mine = prepared.clone();
-        let mut theirs = reference::Controller::<Document>::new(NEWCOMER);
+        let mut theirs = reference::Controller::<Document>::new(k);
         theirs.setup(case.initial.joined(), &case.senders, &[]);
         case.statements.iter().for_each(|statement| drop(theirs.add(statement)));
         // Both read their records before they are timed, as they do in the other rows, where they took a turn just before.
         black_box((mine.evidence(&pool), Evidence::of(case.initial, &case.senders, theirs.record().statements())));
         let (answer, first) = timed(|| mine.turn(&mut pool, MINUTE));
         let (other, second) = timed(|| theirs.turn(MINUTE));
-        let both = matches!((answer, &other), (pekdrav::Answer::Entered(_), Answer::Entered(_)));
-        assert!(both, "{name}: {answer:?} and {other:?}");
+        assert!(due(answer, &other), "{name}: {answer:?} and {other:?}");
         (first, second)
     };
     let times = medians((0..ROUNDS).map(|_| round()));
     row(&format!("{name}, {} statements", case.statements.len()), &times);
+}
+
+/// Turns of a newcomer that enters past skipped views.
+fn entered(name: &str, case: &Case) {
+    once(name, NEWCOMER, case, |mine, theirs| matches!((mine, theirs), (pekdrav::Answer::Entered(_), Answer::Entered(_))));
+}
+
+/// Sixteen members that all acknowledged and stored one notice, and prepares that decide nothing.
+fn stored(count: usize) -> Case {
+    let (at, payload) = (View::new(0xffff, 0), 7);
+    let sign = |origin, body| Statement::new(origin, body);
+    let mut statements = vec![sign(0, Body::Prepare { notice: 0, payload })];
+    statements.extend((0..16).map(|origin| sign(origin, Body::Ack { at, notice: 0, payload })));
+    statements.extend((0..16).map(|origin| sign(origin, Body::Store { at, notice: 0, payload })));
+    let rest = count.saturating_sub(statements.len()) as u64;
+    statements.extend((0..rest).map(|payload| sign(OUTSIDER, Body::Prepare { notice: 0, payload })));
+    Case { initial: at, senders: vec![0], statements }
+}
+
+/// Turns of the first member that deliver a notice, and with it the set of those that stored it.
+fn delivered(name: &str, case: &Case) {
+    once(name, 0, case, |mine, theirs| match (mine, theirs) {
+        (pekdrav::Answer::Delivered { signers, .. }, Answer::Delivered { signers: other, .. }) => signers == *other && signers != 0,
+        _ => false,
+    });
 }
 
 pub fn print() {
@@ -273,6 +297,11 @@ pub fn print() {
     entered("past 7 skipped views, 16 sealed histories", &gaps(512, 1));
     entered("64 notices, past 14 skipped views", &skipped(512, 64));
     entered("64 notices, past 7 skipped views, 16 sealed histories", &gaps(512, 64));
+    println!();
+    head("Turns that deliver", "turn");
+    delivered("one notice, sixteen stores", &stored(33));
+    delivered("one notice, sixteen stores", &stored(512));
+    delivered("64 notices, votes", &votes(512));
     println!();
     head("Turns with nothing to do, eight windows", "turn");
     let (case, member) = lifetime().expect("some initial member stays");

@@ -45,6 +45,11 @@ impl<'a> Definition<'a> {
         })
     }
 
+    /// The members of `at` that signed a statement of which `says` holds.
+    fn signers(&self, at: View, says: impl Fn(&Body) -> bool) -> Set {
+        self.origins(says) & at.members()
+    }
+
     /// Whether a quorum of `at` signed a statement of which `says` holds; each member counts once.
     fn quorum_signed(&self, at: View, says: impl Fn(&Body) -> bool) -> bool {
         is_quorum(at, self.origins(says))
@@ -238,6 +243,41 @@ impl<'a> Definition<'a> {
     pub fn acked_after(&self, notice: u8, payload: u64) -> Option<usize> {
         let shortest = |&at: &View| self.shortest(at, |said| said.body == Body::Ack { at, notice, payload });
         self.tops().iter().filter_map(shortest).min()
+    }
+
+    /// The members of `at` that signed this body, of a statement at `at`.
+    pub fn who_signed(&self, at: View, body: &Body) -> Set {
+        self.signers(at, |said| said == body)
+    }
+
+    /// The members of the view with reports on it that count; nothing where a turn is refused with 7 or 6.
+    pub fn who_reported(&self, at: View) -> Option<Set> {
+        if self.contradicts() || self.all_candidates().len() > History::LIMIT {
+            return None;
+        }
+        let counts = |said: &&Statement| matches!(&said.body, Body::Report(report) if report.at == at && self.counts(said.origin, report));
+        Some(self.statements.iter().filter(counts).fold(0, |origins, said| origins | 1 << said.origin))
+    }
+
+    /// The sealed tops at which a quorum signed a body, which `body` gives for each, and who did; by the eight digits of the tops.
+    fn quorums_as_written(&self, body: impl Fn(View) -> Body) -> Vec<(View, Set)> {
+        let mut tops = self.tops().to_vec();
+        tops.sort_by_key(View::to_string);
+        let signed = tops.into_iter().map(|top| (top, self.who_signed(top, &body(top))));
+        signed.filter(|&(top, signers)| is_quorum(top, signers)).collect()
+    }
+
+    /// Who acknowledged the payload at each sealed top that has a certificate for it, the least top first.
+    pub fn ack_sets(&self, notice: u8, payload: u64) -> Vec<(View, Set)> {
+        if !self.prepared(notice, payload) {
+            return Vec::new();
+        }
+        self.quorums_as_written(|at| Body::Ack { at, notice, payload })
+    }
+
+    /// Who stored the payload at each sealed top of which a quorum did, the least top first.
+    pub fn store_sets(&self, notice: u8, payload: u64) -> Vec<(View, Set)> {
+        self.quorums_as_written(|at| Body::Store { at, notice, payload })
     }
 
     pub fn counts(&self, origin: u8, report: &Report) -> bool {

@@ -1,12 +1,14 @@
 //! Whether a run is within the premises, whether demand 3 holds on it, and how deep it went.
 
+use std::collections::HashMap;
+
 use reference::controller::Ring;
 use reference::{Binding, Report, View, Window};
 
 use crate::definition::{Definition, Store};
 use crate::run::{Deed, Event, Run};
 
-/// A way in which a run fails demand 3, or does not keep the windows.
+/// A way in which a run fails demand 3, does not keep the windows, or tells wrong signers.
 #[derive(Clone, Copy, PartialEq, Eq, Debug)]
 pub enum Breach {
     /// Two deliveries of one notice differ.
@@ -23,6 +25,9 @@ pub enum Breach {
     NotKept { controller: u8, view: View, store: Store },
     /// The controller signed its leave in a minute that no window has. Demand 3 does not speak of this.
     OutsideWindow { controller: u8, minute: u16 },
+    /// A delivery told other signers than those that stored the payload at the least sealed top of the controller's record, as written, of which a quorum
+    /// did. Nor does it speak of this.
+    OtherSigners { controller: u8, notice: u8, told: u32, due: u32 },
 }
 
 impl Breach {
@@ -35,6 +40,7 @@ impl Breach {
             Breach::Incomparable(..) => "incomparable",
             Breach::NotKept { .. } => "not kept",
             Breach::OutsideWindow { .. } => "outside window",
+            Breach::OtherSigners { .. } => "other signers",
         }
     }
 }
@@ -57,6 +63,8 @@ pub struct Depth {
     pub bound_otherwise: usize,
     /// The leaves that rule-followers signed in a ring with windows.
     pub appointed: usize,
+    /// Deliveries by a rule-follower whose record has store quorums at several sealed tops, the least and the greatest with other signers.
+    pub stored_apart: usize,
 }
 
 #[derive(Clone, Debug)]
@@ -92,7 +100,10 @@ pub fn judge(run: &Run) -> Verdict {
     breaches.extend(incomparable(run, ring));
     breaches.extend(not_kept(run, ring, &shown));
     breaches.extend(leaves(run).filter(|&(_, minute)| !is_open(ring, minute)).map(outside_window));
-    Verdict { within_premises: tops.iter().all(bears), breaches, contradiction: shown.contradicts(), depth: depth(run, ring, &shown) }
+    let (other, stored_apart) = signers(run, ring);
+    breaches.extend(other);
+    let depth = Depth { stored_apart, ..depth(run, ring, &shown) };
+    Verdict { within_premises: tops.iter().all(bears), breaches, contradiction: shown.contradicts(), depth }
 }
 
 /// A delivery by a rule-follower, and its place in the list of events.
@@ -102,12 +113,17 @@ struct Delivery {
     controller: u8,
     notice: u8,
     payload: u64,
+    signers: u32,
+    /// The length of the controller's record then.
+    length: usize,
 }
 
 fn deliveries(run: &Run) -> impl Iterator<Item = Delivery> + '_ {
     let followed = run.events.iter().enumerate().filter(|(_, event)| run.is_follower(event.controller));
     followed.filter_map(|(place, event)| match event.deed {
-        Deed::Delivered { notice, payload } => Some(Delivery { place, controller: event.controller, notice, payload }),
+        Deed::Delivered { notice, payload, signers } => {
+            Some(Delivery { place, controller: event.controller, notice, payload, signers, length: event.length })
+        }
         _ => None,
     })
 }
@@ -189,6 +205,24 @@ fn not_kept(run: &Run, ring: &Ring, shown: &Definition) -> Vec<Breach> {
     breaches
 }
 
+/// The deliveries that told other signers than their records have, and how many had store quorums of other signers to choose from.
+fn signers(run: &Run, ring: &Ring) -> (Vec<Breach>, usize) {
+    let mut records: HashMap<(u8, usize), Definition> = HashMap::new();
+    let (mut breaches, mut apart) = (Vec::new(), 0);
+    for Delivery { controller, notice, payload, signers: told, length, .. } in deliveries(run) {
+        let record = &run.records[usize::from(controller)][..length];
+        // Many notices are delivered by one record, one after the other.
+        let held = records.entry((controller, length)).or_insert_with(|| Definition::new(ring.initial, &ring.senders, record));
+        let sets = held.store_sets(notice, payload);
+        let due = sets.first().map_or(0, |&(_, signers)| signers.into());
+        if told != due {
+            breaches.push(Breach::OtherSigners { controller, notice, told, due });
+        }
+        apart += usize::from(sets.last().is_some_and(|&(_, signers)| u32::from(signers) != due));
+    }
+    (breaches, apart)
+}
+
 /// The leaves that rule-followers signed, with who did and when.
 fn leaves(run: &Run) -> impl Iterator<Item = (u8, u16)> + '_ {
     let followed = run.events.iter().filter(|event| run.is_follower(event.controller));
@@ -260,5 +294,6 @@ fn depth(run: &Run, ring: &Ring, shown: &Definition) -> Depth {
         short_roads,
         bound_otherwise,
         appointed: if ring.windows.is_empty() { 0 } else { leaves(run).count() },
+        stored_apart: 0,
     }
 }

@@ -11,6 +11,7 @@ pub enum Deed {
     Delivered {
         notice: u8,
         payload: u64,
+        signers: u32,
     },
     Prepared {
         notice: u8,
@@ -87,7 +88,7 @@ fn event<R: Rules>(bench: &Bench<R>, line: &[u8], row: &Row) -> Option<Event> {
     };
     let deed = match row.outcome {
         Outcome::Entered(view) => Deed::Entered(view),
-        Outcome::Delivered { notice, payload } => Deed::Delivered { notice, payload },
+        Outcome::Delivered { notice, payload, signers } => Deed::Delivered { notice, payload, signers },
         Outcome::Signed(number) => match bench.pool().statements().get(number as usize)?.body {
             Body::Prepare { notice, payload } => Deed::Prepared { notice, payload },
             Body::Leave => Deed::AskedToLeave { minute },

@@ -32,6 +32,8 @@ pub struct Totals {
     pub bound_otherwise: usize,
     /// Runs within the premises in which somebody left in a window.
     pub appointed: usize,
+    /// Runs within the premises with a delivery whose record has store quorums of other signers at two tops.
+    pub stored_apart: usize,
     /// The greatest of each number over the runs within the premises.
     pub most: Depth,
     /// The runs that met each refusal, by its number.
@@ -58,6 +60,7 @@ impl Totals {
         self.short_roads += usize::from(depth.short_roads > 0);
         self.bound_otherwise += usize::from(depth.bound_otherwise > 0);
         self.appointed += usize::from(depth.appointed > 0);
+        self.stored_apart += usize::from(depth.stored_apart > 0);
         self.most = Depth {
             statements: self.most.statements.max(depth.statements),
             tops: self.most.tops.max(depth.tops),
@@ -68,6 +71,7 @@ impl Totals {
             short_roads: self.most.short_roads.max(depth.short_roads),
             bound_otherwise: self.most.bound_otherwise.max(depth.bound_otherwise),
             appointed: self.most.appointed.max(depth.appointed),
+            stored_apart: self.most.stored_apart.max(depth.stored_apart),
         };
         if !verdict.holds() {
             self.failed.push(seed);
@@ -87,7 +91,7 @@ impl std::fmt::Display for Totals {
         write!(f, "4 tops or more {}, 4 entered or more {}, ", self.four_tops, self.four_entered)?;
         write!(f, "delivering {}, after a change {}, two notices {}, ", self.delivering, self.late, self.two_notices)?;
         write!(f, "past a skipped view {}, whose reports bind otherwise {}, ", self.short_roads, self.bound_otherwise)?;
-        write!(f, "leaving in a window {}; ", self.appointed)?;
+        write!(f, "leaving in a window {}, stored at two tops by others {}; ", self.appointed, self.stored_apart)?;
         write!(f, "most: statements {statements}, tops {tops}, entered {entered}, late deliveries {late_deliveries}, ")?;
         write!(f, "notices delivered {notices}; ")?;
         write!(f, "runs with refusals 1 to 11: {:?}", &self.refused[1..])

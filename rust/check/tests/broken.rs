@@ -28,6 +28,8 @@ broken!(CertificateLost drops CERTIFICATE_REPORTED);
 broken!(DeliversAgain drops DELIVERED_ONCE);
 broken!(NoticesMixed drops NOTICES_APART);
 broken!(LeavesAnyTime drops LEAVE_IN_WINDOW);
+broken!(TellsGreatestTop drops LEAST_TOP);
+broken!(TellsStrangers drops MEMBERS_TOLD);
 
 /// Whether an attack within the premises fails in the given way.
 fn fails<R: Rules>(kind: &str, lines: usize) -> bool {
@@ -124,6 +126,21 @@ fn delivering_again_is_noticed() {
 #[test]
 fn a_leave_outside_its_window_is_noticed() {
     assert!(fails_in::<LeavesAnyTime>("leavers", "outside window", 300));
+}
+
+#[test]
+fn the_signers_at_the_greatest_top_are_noticed() {
+    for style in ["honest", "attack", "skips"] {
+        assert!(fails_in::<TellsGreatestTop>(style, "other signers", 600), "{style}");
+    }
+}
+
+/// Only in these styles are there liars that never join.
+#[test]
+fn signers_that_are_no_members_are_noticed() {
+    for style in ["attack", "skips"] {
+        assert!(fails_in::<TellsStrangers>(style, "other signers", 600), "{style}");
+    }
 }
 
 #[test]

@@ -3,7 +3,7 @@
 use check::{Definition, Run};
 use generate::{schedule, LIMITS, RANDOM};
 use reference::controller::Ring;
-use reference::{count_reports, Body, Document, Evidence, Question, Record, Statement, View};
+use reference::{count_reports, Body, Document, Evidence, Question, Quorum, Record, Statement, View};
 
 /// How many counts came out how.
 #[derive(Default, Debug)]
@@ -51,7 +51,7 @@ fn agrees(ring: &Ring, statements: &[Statement], tally: &mut Tally) {
         tally.refused += u64::from(count.is_none());
     }
     for (notice, known) in (0..).zip(&fast.notices) {
-        for &payload in &known.certificates {
+        for &Quorum { payload, .. } in &known.certificates {
             let after = fast.acked_after(statements, notice, payload);
             assert_eq!(after, slow.acked_after(notice, payload));
             assert!(after.is_some(), "a certificate has a quorum of acks");

@@ -4,7 +4,7 @@ use check::{soak, Definition, Run};
 use generate::{schedule, LIMITS, RANDOM};
 use reference::bench::run;
 use reference::controller::Ring;
-use reference::{Answer, Binding, Body, Controller, Document, Evidence, Statement, View};
+use reference::{Answer, Binding, Body, Controller, Document, Evidence, Quorum, Statement, View};
 
 #[test]
 fn honest_runs_keep_the_promises_and_go_deep() {
@@ -15,6 +15,7 @@ fn honest_runs_keep_the_promises_and_go_deep() {
     assert!(totals.four_entered * 2 > totals.runs && totals.late * 4 > totals.runs);
     assert!(totals.most.tops >= 8 && totals.most.entered >= 8);
     assert!(totals.two_notices > 30 && totals.refused[9] > 30);
+    assert!(totals.stored_apart * 5 > totals.runs);
 }
 
 #[test]
@@ -99,11 +100,12 @@ fn agrees(run: &Run, statements: &[Statement]) {
     assert!(fast.conflict() || fast.greatest().copied() == slow.greatest());
     let stores = slow.stores();
     for (notice, known) in (0..).zip(&fast.notices) {
-        same(&known.certificates, &slow.certificates(notice));
+        let payloads = |quorums: &[Quorum]| quorums.iter().map(|quorum| quorum.payload).collect::<Vec<_>>();
+        same(&payloads(&known.certificates), &slow.certificates(notice));
         let mut stored: Vec<u64> = stores.iter().filter(|store| store.notice == notice).map(|store| store.payload).collect();
         stored.sort_unstable();
         stored.dedup();
-        same(&known.stored, &stored);
+        same(&payloads(&known.stored), &stored);
     }
     for Statement { origin, body } in statements {
         if let Body::Report(report) = body {
@@ -192,7 +194,7 @@ fn a_longer_list_shows_all_that_its_prefix_shows() {
                 assert!(last.sealed.iter().all(|history| next.sealed.contains(history)));
                 assert!(last.candidates.iter().all(|view| next.skips(*view) || !last.skips(*view)));
                 for (earlier, later) in last.notices.iter().zip(&next.notices) {
-                    assert!(earlier.certificates.iter().all(|payload| later.certificates.contains(payload)));
+                    assert!(earlier.certificates.iter().all(|acks| later.acks(acks.payload).is_some()));
                 }
                 last = next;
             }
@@ -264,6 +266,10 @@ fn each_limit_is_met() {
             ("overlapping-windows", ",0,quiet,0", true),
             ("overlapping-windows", ",14,quiet,0", true),
             ("overlapping-windows", ",15,quiet,0", true),
+            ("tops-apart", ",refused,7", true),
+            ("tops-apart", ",delivered,", false),
+            ("waits", ",refused,", false),
+            ("waits", ",entered,", false),
         ] {
             assert_eq!(rows(style, seed).contains(needle), expected, "{style} {seed} {needle}");
         }

@@ -42,10 +42,10 @@ pub fn repeated(rng: &mut Rng, case: &Case) -> Case {
 
 /// A question, and bits that no controller has: with any of them in a view nobody signed.
 #[derive(Clone, PartialEq, Eq, Hash, Debug)]
-struct Asked {
-    question: Question,
+pub(crate) struct Asked {
+    pub question: Question,
     /// In the word of the view that it is signed at, and in those that are voted for.
-    at_bits: u64,
+    pub at_bits: u64,
     voted_bits: u64,
 }
 
@@ -56,7 +56,8 @@ impl From<Question> for Asked {
 }
 
 impl Asked {
-    fn mine(&self, pool: &Pool, record: &Record) -> Count {
+    /// Asks the question in the form of the proved code.
+    pub fn ask<T>(&self, ask: impl FnOnce(&pekdrav::Question) -> T) -> T {
         let with = |view: reference::View, bits: u64| View::from_word(as_mine(view).word() | bits);
         let voted = |view: &reference::View| with(*view, self.voted_bits);
         let at = with(self.question.at(), self.at_bits);
@@ -70,11 +71,20 @@ impl Asked {
             &Question::Ack { notice, payload, .. } => pekdrav::Question::Ack { at, notice, payload },
             &Question::Store { notice, payload, .. } => pekdrav::Question::Store { at, notice, payload },
         };
-        record.count(pool, &question)
+        ask(&question)
+    }
+
+    /// Whether its views are views, so that somebody may have signed.
+    pub fn is_proper(&self) -> bool {
+        self.at_bits | self.voted_bits == 0
+    }
+
+    fn mine(&self, pool: &Pool, record: &Record) -> Count {
+        self.ask(|question| record.count(pool, question))
     }
 
     fn theirs(&self, statements: &[Statement]) -> Count {
-        if self.at_bits | self.voted_bits == 0 {
+        if self.is_proper() {
             told(self.question.count(statements))
         } else {
             nobody(statements)
@@ -152,7 +162,7 @@ fn otherwise(question: &Question) -> Vec<Asked> {
 }
 
 /// All that is asked of a record: what it answers, and from some of that what differs in one thing.
-fn asked(statements: &[Statement]) -> Vec<Asked> {
+pub(crate) fn asked(statements: &[Statement]) -> Vec<Asked> {
     let answered = answered(statements);
     let some = answered.iter().step_by(1 + answered.len() / 24);
     let others: Vec<Asked> = some.flat_map(|question| elsewhere(question).into_iter().chain(otherwise(question))).collect();
@@ -160,7 +170,7 @@ fn asked(statements: &[Statement]) -> Vec<Asked> {
 }
 
 /// The views on which reports are counted: those of the greatest history, those that somebody reports on, and others.
-fn reported(case: &Case, evidence: &reference::Evidence) -> Vec<reference::View> {
+pub(crate) fn reported(case: &Case, evidence: &reference::Evidence) -> Vec<reference::View> {
     let at = |statement: &Statement| match &statement.body {
         Body::Report(report) => Some(report.at),
         _ => None,
@@ -229,7 +239,7 @@ fn compare_reports(case: &Case, lent: &Lent, evidence: &reference::Evidence, tal
     Ok(())
 }
 
-/// Compares every count of a record that is lent by `lend`, and the text of its service screen.
+/// Compares every count of a record that is lent by `lend`, and the text of what it shows.
 pub fn compare(case: &Case, mut lend: impl FnMut(&Case) -> Result<Lent, String>, tally: &mut Tally) -> Result<(), String> {
     let lent = lend(case)?;
     for asked in asked(&case.statements) {

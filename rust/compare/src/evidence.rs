@@ -76,7 +76,7 @@ fn told(evidence: &reference::Evidence) -> Evidence {
     let listed = |views: &[reference::View]| views.iter().map(|&view| as_mine(view)).collect::<Vec<View>>();
     let certificate = |(notice, known): (u8, &Known)| {
         let payload = known.certificate()?;
-        Some(Certificate { notice, payload, stored: known.stored.contains(&payload) })
+        Some(Certificate { notice, payload, stored: known.stores(payload).is_some() })
     };
     let rest = || Shown {
         candidates: (evidence.candidates.len() <= VIEWS).then(|| listed(&evidence.candidates)),
@@ -86,7 +86,7 @@ fn told(evidence: &reference::Evidence) -> Evidence {
     Evidence { wished: as_mine(evidence.wished), shown: (!evidence.conflict()).then(rest) }
 }
 
-/// The text of a service screen, from the evidence; with one notice its number is not told.
+/// The text of what a record shows, from the evidence; with one notice its number is not told.
 fn text(case: &Case, theirs: &reference::Evidence) -> String {
     let evidence = told(theirs);
     let view = |view: View| format!("{:04x}{:04x}", view.joined(), view.left());
@@ -108,7 +108,7 @@ fn text(case: &Case, theirs: &reference::Evidence) -> String {
     format!("{wished}candidates,{candidates}\ngreatest,{}\n{certificates}", list(&shown.greatest))
 }
 
-/// Compares the text of a service screen with one made from the reference's evidence.
+/// Compares the text of what a record shows with one made from the reference's evidence.
 pub fn compare_text(case: &Case, lent: &Lent, theirs: &reference::Evidence) -> Result<(), String> {
     let (mine, theirs) = (lent.record.screen(&lent.pool, &lent.ring), text(case, theirs));
     if mine == theirs {

@@ -7,4 +7,6 @@ pub mod lockstep;
 pub mod records;
 pub mod rows;
 pub mod schedules;
+pub mod screens;
+pub mod signers;
 pub mod statements;

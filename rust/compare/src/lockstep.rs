@@ -5,13 +5,17 @@ use std::collections::BTreeMap;
 
 use pekdrav::{Controller, Pool};
 use reference::bench::Line;
-use reference::{Answer, Window};
+use reference::{Answer, Evidence, Question, View, Window};
 
 use crate::evidence::as_mine;
 use crate::records::Case;
+use crate::screens;
 
 /// What the compared calls answered; a refusal with its number.
 pub type Tally = BTreeMap<String, u64>;
+
+/// What a delivery is counted as too, if its record has store quorums at several tops and not all with the same signers.
+pub const STORED_APART: &str = "delivered, stored apart";
 
 /// The same controller twice.
 struct Seat {
@@ -25,6 +29,7 @@ pub struct Ring {
     seats: Vec<Seat>,
     sent: Vec<Vec<u8>>,
     pub tally: Tally,
+    pub screens: screens::Tally,
 }
 
 /// A call on a controller.
@@ -68,7 +73,7 @@ impl Seat {
             (Mine::Taken, Answer::Taken) | (Mine::Left, Answer::Left) | (Mine::Quiet, Answer::Quiet) => true,
             (Mine::Signed(number), Answer::Signed(statement)) => self.pool.text(number) == Some(statement.write()),
             (Mine::Entered(mine), Answer::Entered(theirs)) => mine == as_mine(*theirs),
-            (Mine::Delivered { notice, payload }, theirs) => *theirs == Answer::Delivered { notice, payload },
+            (Mine::Delivered { notice, payload, signers }, theirs) => *theirs == Answer::Delivered { notice, payload, signers },
             (Mine::Refused(mine), Answer::Refused(theirs)) => mine.number() == *theirs as u8,
             _ => false,
         };
@@ -92,6 +97,17 @@ impl Seat {
             && mine.notices().map(held).eq(theirs.notices().iter().copied())
             && (mine.join_requested(), mine.leave_requested()) == (requests.join, requests.leave)
             && mine.record().len() == theirs.record().len()
+    }
+
+    /// Whether the record has store quorums of the payload at several sealed tops, and not all with the same signers.
+    fn is_stored_apart(&self, notice: u8, payload: u64) -> bool {
+        let Some(ring) = self.theirs.ring() else { return false };
+        let statements = self.theirs.record().statements();
+        let shown = Evidence::of(ring.initial, &ring.senders, statements);
+        let stores = |&at: &View| Question::Store { at, notice, payload };
+        let mut sets = shown.tops.iter().map(stores).filter(|stores| stores.count(statements).reached).map(|stores| stores.who(statements));
+        let first = sets.next();
+        sets.any(|set| Some(set) != first)
     }
 
     /// Whether the two records are the same, statement by statement.
@@ -120,7 +136,7 @@ fn held(notice: pekdrav::Notice) -> reference::Notice {
 impl Default for Ring {
     fn default() -> Ring {
         let seat = |number| Seat { mine: Controller::new(), pool: Pool::new(), theirs: reference::Controller::new(number) };
-        Ring { seats: (0..16).map(seat).collect(), sent: Vec::new(), tally: Tally::new() }
+        Ring { seats: (0..16).map(seat).collect(), sent: Vec::new(), tally: Tally::new(), screens: screens::Tally::default() }
     }
 }
 
@@ -156,7 +172,17 @@ impl Ring {
             answer => format!("{answer:?}").split(['(', ' ']).next().unwrap_or_default().to_lowercase(),
         };
         *self.tally.entry(word).or_default() += 1;
+        if matches!(theirs, Answer::Delivered { notice, payload, .. } if seat.is_stored_apart(notice, payload)) {
+            *self.tally.entry(STORED_APART.to_string()).or_default() += 1;
+        }
         Ok(theirs)
+    }
+
+    /// Compares the service screens of one controller.
+    fn compare_screen(&mut self, k: u8) -> Result<(), String> {
+        let Seat { mine, pool, theirs } = &self.seats[usize::from(k)];
+        screens::compare(&mine.screen(pool), &theirs.screen(), &mut self.screens)
+            .map_err(|difference| format!("controller {k}: {difference}"))
     }
 
     fn sign(&mut self, text: Vec<u8>) {
@@ -165,48 +191,61 @@ impl Ring {
         }
     }
 
-    /// Runs a line of a schedule; one that does not read is added as if it were a statement.
+    /// Runs a line of a schedule and compares the service screen of the controller that it names.
     fn line(&mut self, place: usize, line: &[u8]) -> Result<(), String> {
+        let k = self.run_line(place, line)?;
+        k.map_or(Ok(()), |k| self.compare_screen(k))
+    }
+
+    /// Runs a line, and answers the controller that it names; one that does not read is added as if it were a statement.
+    fn run_line(&mut self, place: usize, line: &[u8]) -> Result<Option<u8>, String> {
+        let stray = (place % 16) as u8;
         match Line::read(line, self.seats[0].theirs.groups()) {
-            Some(Line::Setup { members, senders, windows, .. }) => (0..16).try_for_each(|number| {
-                let setup = Call::Setup { number, members, senders: &senders, windows: &windows };
-                self.call(number, setup).map(drop)
-            }),
-            Some(Line::Join(k)) => self.call(k, Call::Join).map(drop),
-            Some(Line::Leave(k)) => self.call(k, Call::Leave).map(drop),
-            Some(Line::Send { k, notice, payload }) => self.call(k, Call::Send { notice, payload }).map(drop),
+            Some(Line::Setup { members, senders, windows, .. }) => {
+                for number in 0..16 {
+                    self.call(number, Call::Setup { number, members, senders: &senders, windows: &windows })?;
+                }
+                Ok(Some(stray))
+            }
+            Some(Line::Join(k)) => self.call(k, Call::Join).map(|_| Some(k)),
+            Some(Line::Leave(k)) => self.call(k, Call::Leave).map(|_| Some(k)),
+            Some(Line::Send { k, notice, payload }) => self.call(k, Call::Send { notice, payload }).map(|_| Some(k)),
             Some(Line::Give(k, number)) => match self.sent.get(number as usize).cloned() {
-                Some(text) => self.call(k, Call::Add(&text)).map(drop),
-                None => Ok(()),
+                Some(text) => self.call(k, Call::Add(&text)).map(|_| Some(k)),
+                None => Ok(None),
             },
             Some(Line::All(k)) => {
                 let sent = self.sent.clone();
-                sent.iter().try_for_each(|text| self.call(k, Call::Add(text)).map(drop))
+                sent.iter().try_for_each(|text| self.call(k, Call::Add(text)).map(drop))?;
+                Ok(Some(k))
             }
             Some(Line::Turn { k, minute }) => {
                 if let Answer::Signed(statement) = self.call(k, Call::Turn { minute })? {
                     self.sign(statement.write());
                 }
-                Ok(())
+                Ok(Some(k))
             }
             Some(Line::Lie(Some(statement))) => {
                 self.sign(statement.write());
-                Ok(())
+                Ok(None)
             }
-            Some(Line::Lie(None)) => self.call((place % 16) as u8, Call::Add(&line[4..])).map(drop),
-            None => self.call((place % 16) as u8, Call::Add(line)).map(drop),
+            Some(Line::Lie(None)) => self.call(stray, Call::Add(&line[4..])).map(|_| Some(stray)),
+            None => self.call(stray, Call::Add(line)).map(|_| Some(stray)),
         }
     }
 
-    /// Gives a controller the statements of a record and takes one turn of it.
+    /// Gives a controller the statements of a record and takes one turn of it; compares its service screen before and after.
     pub fn turn_on(&mut self, k: u8, case: &Case) -> Result<(), String> {
         self.restart();
+        self.compare_screen(k)?;
         let senders = &case.senders;
         self.call(k, Call::Setup { number: k, members: case.initial.joined(), senders, windows: &[] })?;
         for statement in &case.statements {
             self.call(k, Call::Add(&statement.write()))?;
         }
-        self.call(k, Call::Turn { minute: 0 }).map(drop)
+        self.compare_screen(k)?;
+        self.call(k, Call::Turn { minute: 0 })?;
+        self.compare_screen(k)
     }
 
     /// Has a controller that is alone in its ring ask to leave, and take a turn in each minute; once its leave is signed it starts anew.
@@ -219,16 +258,18 @@ impl Ring {
                 self.call(0, Call::Leave)?;
             }
             leaving = !matches!(self.call(0, Call::Turn { minute })?, Answer::Signed(_));
+            self.compare_screen(0)?;
         }
         Ok(())
     }
 
-    /// Runs a schedule from the start, and compares the records at its end.
+    /// Runs a schedule from the start, and compares all service screens and the records at its end.
     pub fn run(&mut self, schedule: &[u8]) -> Result<(), String> {
         self.restart();
         for (place, line) in schedule.split(|&byte| byte == b'\n').enumerate() {
             self.line(place, line).map_err(|difference| format!("line {}: {difference}", place + 1))?;
         }
+        (0..16).try_for_each(|k| self.compare_screen(k))?;
         match self.seats.iter().position(|seat| !seat.has_same_record()) {
             Some(k) => Err(format!("controller {k}: the records differ")),
             None => Ok(()),
@@ -237,10 +278,10 @@ impl Ring {
 }
 
 /// Runs many schedules, one after the other.
-pub fn compare_all(schedules: impl Iterator<Item = Vec<u8>>) -> Result<Tally, String> {
+pub fn compare_all(schedules: impl Iterator<Item = Vec<u8>>) -> Result<(Tally, screens::Tally), String> {
     let mut ring = Ring::new();
     for schedule in schedules {
         ring.run(&schedule).map_err(|difference| format!("{difference}\n{}", String::from_utf8_lossy(&schedule)))?;
     }
-    Ok(ring.tally)
+    Ok((ring.tally, ring.screens))
 }

@@ -1,15 +1,18 @@
-//! `ring-compare FILE` compares the rows of one schedule; `ring-compare --soak SEED COUNT LINES` those of that many seeds of each
-//! random style, of as many mutated schedules and of as many of setup and turn lines, and of statement lines.
+//! `ring-compare FILE` compares the rows of one schedule and the service screens after it; `ring-compare --soak SEED COUNT LINES` those of that many
+//! seeds of each random style, of as many mutated schedules and of as many of setup and turn lines, and statement lines.
 
 use std::process::ExitCode;
 
 use compare::rows::{compare_all, PROVED};
-use compare::{schedules, statements};
+use compare::{schedules, screens, statements};
 use reference::bench::run;
 
 fn one(path: &str) -> Result<(), String> {
     let schedule = std::fs::read(path).map_err(|error| format!("{path}: {error}"))?;
+    let mut shown = screens::Tally::default();
+    screens::compare_after(&schedule, 0..16, &mut shown)?;
     println!("{}", compare_all(PROVED, run, std::iter::once(schedule))?);
+    println!("{shown}");
     Ok(())
 }
 
@@ -24,6 +27,13 @@ fn soak(numbers: &[String]) -> Result<(), String> {
         let made = |seed| schedules::random(seed, lines as usize).chain(others(seed));
         let tally = compare_all(PROVED, run, seeds.clone().flat_map(made)).map_err(|found| format!("seeds {seeds:?}\n{found}"))?;
         println!("seeds {seeds:?}: {tally}");
+        let mut shown = screens::Tally::default();
+        for schedule in seeds.clone().flat_map(made) {
+            // Two controllers of each schedule, other ones in each.
+            let first = (shown.screens % 16) as u8;
+            screens::compare_after(&schedule, [first, 15 - first].into_iter(), &mut shown)?;
+        }
+        println!("{shown}");
         println!("{}", statements::compare(seeds.start, 100_000)?);
     }
     Ok(())

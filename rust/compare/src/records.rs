@@ -291,6 +291,50 @@ pub fn votes(count: usize) -> Case {
     Case { initial: at, senders: (0..NOTICES).map(|notice| notice as u8 % 3).collect(), statements }
 }
 
+/// Fifteen views below the top, and reports of the first member on each, which are a quorum of the first view alone: who is a member of the last view alone
+/// waits for reports on fourteen views. All its notices are acknowledged and stored at the first view.
+pub fn unreported(count: usize, notices: usize) -> Case {
+    let (chain, mut statements) = sealed(&[(0..16).collect()]);
+    for notice in 0..notices as u8 {
+        let (at, payload) = (chain[0], u64::MAX - u64::from(notice));
+        liar(&mut statements, Body::Prepare { notice, payload });
+        liar(&mut statements, Body::Ack { at, notice, payload });
+        liar(&mut statements, Body::Store { at, notice, payload });
+    }
+    // Each time round the reports have another history or another wished view, so that no two are alike.
+    let histories: Vec<History> = (0..16).rev().filter_map(|last| History::new(&chain[..=last])).collect();
+    for (&view, &history) in chain.iter().rev().flat_map(|view| histories.iter().map(move |history| (view, history))) {
+        for &at in &chain[..15] {
+            let told = vec![Told::default(); notices].into();
+            liar(&mut statements, Body::Report(Report { at, view, told, history }));
+        }
+    }
+    statements.truncate(count);
+    Case { initial: chain[0], senders: vec![0; notices], statements }
+}
+
+/// Sealed tops that are not comparable, acknowledged and stored at by all their members: which one is the least is a matter of how they are written.
+pub fn tops_apart(rng: &mut Rng, tops: usize) -> Case {
+    let initial = rising(1);
+    let mut statements = wishes();
+    (1..16).for_each(|origin| put(&mut statements, Statement::new(origin, Body::Leave)));
+    [0, 1].into_iter().for_each(|notice| liar(&mut statements, Body::Prepare { notice, payload: 7 }));
+    for _ in 0..tops {
+        let joined = rng.draw() as Set & rng.draw() as Set | 1;
+        let view = View::new(joined, joined & rng.draw() as Set & !1);
+        liar(&mut statements, Body::AgreeView { at: initial, view });
+        let Some(history) = History::new(&[initial, view]) else { continue };
+        liar(&mut statements, Body::AgreeHistory { at: initial, history });
+        for origin in 0..16 {
+            // Most sign of notice 0, some of notice 1, which another than its sender prepared, and strangers too.
+            let notice = u8::from(rng.chance(12));
+            put(&mut statements, Statement::new(origin, Body::Ack { at: view, notice, payload: 7 }));
+            put(&mut statements, Statement::new(origin, Body::Store { at: view, notice, payload: 7 }));
+        }
+    }
+    Case { initial, senders: vec![0, 1], statements }
+}
+
 /// Who enters past the views of `skipped` and `gaps`: a member of the last view alone, so that it owes no reports.
 pub const NEWCOMER: u8 = 15;
 

@@ -39,19 +39,15 @@ impl std::fmt::Display for Tally {
     }
 }
 
-/// Leaves lines out for as long as the two still differ.
-fn shrink(mine: Run, theirs: Run, schedule: &[u8]) -> Vec<u8> {
-    let differs = |lines: &[&[u8]]| {
-        let schedule = lines.concat();
-        mine(&schedule) != theirs(&schedule)
-    };
+/// Leaves lines out for as long as `differs` says that the two still differ.
+pub fn shrink(schedule: &[u8], differs: impl Fn(&[u8]) -> bool) -> Vec<u8> {
     let mut lines: Vec<&[u8]> = schedule.split_inclusive(|&byte| byte == b'\n').collect();
     let mut step = lines.len() / 2;
     while step > 0 {
         let mut at = 0;
         while at + step <= lines.len() {
             let fewer = [&lines[..at], &lines[at + step..]].concat();
-            if differs(&fewer) {
+            if differs(&fewer.concat()) {
                 lines = fewer;
             } else {
                 at += step;
@@ -64,7 +60,7 @@ fn shrink(mine: Run, theirs: Run, schedule: &[u8]) -> Vec<u8> {
 
 /// The first row in which they differ, with the smallest schedule found that shows it.
 fn difference(mine: Run, theirs: Run, schedule: &[u8]) -> String {
-    let least = shrink(mine, theirs, schedule);
+    let least = shrink(schedule, |schedule| mine(schedule) != theirs(schedule));
     let (our, their) = (mine(&least), theirs(&least));
     let rows = |text: &[u8]| String::from_utf8_lossy(text).lines().map(str::to_string).collect::<Vec<_>>();
     let (our, their) = (rows(&our), rows(&their));

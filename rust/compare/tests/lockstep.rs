@@ -1,33 +1,41 @@
 //! The proved controller and the reference's in lock step.
 
-use compare::lockstep::{compare_all, Ring, Tally};
-use compare::records::{changed, gaps, prepares, reports, short_of_quorum, skipped, votes, Case, NEWCOMER, WAITING};
-use compare::schedules;
-use generate::Rng;
+use compare::lockstep::{compare_all, Ring, Tally, STORED_APART};
+use compare::records::{changed, gaps, prepares, reports, short_of_quorum, skipped, unreported, votes, Case, NEWCOMER, WAITING};
+use compare::{schedules, screens};
+use generate::{schedule, Rng};
 use pekdrav::{Answer, Binding, Certificate, Controller, Count, Kind, Notice, Pool, Question, Refusal, View, Window};
 
-fn agree(name: &str, schedules: impl Iterator<Item = Vec<u8>>) -> Tally {
-    let tally = compare_all(schedules).unwrap_or_else(|difference| panic!("{name}: they differ, {difference}"));
-    println!("{name}: {tally:?}");
-    tally
+fn agree(name: &str, schedules: impl Iterator<Item = Vec<u8>>) -> (Tally, screens::Tally) {
+    let (tally, screens) = compare_all(schedules).unwrap_or_else(|difference| panic!("{name}: they differ, {difference}"));
+    println!("{name}: {tally:?}\n{screens}");
+    (tally, screens)
 }
 
 #[test]
 fn runs_of_all_styles() {
-    let tally = agree("lock step", (0..60).flat_map(|seed| schedules::random(seed, 60 + 60 * (seed as usize % 8))));
+    let (tally, screens) = agree("lock step", (0..60).flat_map(|seed| schedules::random(seed, 60 + 60 * (seed as usize % 8))));
     for answer in ["taken", "signed", "entered", "delivered", "left", "quiet"] {
         assert!(tally.get(answer).is_some_and(|&count| count > 100), "too few: {answer}");
     }
     for refusal in [1, 2, 3, 5, 7, 8, 9, 10, 11] {
         assert!(tally.get(&format!("refused {refusal}")).is_some_and(|&count| count > 10), "too few: refused {refusal}");
     }
+    assert!(tally.get(STORED_APART).is_some_and(|&count| count > 30) && screens.screens > 10_000, "too few of a kind");
 }
 
 #[test]
 fn limits() {
-    let tally = agree("lock step at the limits", schedules::limits(3));
+    let waits = (0..12).filter_map(|seed| schedule("waits", seed, 0));
+    let (tally, screens) = agree("lock step at the limits", schedules::limits(3).chain(waits));
     for refusal in [4, 6, 7, 9, 10, 11] {
         assert!(tally.contains_key(&format!("refused {refusal}")), "none: refused {refusal}");
+    }
+    for kind in ["candidates: more than 16", "conflict", "turns are refused with 7", "turns are refused with 6"] {
+        assert!(screens.count(kind) > 30, "too few: {kind}");
+    }
+    for kind in ["waits for reports on several views", "waits for reports and for a window", "waits for a window to leave"] {
+        assert!(screens.count(kind) > 10, "too few: {kind}");
     }
 }
 
@@ -47,7 +55,27 @@ fn turns_over_the_worst_records() {
             ring.turn_on(WAITING, &case).unwrap_or_else(|difference| panic!("they differ, {difference}"));
         }
     }
-    println!("turns over the worst records: {:?}", ring.tally);
+    println!("turns over the worst records: {:?}\n{}", ring.tally, ring.screens);
+}
+
+/// Service screens of one who waits for reports on as many views as there may be, with reports missing, signed by others or not counted.
+#[test]
+fn waits_for_reports_on_many_views() {
+    let mut rng = Rng::new(53);
+    let mut ring = Ring::new();
+    for (count, notices) in [(60, 1), (200, 1), (512, 1), (512, 5), (512, 64)] {
+        let case = unreported(count, notices);
+        for case in std::iter::once(case.clone()).chain((0..12).map(|_| changed(&mut rng, &case))) {
+            [NEWCOMER, 0, 7]
+                .into_iter()
+                .for_each(|k| ring.turn_on(k, &case).unwrap_or_else(|difference| panic!("they differ, {difference}")));
+        }
+    }
+    println!("waits for reports on many views: {:?}\n{}", ring.tally, ring.screens);
+    assert!(
+        ring.screens.count("waits for reports on several views") > 100 && ring.screens.count("waits to enter ") > 1_000,
+        "too few of a kind"
+    );
 }
 
 /// Turns over records with skipped views: the newcomer enters past them, and with statements missing or signed by others it does or does not; the members
@@ -81,6 +109,23 @@ fn counts_of_everything(controller: &Controller, pool: &Pool) {
         assert_eq!(controller.count(pool, &Question::AgreeHistory { at, views: &vec![at; length] }), missed);
     }
     assert_eq!(controller.count_reports(pool, at), Some(missed));
+}
+
+/// Sets over the same.
+fn sets_of_everything(controller: &Controller, pool: &Pool) {
+    let at = View::new(1, 0);
+    assert_eq!(controller.who(pool, &Question::Ack { at, notice: 1, payload: 7 }), 1);
+    assert_eq!(controller.who(pool, &Question::Store { at, notice: 1, payload: 7 }), 1);
+    assert_eq!(controller.who(pool, &Question::Ack { at, notice: 0, payload: 7 }), 0);
+    assert_eq!(controller.who(pool, &Question::Store { at: View::new(1, 1), notice: 1, payload: 7 }), 0);
+    assert_eq!(controller.who(pool, &Question::AgreeView { at, view: at }), 0);
+    for length in [0, 1, 16, 17, 1_000] {
+        assert_eq!(controller.who(pool, &Question::AgreeHistory { at, views: &vec![at; length] }), 0);
+    }
+    assert_eq!(controller.who_reported(pool, at), Some(0));
+    assert_eq!([0, 1, 2, 255].map(|notice| controller.ack_set(pool, notice, 7)), [0, 1, 0, 0]);
+    assert_eq!([0, 1, 2, 255].map(|notice| controller.store_set(pool, notice, 7)), [0, 1, 0, 0]);
+    assert_eq!((controller.ack_set(pool, 1, 8), controller.store_set(pool, 1, 8)), (0, 0));
 }
 
 /// A window from any minute of the day on.
@@ -141,6 +186,7 @@ fn windows_of_a_setup() {
 #[test]
 fn one_of_everything() {
     let (mut controller, mut pool) = (Controller::new(), Pool::new());
+    assert_eq!(controller.screen(&pool), "not set up\n");
     assert_eq!(controller.turn(&mut pool, 10_079), Answer::Refused(Refusal::OutOfPlace));
     assert_eq!(controller.add(&mut pool, b"1,0,00000000,00000000,0,0,0,0,0,0"), Answer::Refused(Refusal::OutOfPlace));
     assert_eq!(controller.setup(16, 1, &[0], &[]), Answer::Refused(Refusal::BadSetup));
@@ -160,7 +206,7 @@ fn one_of_everything() {
     assert_eq!(pool.text(1), None);
     assert_eq!(controller.turn(&mut pool, 10_079), Answer::Signed(1));
     assert_eq!(controller.turn(&mut pool, 10_079), Answer::Signed(2));
-    assert_eq!(controller.turn(&mut pool, 10_079), Answer::Delivered { notice: 1, payload: 7 });
+    assert_eq!(controller.turn(&mut pool, 10_079), Answer::Delivered { notice: 1, payload: 7, signers: 1 });
     assert_eq!(controller.turn(&mut pool, 10_079), Answer::Quiet);
     assert_eq!(controller.record().numbers(), [0, 1, 2]);
     let shown = controller.evidence(&pool).shown.expect("no conflict");
@@ -169,13 +215,18 @@ fn one_of_everything() {
     assert_eq!(controller.signers(&pool, Kind::Ack, View::new(1, 0)), 1);
     assert_eq!(controller.signers(&pool, Kind::Report, View::new(1, 0)), 0);
     counts_of_everything(&controller, &pool);
-    let screen = "wished,00010000\ncandidates,1,00010000\ngreatest,1,00010000\ncertificate,1,7,stored,2\n";
-    assert_eq!(controller.screen(&pool), screen);
+    sets_of_everything(&controller, &pool);
+    let shown = "wished,00010000\ncandidates,1,00010000\ngreatest,1,00010000\ncertificate,1,7,stored,2\n";
+    assert_eq!(controller.record().screen(&pool, &controller.ring()), shown);
+    let place = "controller 0\nstands in 00010000: 0\nwished 00010000: 0\ncandidates 00010000\n";
+    let notices = "notice 0: unbound; no certificate; not stored; not delivered\nnotice 1: bound to 7; certificate for 7 acked by 0001: 0; stored by 0001: 0; delivered\n";
+    assert_eq!(controller.screen(&pool), format!("{place}{notices}waits for nothing\n"));
     let notice = Notice { sender: 0, binding: Binding::Bound(7), delivered: true, send_requested: Some(7) };
     assert_eq!(controller.notice(1), Some(notice));
     assert_eq!(controller.notice(0), Some(Notice { sender: 1, binding: Binding::Unbound, delivered: false, send_requested: None }));
     assert_eq!(controller.notice(2), None);
     assert_eq!(controller.leave(), Answer::Taken);
+    assert_eq!(controller.screen(&pool), format!("{place}{notices}waits for a window to leave\n"));
     assert_eq!(controller.turn(&mut pool, 10_080), Answer::Refused(Refusal::BadMinute));
     assert_eq!(controller.turn(&mut pool, 1), Answer::Quiet);
     assert_eq!(controller.turn(&mut pool, 0), Answer::Signed(3));

@@ -3,16 +3,19 @@
 mod attack;
 mod clock;
 mod drive;
+mod kinds;
 mod lies;
 mod limits;
 mod maker;
 mod minutes;
 mod notices;
 mod rng;
+mod signers;
 mod skips;
 mod styles;
 mod windows;
 
+pub use kinds::{all_kinds, kinds, STRANGE};
 pub use limits::LIMITS;
 pub use maker::Maker;
 pub use minutes::alike;

@@ -7,6 +7,7 @@ use crate::clock::Clock;
 use crate::drive::{drive, Plan};
 use crate::maker::Maker;
 use crate::notices;
+use crate::signers;
 use crate::styles::JOINS;
 use crate::windows;
 
@@ -16,7 +17,7 @@ pub const LIMITS: &[&str] = &[
     "incomparable", "two-sealed", "two-certificates", "seven-before-six", "bytes-65536", "bytes-65537", "empty-lines", "no-newline",
     "everyone-leaves", "count-0", "count-64", "count-65", "count-255", "unknown-notice", "groups", "one-sender", "mixed-notices",
     "certificates-apart", "leave-waits", "notices-64", "skipped-14", "windows-8", "windows-9", "windows-many", "bad-windows",
-    "bad-minutes", "leave-in-window", "overlapping-windows",
+    "bad-minutes", "leave-in-window", "overlapping-windows", "tops-apart", "waits",
 ];
 
 /// More lines than any schedule has.
@@ -62,6 +63,8 @@ pub fn limit(name: &str, seed: u64) -> Option<Vec<u8>> {
         "bad-minutes" => windows::bad_minutes(&mut maker),
         "leave-in-window" => windows::leave_in_window(&mut maker),
         "overlapping-windows" => windows::overlapping(&mut maker),
+        "tops-apart" => signers::tops_apart(&mut maker),
+        "waits" => signers::waits(&mut maker),
         _ => return None,
     }
     Some(maker.finish())
@@ -132,6 +135,11 @@ pub fn rising(count: u32) -> View {
 /// The lone faulty member 0 agrees on a chain of views up to the given number of candidates, the last one wished.
 fn chain(maker: &mut Maker, candidates: usize) -> Vec<View> {
     maker.setup(0x0001, &[0], 0xffff);
+    choose(maker, candidates)
+}
+
+/// The same in a ring of 0 alone that is set up.
+pub fn choose(maker: &mut Maker, candidates: usize) -> Vec<View> {
     let leaving = (1..8).map(|count| View::new(0xffff, rising(count).joined() << 1));
     let views: Vec<View> = (1..=16).map(rising).chain(leaving).take(candidates).collect();
     for &view in &views[1..] {

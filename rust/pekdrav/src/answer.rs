@@ -18,6 +18,8 @@ pub enum Answer {
         notice: u8,
         /// Its payload.
         payload: u64,
+        /// Who stored it at the least sealed top, as written, of which a quorum did; bit k for controller k.
+        signers: u32,
     },
     /// There is nothing to do, and the controller has left the ring.
     Left,
@@ -28,13 +30,13 @@ pub enum Answer {
 }
 
 impl Answer {
-    /// The answer of this number, with the value and the notice that came with it.
-    pub(crate) fn told(number: u8, [value, notice]: Value) -> Answer {
+    /// The answer of this number, with the value, the notice and the signers that came with it.
+    pub(crate) fn told(number: u8, [value, notice, signers]: Value) -> Answer {
         match number {
             0 => Answer::Taken,
             1 => Answer::Signed(value as u16),
             2 => Answer::Entered(View::from_word(value)),
-            3 => Answer::Delivered { notice: notice as u8, payload: value },
+            3 => Answer::Delivered { notice: notice as u8, payload: value, signers: signers as u32 },
             4 => Answer::Left,
             5 => Answer::Quiet,
             _ => Answer::Refused(Refusal::told(value)),

@@ -6,6 +6,7 @@ use crate::evidence::Evidence;
 use crate::ffi::{self, Value};
 use crate::pool::Pool;
 use crate::record::Record;
+use crate::screen::with_memory;
 use crate::statement::Kind;
 use crate::view::{padded, Ring, View, NOTICES, VIEWS};
 use crate::window::{words, Window, WINDOWS};
@@ -120,9 +121,9 @@ impl Default for Controller {
     }
 }
 
-/// Makes a call, which is lent the place of its value and notice.
+/// Makes a call, which is lent the place of its value, notice and signers.
 fn answered(call: impl FnOnce(&mut Value) -> u8) -> Answer {
-    let mut value = [0; 2];
+    let mut value = Value::default();
     let number = call(&mut value);
     Answer::told(number, value)
 }
@@ -194,14 +195,45 @@ impl Controller {
         self.record.count_reports(pool, &self.ring(), view)
     }
 
+    /// All members of the question's view that signed what it asks for, bit k for controller k.
+    pub fn who(&self, pool: &Pool, question: &Question) -> u32 {
+        self.record.who(pool, question)
+    }
+
+    /// All members of the view that have counted reports on it; `None` where a turn would be refused with 7 or 6.
+    pub fn who_reported(&self, pool: &Pool, view: View) -> Option<u32> {
+        self.record.who_reported(pool, &self.ring(), view)
+    }
+
+    /// Who acknowledged the payload at the least sealed top, as written, that has a certificate for it; nobody if none has.
+    pub fn ack_set(&self, pool: &Pool, notice: u8, payload: u64) -> u32 {
+        self.record.ack_set(pool, &self.ring(), notice, payload)
+    }
+
+    /// Who stored the payload at the least sealed top, as written, of which a quorum did; nobody if there is none.
+    pub fn store_set(&self, pool: &Pool, notice: u8, payload: u64) -> u32 {
+        self.record.store_set(pool, &self.ring(), notice, payload)
+    }
+
     /// What the record shows.
     pub fn evidence(&self, pool: &Pool) -> Evidence {
         self.record.evidence(pool, &self.ring())
     }
+}
 
-    /// What the record shows, in lines, for a service screen.
+/// Its service screen.
+impl Controller {
+    /// What it knows of its ring, who signed for what, and what it waits for, in lines. `include/pekdrav.h` has their form.
     pub fn screen(&self, pool: &Pool) -> String {
-        self.record.screen(pool, &self.ring())
+        with_memory(|out| self.screen_into(pool, out))
+    }
+
+    /// Writes the same from the start of `out` and answers its length; `None`, with `out` as it was, if that has fewer than `SCREEN_BYTES` bytes.
+    #[inline]
+    pub fn screen_into(&self, pool: &Pool, out: &mut [u8]) -> Option<usize> {
+        let length = ffi::controller_screen(&self.fields, &self.record, pool.words(), out);
+        // Every screen has a line, so none has the length 0.
+        (length > 0).then_some(length)
     }
 }
 

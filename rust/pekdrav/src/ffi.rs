@@ -29,8 +29,8 @@ impl Workspace {
     }
 }
 
-/// What comes with an answer: its value, and the notice of a delivery.
-pub type Value = [u64; 2];
+/// What comes with an answer: its value, and the notice and the signers of a delivery.
+pub type Value = [u64; 3];
 
 /// What a count came to: whether a quorum signed, and how many statements were read.
 pub type CountWords = [u64; 2];
@@ -109,6 +109,49 @@ unsafe extern "C" {
         view: u64,
         out: &mut CountWords,
     ) -> u8;
+    safe fn pekdrav_raw_record_who(
+        record: &Record,
+        words: &Words,
+        kind: u8,
+        notice: u8,
+        at: u64,
+        what: u64,
+        views: &[u64; VIEWS],
+        len: usize,
+    ) -> u32;
+    fn pekdrav_raw_record_who_reported(
+        record: &Record,
+        words: &Words,
+        initial: u64,
+        count: u8,
+        senders: &Senders,
+        keys: *mut Keys,
+        groups: *mut Groups,
+        view: u64,
+        out: &mut u32,
+    ) -> u8;
+    fn pekdrav_raw_record_ack_set(
+        record: &Record,
+        words: &Words,
+        initial: u64,
+        count: u8,
+        senders: &Senders,
+        keys: *mut Keys,
+        groups: *mut Groups,
+        notice: u8,
+        payload: u64,
+    ) -> u32;
+    fn pekdrav_raw_record_store_set(
+        record: &Record,
+        words: &Words,
+        initial: u64,
+        count: u8,
+        senders: &Senders,
+        keys: *mut Keys,
+        groups: *mut Groups,
+        notice: u8,
+        payload: u64,
+    ) -> u32;
     fn pekdrav_raw_record_evidence(
         record: &Record,
         words: &Words,
@@ -129,8 +172,19 @@ unsafe extern "C" {
         out_len: usize,
     ) -> usize;
 
+    fn pekdrav_raw_controller_screen(
+        fields: &Fields,
+        record: &Record,
+        words: &Words,
+        keys: *mut Keys,
+        groups: *mut Groups,
+        out: *mut u8,
+        out_len: usize,
+    ) -> usize;
+
     fn pekdrav_statement_rewrite(line: *const u8, line_len: usize, notices: usize, out: *mut u8, out_len: usize) -> usize;
     fn pekdrav_schedule_rows(schedule: *const u8, schedule_len: usize, rows: *mut u8, rows_len: usize) -> usize;
+    fn pekdrav_schedule_screen(schedule: *const u8, schedule_len: usize, number: u8, out: *mut u8, out_len: usize) -> usize;
 }
 
 #[inline]
@@ -179,6 +233,42 @@ pub fn record_count_reports(record: &Record, words: &Words, ring: &Ring, view: u
 }
 
 #[inline]
+pub fn record_who(record: &Record, words: &Words, asked: &Asked) -> u32 {
+    let Asked { kind, notice, at, what, ref views, len } = *asked;
+    pekdrav_raw_record_who(record, words, kind, notice, at, what, views, len)
+}
+
+/// Answers nothing where no report is judged.
+#[inline]
+pub fn record_who_reported(record: &Record, words: &Words, ring: &Ring, view: u64) -> Option<u32> {
+    let (initial, count, senders) = (ring.initial.word(), ring.count, &ring.senders);
+    let mut work = Workspace::new();
+    let (keys, groups) = (work.keys.as_mut_ptr(), work.groups.as_mut_ptr());
+    let mut out = 0;
+    // SAFETY: as in `raw_controller_turn`.
+    let told = unsafe { pekdrav_raw_record_who_reported(record, words, initial, count, senders, keys, groups, view, &mut out) };
+    (told != 0).then_some(out)
+}
+
+#[inline]
+pub fn record_ack_set(record: &Record, words: &Words, ring: &Ring, notice: u8, payload: u64) -> u32 {
+    let (initial, count, senders) = (ring.initial.word(), ring.count, &ring.senders);
+    let mut work = Workspace::new();
+    let (keys, groups) = (work.keys.as_mut_ptr(), work.groups.as_mut_ptr());
+    // SAFETY: as in `raw_controller_turn`.
+    unsafe { pekdrav_raw_record_ack_set(record, words, initial, count, senders, keys, groups, notice, payload) }
+}
+
+#[inline]
+pub fn record_store_set(record: &Record, words: &Words, ring: &Ring, notice: u8, payload: u64) -> u32 {
+    let (initial, count, senders) = (ring.initial.word(), ring.count, &ring.senders);
+    let mut work = Workspace::new();
+    let (keys, groups) = (work.keys.as_mut_ptr(), work.groups.as_mut_ptr());
+    // SAFETY: as in `raw_controller_turn`.
+    unsafe { pekdrav_raw_record_store_set(record, words, initial, count, senders, keys, groups, notice, payload) }
+}
+
+#[inline]
 pub fn record_evidence(record: &Record, words: &Words, ring: &Ring, out: &mut EvidenceWords) {
     let (initial, count, senders) = (ring.initial.word(), ring.count, &ring.senders);
     let mut work = Workspace::new();
@@ -194,6 +284,14 @@ pub fn record_screen(record: &Record, words: &Words, ring: &Ring, out: &mut [u8]
 }
 
 #[inline]
+pub fn controller_screen(fields: &Fields, record: &Record, words: &Words, out: &mut [u8]) -> usize {
+    let mut work = Workspace::new();
+    let (keys, groups) = (work.keys.as_mut_ptr(), work.groups.as_mut_ptr());
+    // SAFETY: as in `raw_controller_turn`, and the last pointer is that of a slice, with its length.
+    unsafe { pekdrav_raw_controller_screen(fields, record, words, keys, groups, out.as_mut_ptr(), out.len()) }
+}
+
+#[inline]
 pub fn statement_rewrite(line: &[u8], notices: usize, out: &mut [u8]) -> usize {
     // SAFETY: as above.
     unsafe { pekdrav_statement_rewrite(line.as_ptr(), line.len(), notices, out.as_mut_ptr(), out.len()) }
@@ -203,4 +301,10 @@ pub fn statement_rewrite(line: &[u8], notices: usize, out: &mut [u8]) -> usize {
 pub fn schedule_rows(schedule: &[u8], rows: &mut [u8]) -> usize {
     // SAFETY: as above.
     unsafe { pekdrav_schedule_rows(schedule.as_ptr(), schedule.len(), rows.as_mut_ptr(), rows.len()) }
+}
+
+#[inline]
+pub fn schedule_screen(schedule: &[u8], number: u8, out: &mut [u8]) -> usize {
+    // SAFETY: as above.
+    unsafe { pekdrav_schedule_screen(schedule.as_ptr(), schedule.len(), number, out.as_mut_ptr(), out.len()) }
 }

@@ -19,6 +19,11 @@
 //! assert_eq!(controller.turn(&mut pool, minute), Answer::Signed(0));
 //! assert_eq!(pool.text(0), Some(b"6,0,00000000,00000000,0,0,7,0,0,0".to_vec()));
 //! assert_eq!(controller.evidence(&pool).wished, controller.initial());
+//! assert!(controller.screen(&pool).starts_with("controller 0\nstands in 00010000: 0\n"));
+//! // Its ack, its store, and the delivery, with the set of those that stored it.
+//! assert_eq!(controller.turn(&mut pool, minute), Answer::Signed(1));
+//! assert_eq!(controller.turn(&mut pool, minute), Answer::Signed(2));
+//! assert_eq!(controller.turn(&mut pool, minute), Answer::Delivered { notice: 0, payload: 7, signers: 0b1 });
 //! ```
 
 #![deny(missing_docs, unsafe_code)]
@@ -32,6 +37,7 @@ mod ffi;
 mod pool;
 mod record;
 pub mod schedule;
+mod screen;
 pub mod statement;
 mod view;
 mod window;
@@ -42,6 +48,7 @@ pub use count::{Count, Question};
 pub use evidence::{Certificate, Evidence, EvidenceWords, Shown};
 pub use pool::{AppendError, Pool, POOL_WORDS, STATEMENTS};
 pub use record::Record;
+pub use screen::SCREEN_BYTES;
 pub use statement::Kind;
 pub use view::{Ring, View, NOTICES, VIEWS};
 pub use window::{Window, WINDOWS};

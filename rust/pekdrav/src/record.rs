@@ -83,6 +83,32 @@ impl Record {
         ffi::record_count_reports(self, pool.words(), ring, view.word()).map(Count::told)
     }
 
+    /// All members of the question's view that signed what it asks for, bit k for controller k.
+    ///
+    /// The count says yes exactly where they are a quorum; here those after the completing signer are too.
+    #[inline]
+    pub fn who(&self, pool: &Pool, question: &Question) -> u32 {
+        ffi::record_who(self, pool.words(), &Asked::from(question))
+    }
+
+    /// All members of the view that have counted reports on it; `None` where no report is judged.
+    #[inline]
+    pub fn who_reported(&self, pool: &Pool, ring: &Ring, view: View) -> Option<u32> {
+        ffi::record_who_reported(self, pool.words(), ring, view.word())
+    }
+
+    /// Who acknowledged the payload at the least sealed top, as written, that has a certificate for it; nobody if none has.
+    #[inline]
+    pub fn ack_set(&self, pool: &Pool, ring: &Ring, notice: u8, payload: u64) -> u32 {
+        ffi::record_ack_set(self, pool.words(), ring, notice, payload)
+    }
+
+    /// Who stored the payload at the least sealed top, as written, of which a quorum did; nobody if there is none.
+    #[inline]
+    pub fn store_set(&self, pool: &Pool, ring: &Ring, notice: u8, payload: u64) -> u32 {
+        ffi::record_store_set(self, pool.words(), ring, notice, payload)
+    }
+
     /// What the record shows in a ring.
     pub fn evidence(&self, pool: &Pool, ring: &Ring) -> Evidence {
         let mut out = EvidenceWords::default();
@@ -96,7 +122,7 @@ impl Record {
         ffi::record_evidence(self, pool.words(), ring, out);
     }
 
-    /// What the record shows in a ring, in lines, for a service screen.
+    /// What the record shows in a ring, in lines. [`Controller::screen`](crate::Controller::screen) tells more, in another form.
     ///
     /// The lines: `wished,VIEW`; then `conflict` and nothing more, or `candidates,COUNT,VIEW,..` (`candidates,many` for more than sixteen),
     /// `greatest,COUNT,VIEW,..` and for each notice that has a certificate `certificate,NOTICE,PAYLOAD,stored,READ` (without the notice in a ring

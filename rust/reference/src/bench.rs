@@ -99,6 +99,7 @@ pub enum Outcome {
     Delivered {
         notice: u8,
         payload: u64,
+        signers: u32,
     },
     Left,
     Quiet,
@@ -292,7 +293,7 @@ fn outcome(answer: Answer) -> Outcome {
     match answer {
         Answer::Taken | Answer::Signed(_) => Outcome::Taken(0),
         Answer::Entered(view) => Outcome::Entered(view),
-        Answer::Delivered { notice, payload } => Outcome::Delivered { notice, payload },
+        Answer::Delivered { notice, payload, signers } => Outcome::Delivered { notice, payload, signers },
         Answer::Left => Outcome::Left,
         Answer::Quiet => Outcome::Quiet,
         Answer::Refused(refusal) => Outcome::Refused(refusal),
@@ -302,6 +303,13 @@ fn outcome(answer: Answer) -> Outcome {
 /// The rows of a schedule.
 pub fn run(schedule: &[u8]) -> Vec<u8> {
     run_watched(&mut Bench::<Document>::new(), schedule, |_, _, _| {})
+}
+
+/// The service screen of controller `k` after the last line of a schedule; no text if there is no such controller.
+pub fn screen_after(schedule: &[u8], k: u8) -> String {
+    let mut bench = Bench::<Document>::new();
+    run_watched(&mut bench, schedule, |_, _, _| {});
+    bench.controller(k).map_or(String::new(), Controller::screen)
 }
 
 /// The rows of a schedule that `bench` runs; `watch` sees each line that ended, and its row, after it ran.

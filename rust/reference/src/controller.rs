@@ -2,7 +2,7 @@
 
 use std::marker::PhantomData;
 
-use crate::evidence::{is_quorum, Evidence, Known};
+use crate::evidence::{is_quorum, Evidence, Known, Quorum};
 use crate::record::Record;
 use crate::rules::{Document, Rules};
 use crate::statement::{Binding, Body, Fields, Report, Statement, Told, NOTICES};
@@ -31,7 +31,12 @@ pub enum Answer {
     Taken,
     Signed(Statement),
     Entered(View),
-    Delivered { notice: u8, payload: u64 },
+    /// With all that stored the payload at the least sealed top, as written, of which a quorum did; bit k for controller k.
+    Delivered {
+        notice: u8,
+        payload: u64,
+        signers: u32,
+    },
     Left,
     Quiet,
     Refused(Refusal),
@@ -90,6 +95,7 @@ enum Step {
     Deliver {
         notice: u8,
         payload: u64,
+        signers: u32,
     },
     Rest,
 }
@@ -252,18 +258,35 @@ impl<R: Rules> Controller<R> {
         if minute >= WEEK {
             return Answer::Refused(Refusal::Minute);
         }
-        let evidence = Evidence::gather::<R>(ring.initial, &ring.senders, self.record.statements());
+        let evidence = self.evidence(ring);
+        let situation = match self.situation(ring, minute, &evidence) {
+            Ok(situation) => situation,
+            Err(refusal) => return Answer::Refused(refusal),
+        };
+        let (step, top) = (situation.first_rule(), situation.top);
+        self.take(step, top, room)
+    }
+
+    /// What its record shows in its ring.
+    pub(crate) fn evidence(&self, ring: &Ring) -> Evidence {
+        Evidence::gather::<R>(ring.initial, &ring.senders, self.record.statements())
+    }
+
+    /// Whether it has entered the view and nothing greater.
+    pub(crate) fn stands_in(&self, top: View) -> bool {
+        self.entered.contains(&top) && !self.entered.iter().any(|view| top.strictly_within(*view))
+    }
+
+    /// How it is before a turn in this minute, or why the turn is refused.
+    pub(crate) fn situation<'a>(&'a self, ring: &'a Ring, minute: u16, evidence: &'a Evidence) -> Result<Situation<'a, R>, Refusal> {
         if evidence.conflict() {
-            return Answer::Refused(Refusal::Conflict);
+            return Err(Refusal::Conflict);
         }
         let (Some(candidates), Some(greatest)) = (History::new(&evidence.candidates), evidence.greatest()) else {
-            return Answer::Refused(Refusal::Candidates);
+            return Err(Refusal::Candidates);
         };
         let top = greatest.top();
-        let stands = self.entered.contains(&top) && !self.entered.iter().any(|view| top.strictly_within(*view));
-        let situation = Situation { controller: self, ring, minute, evidence: &evidence, candidates, greatest, top, stands };
-        let step = situation.first_rule();
-        self.take(step, top, room)
+        Ok(Situation { controller: self, ring, minute, evidence, candidates, greatest, top, stands: self.stands_in(top) })
     }
 
     fn take(&mut self, step: Step, top: View, room: impl FnOnce(&Statement) -> bool) -> Answer {
@@ -274,9 +297,9 @@ impl<R: Rules> Controller<R> {
                 self.notices.iter_mut().zip(bindings).for_each(|(notice, binding)| notice.binding = binding);
                 Answer::Entered(view)
             }
-            Step::Deliver { notice, payload } => {
+            Step::Deliver { notice, payload, signers } => {
                 self.notices[usize::from(notice)].delivered = true;
-                Answer::Delivered { notice, payload }
+                Answer::Delivered { notice, payload, signers }
             }
             Step::Rest if top.left() & alone(self.number) != 0 => Answer::Left,
             Step::Rest => Answer::Quiet,
@@ -298,7 +321,7 @@ impl<R: Rules> Controller<R> {
 }
 
 /// A controller before a turn, with what its record shows.
-struct Situation<'a, R> {
+pub(crate) struct Situation<'a, R> {
     controller: &'a Controller<R>,
     ring: &'a Ring,
     minute: u16,
@@ -362,9 +385,14 @@ impl<R: Rules> Situation<'_, R> {
         Some(Step::Sign(Body::Report(Report { at, view: self.evidence.wished, told, history: self.candidates })))
     }
 
+    /// Whether it is a member of the top and has not entered it.
+    fn is_due(&self) -> bool {
+        self.top.has_member(self.controller.number) && !self.controller.entered.contains(&self.top)
+    }
+
     /// Rule 2.
     fn enter(&self) -> Option<Step> {
-        if !self.top.has_member(self.controller.number) || self.controller.entered.contains(&self.top) {
+        if !self.is_due() {
             return None;
         }
         let needed = self.needed();
@@ -385,6 +413,30 @@ impl<R: Rules> Situation<'_, R> {
         let quorum =
             |(view, reporters): (&View, &Set)| is_quorum::<R>(*view, *reporters) || (!R::SKIPPED_UNHEARD && !needed.contains(view));
         heard.iter().zip(&reporters).all(quorum).then_some(Step::Enter(self.top, bindings))
+    }
+
+    /// Whether a window is all that a leave waits for.
+    pub(crate) fn waits_for_window(&self) -> bool {
+        !self.ring.windows.is_empty() && self.leave_at_any_time().is_some()
+    }
+
+    /// The top that it is a member of and has not entered, with the views that lack a quorum of counted reports, each with its members that have none.
+    pub(crate) fn waits_for_reports(&self) -> (View, Vec<(View, Set)>) {
+        if !self.is_due() {
+            return (self.top, Vec::new());
+        }
+        let needed = self.needed();
+        let mut reporters = [0 as Set; History::LIMIT];
+        for Statement { origin, body } in self.controller.record.statements() {
+            let Some(report) = report_of(body) else { continue };
+            let Some(place) = needed.iter().position(|view| *view == report.at) else { continue };
+            // A member counts once, so that its later reports need not be judged.
+            if reporters[place] & alone(*origin) == 0 && self.evidence.counts_by::<R>(*origin, report) {
+                reporters[place] |= alone(*origin);
+            }
+        }
+        let lacking = needed.iter().zip(reporters).filter(|(view, reporters)| !is_quorum::<R>(**view, *reporters));
+        (self.top, lacking.map(|(view, reporters)| (*view, view.members() & !reporters)).collect())
     }
 
     /// The views below the top that need reports, since no sealed history skips them.
@@ -465,9 +517,19 @@ impl<R: Rules> Situation<'_, R> {
         }
         self.least(|notice, mine, known| {
             let payload = known.certificate()?;
-            let due = !(mine.delivered && R::DELIVERED_ONCE) && known.stored.contains(&payload);
-            due.then_some(Step::Deliver { notice, payload })
+            let stores = known.stores(payload).filter(|_| !(mine.delivered && R::DELIVERED_ONCE))?;
+            Some(Step::Deliver { notice, payload, signers: self.told(notice, stores) })
         })
+    }
+
+    /// The signers of the stores, as a delivery tells them.
+    fn told(&self, notice: u8, stores: &Quorum) -> u32 {
+        if R::MEMBERS_TOLD {
+            return stores.signers.into();
+        }
+        let stored = Body::Store { at: stores.top, notice, payload: stores.payload };
+        let signed = self.controller.record.statements().iter().filter(|statement| statement.body == stored);
+        signed.fold(0, |signers, statement| signers | u32::from(alone(statement.origin)))
     }
 
     /// Rule 8.
@@ -478,7 +540,15 @@ impl<R: Rules> Situation<'_, R> {
 
     /// Rule 9.
     fn leave(&self) -> Option<Step> {
-        if !self.controller.requests.leave || (R::LEAVE_IN_WINDOW && !self.ring.is_open(self.minute)) {
+        if R::LEAVE_IN_WINDOW && !self.ring.is_open(self.minute) {
+            return None;
+        }
+        self.leave_at_any_time()
+    }
+
+    /// Rule 9 as it were without windows.
+    fn leave_at_any_time(&self) -> Option<Step> {
+        if !self.controller.requests.leave {
             return None;
         }
         let prepared = self.own_notices(|body| match *body {

@@ -1,4 +1,4 @@
-//! Counting who signed, up to the signer who completes a quorum.
+//! Counting who signed, up to the signer who completes a quorum; and the sets of all who did, bit k for controller k.
 
 use crate::evidence::Evidence;
 use crate::statement::{Body, Statement};
@@ -35,6 +35,12 @@ impl Count {
     pub fn completed(self) -> Option<usize> {
         self.reached.then_some(self.read)
     }
+}
+
+/// All members of `at` that signed a statement of which `says` holds. They are a quorum exactly where the count is reached.
+pub fn who(statements: &[Statement], at: View, says: impl Fn(&Statement) -> bool) -> u32 {
+    let signed = statements.iter().filter(|statement| at.has_member(statement.origin) && says(statement));
+    signed.fold(0, |signers, statement| signers | u32::from(alone(statement.origin)))
 }
 
 /// What a quorum of a view may have signed at it.
@@ -99,6 +105,11 @@ impl Question {
     pub fn count(&self, statements: &[Statement]) -> Count {
         Count::of(statements, self.at(), |statement| self.is_answered_by(&statement.body))
     }
+
+    /// All members of the view that signed this.
+    pub fn who(&self, statements: &[Statement]) -> u32 {
+        who(statements, self.at(), |statement| self.is_answered_by(&statement.body))
+    }
 }
 
 /// Whether a quorum of the view has counted reports on it among these statements; `None` where a turn is refused with 7 or 6, since no report is
@@ -108,19 +119,46 @@ pub fn count_reports(initial: View, senders: &[u8], statements: &[Statement], at
     evidence.is_judged().then(|| evidence.count_reports(statements, at))
 }
 
+/// All members of the view that have counted reports on it among these statements; `None` where no report is judged.
+pub fn who_reported(initial: View, senders: &[u8], statements: &[Statement], at: View) -> Option<u32> {
+    let evidence = Evidence::of(initial, senders, statements);
+    evidence.is_judged().then(|| evidence.who_reported(statements, at))
+}
+
 impl Evidence {
     /// Whether a turn goes on to its rules, where it is refused with neither 7 nor 6.
     pub fn is_judged(&self) -> bool {
         !self.conflict() && self.candidates.len() <= History::LIMIT
     }
 
-    /// The count of the reports on the view that count by this evidence, which is that of the statements.
-    pub fn count_reports(&self, statements: &[Statement], at: View) -> Count {
-        let counts = |Statement { origin, body }: &Statement| match body {
+    /// Whether the statement is a report on the view that counts by this evidence.
+    fn is_counted(&self, Statement { origin, body }: &Statement, at: View) -> bool {
+        match body {
             Body::Report(report) => report.at == at && self.counts(*origin, report),
             _ => false,
-        };
-        Count::of(statements, at, counts)
+        }
+    }
+
+    /// The count of the reports on the view that count by this evidence, which is that of the statements.
+    pub fn count_reports(&self, statements: &[Statement], at: View) -> Count {
+        Count::of(statements, at, |statement| self.is_counted(statement, at))
+    }
+
+    /// All members of the view that have such reports on it.
+    pub fn who_reported(&self, statements: &[Statement], at: View) -> u32 {
+        who(statements, at, |statement| self.is_counted(statement, at))
+    }
+
+    /// All that acknowledged the payload at the least sealed top, as written, that has a certificate for it; nobody if none has.
+    pub fn ack_set(&self, notice: u8, payload: u64) -> u32 {
+        let known = self.notices.get(usize::from(notice));
+        known.and_then(|known| known.acks(payload)).map_or(0, |acks| acks.signers.into())
+    }
+
+    /// All that stored the payload at the least sealed top, as written, of which a quorum did; nobody if none of any did.
+    pub fn store_set(&self, notice: u8, payload: u64) -> u32 {
+        let known = self.notices.get(usize::from(notice));
+        known.and_then(|known| known.stores(payload)).map_or(0, |stores| stores.signers.into())
     }
 
     /// After how many of the statements, whose evidence this is, a quorum of a sealed top had signed ack at it for the payload; the fewest, where

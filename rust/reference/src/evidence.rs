@@ -5,20 +5,40 @@ use crate::rules::{Document, Rules};
 use crate::statement::{Binding, Body, Report, Statement, Told};
 use crate::view::{alone, History, Set, View};
 
+/// A payload that a quorum of a sealed top signed for.
+#[derive(Clone, Copy, PartialEq, Eq, Debug)]
+pub struct Quorum {
+    pub payload: u64,
+    /// The least such top, as written.
+    pub top: View,
+    /// All members of that top that signed for it there.
+    pub signers: Set,
+}
+
 /// What a list of statements shows of one notice.
 #[derive(Clone, Debug, Default)]
 pub struct Known {
-    /// The payloads that have a certificate, each once.
-    pub certificates: Vec<u64>,
-    /// The payloads that a quorum of a sealed top stored, each once.
-    pub stored: Vec<u64>,
+    /// The payloads that have a certificate, each once and by rising payload, with those that acknowledged it.
+    pub certificates: Vec<Quorum>,
+    /// The payloads that a quorum of a sealed top stored, in the same way, with those that stored it.
+    pub stored: Vec<Quorum>,
     /// The payloads that the sender prepared, in order of arrival.
     pub prepares: Vec<u64>,
 }
 
 impl Known {
     pub fn certificate(&self) -> Option<u64> {
-        self.certificates.first().copied()
+        self.certificates.first().map(|acks| acks.payload)
+    }
+
+    /// The acks behind the payload's certificate, if it has one.
+    pub fn acks(&self, payload: u64) -> Option<&Quorum> {
+        self.certificates.iter().find(|acks| acks.payload == payload)
+    }
+
+    /// The stores of the payload, if a quorum of a sealed top stored it.
+    pub fn stores(&self, payload: u64) -> Option<&Quorum> {
+        self.stored.iter().find(|stores| stores.payload == payload)
     }
 
     /// Whether what a report tells has its grounds here.
@@ -28,7 +48,7 @@ impl Known {
             Binding::Bound(payload) => self.prepares.contains(&payload),
             Binding::Barred => self.prepares.iter().any(|payload| *payload != self.prepares[0]),
         };
-        (bound || !R::PREPARED_ONLY) && told.kept.is_none_or(|payload| self.certificates.contains(&payload))
+        (bound || !R::PREPARED_ONLY) && told.kept.is_none_or(|payload| self.acks(payload).is_some())
     }
 }
 
@@ -112,6 +132,22 @@ struct Group {
     notice: u8,
     choice: u64,
     signers: Set,
+}
+
+impl Group {
+    /// The votes for a payload at a sealed top, once they are known to be a quorum's.
+    fn quorum(&self) -> Quorum {
+        Quorum { payload: self.choice, top: self.at, signers: self.signers }
+    }
+}
+
+/// Of several tops for one payload the least, as written: the joined set is the upper half of a view's bits, and so goes first.
+fn keep_least<R: Rules>(quorums: &mut Vec<Quorum>) {
+    quorums.sort_unstable_by_key(|quorum| (quorum.payload, quorum.top.bits()));
+    if !R::LEAST_TOP {
+        quorums.reverse();
+    }
+    quorums.dedup_by_key(|quorum| quorum.payload);
 }
 
 impl Votes {
@@ -310,18 +346,16 @@ impl Shown {
         for group in self.voted_at_tops::<R>(&tally.acks) {
             let Some(known) = notices.get_mut(usize::from(group.notice)) else { continue };
             if !R::PREPARED_ONLY || known.prepares.contains(&group.choice) {
-                known.certificates.push(group.choice);
+                known.certificates.push(group.quorum());
             }
         }
         for group in self.voted_at_tops::<R>(&tally.stores) {
             let Some(known) = notices.get_mut(usize::from(group.notice)) else { continue };
-            known.stored.push(group.choice);
+            known.stored.push(group.quorum());
         }
         for known in &mut notices {
-            for payloads in [&mut known.certificates, &mut known.stored] {
-                payloads.sort_unstable();
-                payloads.dedup();
-            }
+            keep_least::<R>(&mut known.certificates);
+            keep_least::<R>(&mut known.stored);
         }
         if !R::NOTICES_APART {
             let all = notices[0].clone();

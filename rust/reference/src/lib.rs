@@ -9,6 +9,7 @@ pub mod evidence;
 mod index;
 pub mod record;
 pub mod rules;
+pub mod screen;
 pub mod statement;
 pub mod text;
 pub mod view;
@@ -16,8 +17,8 @@ pub mod window;
 
 pub use bench::{Bench, Outcome, Row};
 pub use controller::{Answer, Controller, Notice, Refusal};
-pub use count::{count_reports, Count, Question};
-pub use evidence::{Evidence, Known};
+pub use count::{count_reports, who, who_reported, Count, Question};
+pub use evidence::{Evidence, Known, Quorum};
 pub use record::Record;
 pub use rules::{Document, Rules};
 pub use statement::{Binding, Body, Fields, Group, Report, Statement, Told, NOTICES};

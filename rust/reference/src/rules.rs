@@ -38,6 +38,10 @@ pub trait Rules {
     const LEAVE_IN_WINDOW: bool = true;
     /// A join waits for no window.
     const LEAVE_ALONE_IN_WINDOW: bool = true;
+    /// Of several sealed tops with a quorum the least one's signers are told.
+    const LEAST_TOP: bool = true;
+    /// The signers that a delivery tells are members of that top.
+    const MEMBERS_TOLD: bool = true;
 }
 
 /// The rules as the scope document states them.

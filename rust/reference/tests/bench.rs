@@ -218,7 +218,8 @@ fn within_a_rule_the_least_notice_goes_first() {
     lines.extend(vec!["turn,0,0".to_string(); 6]);
     let mut bench = Bench::<Document>::new();
     let outcomes: Vec<Outcome> = lines.iter().map(|line| bench.step(line.as_bytes()).outcome).collect();
-    assert_eq!(outcomes[8..], [Outcome::Delivered { notice: 0, payload: 7 }, Outcome::Delivered { notice: 1, payload: 8 }]);
+    let delivered = |notice, payload| Outcome::Delivered { notice, payload, signers: 1 };
+    assert_eq!(outcomes[8..], [delivered(0, 7), delivered(1, 8)]);
     let signed: Vec<(u8, u8)> = bench.pool().statements().iter().map(|statement| (statement.kind(), statement.notice())).collect();
     assert_eq!(signed[2..], [(7, 0), (7, 1), (8, 0), (8, 1)]);
 }

@@ -3,7 +3,8 @@
 use borrow.Author.Needs.{needs}
 use mathlib.Core.Path.{sym}
 use lib.Seq.{length-take-le}
-use Rattle.ring_bench.proofs.Inputs.{bytes-within, filled-length}
+use Rattle.input.proofs.Within.{bytes-within}
+use Rattle.ring_bench.proofs.Inputs.{filled-length}
 use Rattle.ring_bench.proofs.run_input.Statement.{statement}
 use Rattle.ring_bench.proofs.run_input.Tie as tie
 
@@ -13,8 +14,8 @@ slice-aggregate-read-all c = search needs
 read-all-requires : tie.Need-read-all-requires
 read-all-requires c κs = search needs
 
-enum-known-input : tie.Need-enum-known-input
-enum-known-input c = search needs
+enum-known-read : tie.Need-enum-known-read
+enum-known-read c = search needs
 
 enum-told : tie.Need-enum-told
 enum-told c = search needs
@@ -26,10 +27,10 @@ returns : tie.Need-returns
 returns c = search needs
 
 array-share-prefix-text : tie.Need-array-share-prefix-text
-array-share-prefix-text c = bytes-within _ _ _ (c .before .input .given .1) (c .before .before .before .before .read-all .ensures)
+array-share-prefix-text c = bytes-within _ _ _ (c .before .read .given .1) (c .before .before .before .before .read-all .ensures)
 
 slice-aggregate-print-rows : tie.Need-slice-aggregate-print-rows
-slice-aggregate-print-rows c = sym (length-take-le _ _ (bytes-within _ _ _ (c .before .before .input .given .1) (c .before .before .before .before .before .read-all .ensures)))
+slice-aggregate-print-rows c = sym (length-take-le _ _ (bytes-within _ _ _ (c .before .before .read .given .1) (c .before .before .before .before .before .read-all .ensures)))
 
 slice-aggregate-print-rows-2 : tie.Need-slice-aggregate-print-rows-2
 slice-aggregate-print-rows-2 c = filled-length 2621504 0
@@ -43,5 +44,5 @@ returns-2 c = search needs
 pub run-input-spec : {M : Type 1} → statement M
 run-input-spec =
     tie.close
-    (tie.spec slice-aggregate-read-all read-all-requires enum-known-input enum-told fail-requires returns array-share-prefix-text slice-aggregate-print-rows
+    (tie.spec slice-aggregate-read-all read-all-requires enum-known-read enum-told fail-requires returns array-share-prefix-text slice-aggregate-print-rows
     slice-aggregate-print-rows-2 print-rows-requires returns-2)

@@ -10,16 +10,16 @@ use Rattle.bench.proofs.lines.run_lines.Statement.{statement}
 use Rattle.bench.proofs.lines.run_lines.Tie as tie
 
 abbrev Inv-loop : tie.InvT-loop
-Inv-loop schedule rows₀ seats₀ records₀ full₀ turns₀ words₀ place₀ rows seats records full turns words place = BenchKept words seats records × RunSoFar schedule place (benchIs (place .setting) words seats records) rows₀ rows × Fulls records full × Turnings words seats records turns
+Inv-loop schedule rows₀ words₀ who seats₀ records₀ full₀ turns₀ place₀ rows words seats records full turns place = BenchKept words seats records × RunSoFar schedule place (benchIs (place .setting) words seats records) rows₀ rows × Fulls records full × Turnings words seats records turns
 
 abbrev μ-loop : tie.MeasureT-loop
-μ-loop schedule rows₀ seats₀ records₀ full₀ turns₀ words₀ place₀ rows seats records full turns words place = length schedule - place .at
+μ-loop schedule rows₀ words₀ who seats₀ records₀ full₀ turns₀ place₀ rows words seats records full turns place = length schedule - place .at
 
 loop-holds : tie.Need-loop-holds Inv-loop μ-loop
 loop-holds c = (kept-first _ (c .before .before .before .new .ensures) 16 513 refl _ (c .before .clear .ensures .len), going-first _ (c .before .before .before .new .ensures) 16 513 refl _ (c .before .clear .ensures .len) _ _ _ (c .first .ensures), fulls-none _ 16 refl, turnings-none _ _ _ 16 refl)
 
 put-unreadable-requires : tie.Need-put-unreadable-requires Inv-loop μ-loop
-put-unreadable-requires c κs = room (c .before .before .before .before .before .before .before .before .before .before .before .before .before .before .args .schedule .now) (c .before .before .before .before .before .before .before .loop .place) _ (c .before .before .before .read-line .ensures) (c .before .before .before .before .before .before .before .loop .inv .1) (c .before .before .before .before .before .before .before .before .before .before .before .before .before .before .pre) (c .before .before .before .before .before .if1 .taken)
+put-unreadable-requires c κs = room (c .before .before .before .before .before .before .before .before .before .before .before .before .before .before .args .schedule .now) (c .before .before .before .before .before .before .before .loop .place) _ (c .before .before .before .read-line .ensures) (c .before .before .before .before .before .before .before .loop .inv .1) (c .before .before .before .before .before .before .before .before .before .before .before .before .before .before .pre .0) (c .before .before .before .before .before .if1 .taken)
 
 loop-less : tie.Need-loop-less Inv-loop μ-loop
 loop-less c = less (c .before .before .before .before .before .before .before .before .before .before .before .before .before .before .before .before .before .args .schedule .now) (c .before .before .before .before .before .before .before .before .before .before .loop .place) _ (c .before .before .before .before .before .before .read-line .ensures) (c .before .before .before .before .before .before .before .before .if1 .taken) (c .before .before .put-unreadable .ensures .passed)
@@ -40,7 +40,7 @@ array-copy-out-turn : tie.Need-array-copy-out-turn Inv-loop μ-loop
 array-copy-out-turn c = line-seat (c .before .before .before .before .before .before .before .before .before .before .before .before .before .before .before .before .before .before .args .schedule .now) (c .before .before .before .before .before .before .before .before .before .before .before .loop .place) _ (c .before .before .before .before .before .before .before .read-line .ensures) _ (c .before .before .before .before .before .parsed .given .1) (c .before .before .before .seat-of .ensures)
 
 put-step-requires : tie.Need-put-step-requires Inv-loop μ-loop
-put-step-requires c κs = (room (c .before .before .before .before .before .before .before .before .before .before .before .before .before .before .before .before .before .before .before .before .before .before .before .before .before .args .schedule .now) (c .before .before .before .before .before .before .before .before .before .before .before .before .before .before .before .before .before .before .loop .place) _ (c .before .before .before .before .before .before .before .before .before .before .before .before .before .before .read-line .ensures) (c .before .before .before .before .before .before .before .before .before .before .before .before .before .before .before .before .before .before .loop .inv .1) (c .before .before .before .before .before .before .before .before .before .before .before .before .before .before .before .before .before .before .before .before .before .before .before .before .before .pre) (c .before .before .before .before .before .before .before .before .before .before .before .before .before .before .before .before .if1 .taken), omega (arith, line-seat (c .before .before .before .before .before .before .before .before .before .before .before .before .before .before .before .before .before .before .before .before .before .before .before .before .before .args .schedule .now) (c .before .before .before .before .before .before .before .before .before .before .before .before .before .before .before .before .before .before .loop .place) _ (c .before .before .before .before .before .before .before .before .before .before .before .before .before .before .read-line .ensures) _ (c .before .before .before .before .before .before .before .before .before .before .before .before .parsed .given .1) (c .before .before .before .before .before .before .before .before .before .before .seat-of .ensures)))
+put-step-requires c κs = (room (c .before .before .before .before .before .before .before .before .before .before .before .before .before .before .before .before .before .before .before .before .before .before .before .before .before .args .schedule .now) (c .before .before .before .before .before .before .before .before .before .before .before .before .before .before .before .before .before .before .loop .place) _ (c .before .before .before .before .before .before .before .before .before .before .before .before .before .before .read-line .ensures) (c .before .before .before .before .before .before .before .before .before .before .before .before .before .before .before .before .before .before .loop .inv .1) (c .before .before .before .before .before .before .before .before .before .before .before .before .before .before .before .before .before .before .before .before .before .before .before .before .before .pre .0) (c .before .before .before .before .before .before .before .before .before .before .before .before .before .before .before .before .if1 .taken), omega (arith, line-seat (c .before .before .before .before .before .before .before .before .before .before .before .before .before .before .before .before .before .before .before .before .before .before .before .before .before .args .schedule .now) (c .before .before .before .before .before .before .before .before .before .before .before .before .before .before .before .before .before .before .loop .place) _ (c .before .before .before .before .before .before .before .before .before .before .before .before .before .before .read-line .ensures) _ (c .before .before .before .before .before .before .before .before .before .before .before .before .parsed .given .1) (c .before .before .before .before .before .before .before .before .before .before .seat-of .ensures)))
 
 loop-less-2 : tie.Need-loop-less-2 Inv-loop μ-loop
 loop-less-2 c = less (c .before .before .before .before .before .before .before .before .before .before .before .before .before .before .before .before .before .before .before .before .before .before .before .before .before .before .before .before .args .schedule .now) (c .before .before .before .before .before .before .before .before .before .before .before .before .before .before .before .before .before .before .before .before .before .loop .place) _ (c .before .before .before .before .before .before .before .before .before .before .before .before .before .before .before .before .before .read-line .ensures) (c .before .before .before .before .before .before .before .before .before .before .before .before .before .before .before .before .before .before .before .if1 .taken) (c .before .before .put-step .ensures .passed)
@@ -76,7 +76,7 @@ array-set-from-turns : tie.Need-array-set-from-turns Inv-loop μ-loop
 array-set-from-turns c = line-seat (c .before .before .before .before .before .before .before .before .before .before .before .before .before .before .before .before .before .before .before .before .before .before .before .before .before .before .before .before .before .args .schedule .now) (c .before .before .before .before .before .before .before .before .before .before .before .before .before .before .before .before .before .before .before .before .before .before .loop .place) _ (c .before .before .before .before .before .before .before .before .before .before .before .before .before .before .before .before .before .before .read-line .ensures) _ (c .before .before .before .before .before .before .before .before .before .before .before .before .before .before .before .before .parsed .given .1) (c .before .before .before .before .before .before .before .before .before .before .before .before .before .before .seat-of .ensures)
 
 put-step-requires-2 : tie.Need-put-step-requires-2 Inv-loop μ-loop
-put-step-requires-2 c κs = (room (c .before .before .before .before .before .before .before .before .before .before .before .before .before .before .before .before .before .before .before .before .before .before .before .before .before .before .before .before .before .before .before .args .schedule .now) (c .before .before .before .before .before .before .before .before .before .before .before .before .before .before .before .before .before .before .before .before .before .before .before .before .loop .place) _ (c .before .before .before .before .before .before .before .before .before .before .before .before .before .before .before .before .before .before .before .before .read-line .ensures) (c .before .before .before .before .before .before .before .before .before .before .before .before .before .before .before .before .before .before .before .before .before .before .before .before .loop .inv .1) (c .before .before .before .before .before .before .before .before .before .before .before .before .before .before .before .before .before .before .before .before .before .before .before .before .before .before .before .before .before .before .before .pre) (c .before .before .before .before .before .before .before .before .before .before .before .before .before .before .before .before .before .before .before .before .before .before .if1 .taken), omega (arith, line-seat (c .before .before .before .before .before .before .before .before .before .before .before .before .before .before .before .before .before .before .before .before .before .before .before .before .before .before .before .before .before .before .before .args .schedule .now) (c .before .before .before .before .before .before .before .before .before .before .before .before .before .before .before .before .before .before .before .before .before .before .before .before .loop .place) _ (c .before .before .before .before .before .before .before .before .before .before .before .before .before .before .before .before .before .before .before .before .read-line .ensures) _ (c .before .before .before .before .before .before .before .before .before .before .before .before .before .before .before .before .before .before .parsed .given .1) (c .before .before .before .before .before .before .before .before .before .before .before .before .before .before .before .before .seat-of .ensures)))
+put-step-requires-2 c κs = (room (c .before .before .before .before .before .before .before .before .before .before .before .before .before .before .before .before .before .before .before .before .before .before .before .before .before .before .before .before .before .before .before .args .schedule .now) (c .before .before .before .before .before .before .before .before .before .before .before .before .before .before .before .before .before .before .before .before .before .before .before .before .loop .place) _ (c .before .before .before .before .before .before .before .before .before .before .before .before .before .before .before .before .before .before .before .before .read-line .ensures) (c .before .before .before .before .before .before .before .before .before .before .before .before .before .before .before .before .before .before .before .before .before .before .before .before .loop .inv .1) (c .before .before .before .before .before .before .before .before .before .before .before .before .before .before .before .before .before .before .before .before .before .before .before .before .before .before .before .before .before .before .before .pre .0) (c .before .before .before .before .before .before .before .before .before .before .before .before .before .before .before .before .before .before .before .before .before .before .if1 .taken), omega (arith, line-seat (c .before .before .before .before .before .before .before .before .before .before .before .before .before .before .before .before .before .before .before .before .before .before .before .before .before .before .before .before .before .before .before .args .schedule .now) (c .before .before .before .before .before .before .before .before .before .before .before .before .before .before .before .before .before .before .before .before .before .before .before .before .loop .place) _ (c .before .before .before .before .before .before .before .before .before .before .before .before .before .before .before .before .before .before .before .before .read-line .ensures) _ (c .before .before .before .before .before .before .before .before .before .before .before .before .before .before .before .before .before .before .parsed .given .1) (c .before .before .before .before .before .before .before .before .before .before .before .before .before .before .before .before .seat-of .ensures)))
 
 loop-less-3 : tie.Need-loop-less-3 Inv-loop μ-loop
 loop-less-3 c = less (c .before .before .before .before .before .before .before .before .before .before .before .before .before .before .before .before .before .before .before .before .before .before .before .before .before .before .before .before .before .before .before .before .before .before .args .schedule .now) (c .before .before .before .before .before .before .before .before .before .before .before .before .before .before .before .before .before .before .before .before .before .before .before .before .before .before .before .loop .place) _ (c .before .before .before .before .before .before .before .before .before .before .before .before .before .before .before .before .before .before .before .before .before .before .before .read-line .ensures) (c .before .before .before .before .before .before .before .before .before .before .before .before .before .before .before .before .before .before .before .before .before .before .before .before .before .if1 .taken) (c .before .before .put-step2 .ensures .passed)
@@ -91,7 +91,7 @@ array-read-below : tie.Need-array-read-below Inv-loop μ-loop
 array-read-below c = line-seat (c .before .before .before .before .before .before .before .before .before .before .before .before .before .before .before .before .before .args .schedule .now) (c .before .before .before .before .before .before .before .before .before .before .loop .place) _ (c .before .before .before .before .before .before .read-line .ensures) _ (c .before .before .before .before .parsed .given .1) (c .before .before .seat-of .ensures)
 
 put-line-requires : tie.Need-put-line-requires Inv-loop μ-loop
-put-line-requires c κs = (room (c .before .before .before .before .before .before .before .before .before .before .before .before .before .before .before .before .before .before .before .before .before .before .args .schedule .now) (c .before .before .before .before .before .before .before .before .before .before .before .before .before .before .before .loop .place) _ (c .before .before .before .before .before .before .before .before .before .before .before .read-line .ensures) (c .before .before .before .before .before .before .before .before .before .before .before .before .before .before .before .loop .inv .1) (c .before .before .before .before .before .before .before .before .before .before .before .before .before .before .before .before .before .before .before .before .before .before .pre) (c .before .before .before .before .before .before .before .before .before .before .before .before .before .if1 .taken), omega (arith, line-seat (c .before .before .before .before .before .before .before .before .before .before .before .before .before .before .before .before .before .before .before .before .before .before .args .schedule .now) (c .before .before .before .before .before .before .before .before .before .before .before .before .before .before .before .loop .place) _ (c .before .before .before .before .before .before .before .before .before .before .before .read-line .ensures) _ (c .before .before .before .before .before .before .before .before .before .parsed .given .1) (c .before .before .before .before .before .before .before .seat-of .ensures)))
+put-line-requires c κs = (room (c .before .before .before .before .before .before .before .before .before .before .before .before .before .before .before .before .before .before .before .before .before .before .args .schedule .now) (c .before .before .before .before .before .before .before .before .before .before .before .before .before .before .before .loop .place) _ (c .before .before .before .before .before .before .before .before .before .before .before .read-line .ensures) (c .before .before .before .before .before .before .before .before .before .before .before .before .before .before .before .loop .inv .1) (c .before .before .before .before .before .before .before .before .before .before .before .before .before .before .before .before .before .before .before .before .before .before .pre .0) (c .before .before .before .before .before .before .before .before .before .before .before .before .before .if1 .taken), omega (arith, line-seat (c .before .before .before .before .before .before .before .before .before .before .before .before .before .before .before .before .before .before .before .before .before .before .args .schedule .now) (c .before .before .before .before .before .before .before .before .before .before .before .before .before .before .before .loop .place) _ (c .before .before .before .before .before .before .before .before .before .before .before .read-line .ensures) _ (c .before .before .before .before .before .before .before .before .before .parsed .given .1) (c .before .before .before .before .before .before .before .seat-of .ensures)))
 
 loop-less-4 : tie.Need-loop-less-4 Inv-loop μ-loop
 loop-less-4 c = less (c .before .before .before .before .before .before .before .before .before .before .before .before .before .before .before .before .before .before .before .before .before .before .before .before .before .args .schedule .now) (c .before .before .before .before .before .before .before .before .before .before .before .before .before .before .before .before .before .before .loop .place) _ (c .before .before .before .before .before .before .before .before .before .before .before .before .before .before .read-line .ensures) (c .before .before .before .before .before .before .before .before .before .before .before .before .before .before .before .before .if1 .taken) (c .before .before .put-line .ensures .passed)
@@ -100,7 +100,7 @@ loop-again-4 : tie.Need-loop-again-4 Inv-loop μ-loop
 loop-again-4 c = idle-on (c .before .before .before .before .before .before .before .before .before .before .before .before .before .before .before .before .before .before .before .before .before .before .before .before .before .args .schedule .now) (c .before .before .before .before .before .before .before .before .before .before .before .before .before .before .before .before .before .before .loop .place) _ (c .before .before .before .before .before .before .before .before .before .before .before .before .before .before .read-line .ensures) _ (c .before .before .before .before .before .before .before .before .before .before .before .before .parsed .given .1) _ _ _ _ _ (c .before .before .before .before .before .before .before .before .before .before .seat-of .ensures) (c .before .before .before .before .before .before .before .before .before .before .before .before .before .before .before .before .before .before .loop .inv .0) (c .before .before .before .before .before .before .before .before .before .before .before .before .before .before .before .before .before .before .loop .inv .2) (c .before .before .before .before .before .before .before .before .before .before .before .before .before .before .before .before .before .before .loop .inv .3) (c .before .before .before .before .before .lacks-nothing .ensures (c .before .before .before .before .if4 .taken)) (c .before .before .before .before .before .before .before .before .before .before .before .before .before .before .before .before .before .before .loop .inv .1) (c .before .before .before .before .before .before .before .before .before .before .before .before .before .before .before .before .if1 .taken) (c .before .before .put-line .ensures)
 
 add-text : tie.Need-add-text Inv-loop μ-loop
-add-text c = omega (arith, (c .before .before .before .before .before .before .before .before .before .before .before .before .before .before .before .before .before .before .before .before .before .pre), next-within (c .before .before .before .before .before .before .before .before .before .before .before .before .before .before .before .before .before .before .before .before .before .args .schedule .now) (c .before .before .before .before .before .before .before .before .before .before .before .before .before .before .loop .place) _ (c .before .before .before .before .before .before .before .before .before .before .read-line .ensures) (c .before .before .before .before .before .before .before .before .before .before .before .before .before .before .loop .inv .1 .within))
+add-text c = omega (arith, (c .before .before .before .before .before .before .before .before .before .before .before .before .before .before .before .before .before .before .before .before .before .pre .0), next-within (c .before .before .before .before .before .before .before .before .before .before .before .before .before .before .before .before .before .before .before .before .before .args .schedule .now) (c .before .before .before .before .before .before .before .before .before .before .before .before .before .before .loop .place) _ (c .before .before .before .before .before .before .before .before .before .before .read-line .ensures) (c .before .before .before .before .before .before .before .before .before .before .before .before .before .before .loop .inv .1 .within))
 
 sub-text : tie.Need-sub-text Inv-loop μ-loop
 sub-text c = omega (arith, next-moves (c .before .before .before .before .before .before .before .before .before .before .before .before .before .before .before .before .before .before .before .before .before .args .schedule .now) (c .before .before .before .before .before .before .before .before .before .before .before .before .before .before .loop .place) _ (c .before .before .before .before .before .before .before .before .before .before .read-line .ensures) (c .before .before .before .before .before .before .before .before .before .before .before .before .if1 .taken))
@@ -121,7 +121,7 @@ index-1-run-line : tie.Need-index-1-run-line Inv-loop μ-loop
 index-1-run-line c = line-seat (c .before .before .before .before .before .before .before .before .before .before .before .before .before .before .before .before .before .before .before .before .before .before .before .args .schedule .now) (c .before .before .before .before .before .before .before .before .before .before .before .before .before .before .before .before .loop .place) _ (c .before .before .before .before .before .before .before .before .before .before .before .before .read-line .ensures) _ (c .before .before .before .before .before .before .before .before .before .before .parsed .given .1) (c .before .before .before .before .before .before .before .before .seat-of .ensures)
 
 run-line-requires : tie.Need-run-line-requires Inv-loop μ-loop
-run-line-requires c κs = (record { distinct = c .before .before .before .before .before .before .before .before .before .before .before .before .before .before .before .before .before .before .before .before .loop .inv .0 .distinct; whole = c .before .before .before .before .before .before .before .before .before .before .before .before .before .before .before .before .before .before .before .before .loop .inv .0 .whole _ (line-seat (c .before .before .before .before .before .before .before .before .before .before .before .before .before .before .before .before .before .before .before .before .before .before .before .before .before .before .before .args .schedule .now) (c .before .before .before .before .before .before .before .before .before .before .before .before .before .before .before .before .before .before .before .before .loop .place) _ (c .before .before .before .before .before .before .before .before .before .before .before .before .before .before .before .before .read-line .ensures) _ (c .before .before .before .before .before .before .before .before .before .before .before .before .before .before .parsed .given .1) (c .before .before .before .before .before .before .before .before .before .before .before .before .seat-of .ensures)) }, line-fits (c .before .before .before .before .before .before .before .before .before .before .before .before .before .before .before .before .before .before .before .before .before .before .before .before .before .before .before .args .schedule .now) (c .before .before .before .before .before .before .before .before .before .before .before .before .before .before .before .before .before .before .before .before .loop .place) _ (c .before .before .before .before .before .before .before .before .before .before .before .before .before .before .before .before .read-line .ensures) _ (c .before .before .before .before .before .before .before .before .before .before .before .before .before .before .parsed .given .1), sym (c .before .before .before .before .before .before .before .before .before .before .before .is-call .ensures) ∙ c .before .before .before .before .before .before .before .before .before .before .if2 .left, room-body (c .before .before .before .before .before .before .before .before .before .before .before .before .before .before .before .before .before .before .before .before .before .before .before .before .before .before .before .args .schedule .now) (c .before .before .before .before .before .before .before .before .before .before .before .before .before .before .before .before .before .before .before .before .loop .place) _ (c .before .before .before .before .before .before .before .before .before .before .before .before .before .before .before .before .read-line .ensures) _ (c .before .before .before .before .before .before .before .before .before .before .before .before .before .before .parsed .given .1) (c .before .before .before .before .before .before .before .before .before .before .before .before .before .before .before .before .before .before .before .before .loop .inv .1) (c .before .before .before .before .before .before .before .before .before .before .before .before .before .before .before .before .before .before .before .before .before .before .before .before .before .before .before .pre) (c .before .before .before .before .before .before .before .before .before .before .before .before .before .before .before .before .before .before .if1 .taken), c .before .before .before .before .before .before .before .before .before .before .before .before .before .before .before .before .before .before .before .before .loop .inv .2 .each _ (line-seat (c .before .before .before .before .before .before .before .before .before .before .before .before .before .before .before .before .before .before .before .before .before .before .before .before .before .before .before .args .schedule .now) (c .before .before .before .before .before .before .before .before .before .before .before .before .before .before .before .before .before .before .before .before .loop .place) _ (c .before .before .before .before .before .before .before .before .before .before .before .before .before .before .before .before .read-line .ensures) _ (c .before .before .before .before .before .before .before .before .before .before .before .before .before .before .parsed .given .1) (c .before .before .before .before .before .before .before .before .before .before .before .before .seat-of .ensures)))
+run-line-requires c κs = (record { distinct = c .before .before .before .before .before .before .before .before .before .before .before .before .before .before .before .before .before .before .before .before .loop .inv .0 .distinct; whole = c .before .before .before .before .before .before .before .before .before .before .before .before .before .before .before .before .before .before .before .before .loop .inv .0 .whole _ (line-seat (c .before .before .before .before .before .before .before .before .before .before .before .before .before .before .before .before .before .before .before .before .before .before .before .before .before .before .before .args .schedule .now) (c .before .before .before .before .before .before .before .before .before .before .before .before .before .before .before .before .before .before .before .before .loop .place) _ (c .before .before .before .before .before .before .before .before .before .before .before .before .before .before .before .before .read-line .ensures) _ (c .before .before .before .before .before .before .before .before .before .before .before .before .before .before .parsed .given .1) (c .before .before .before .before .before .before .before .before .before .before .before .before .seat-of .ensures)) }, line-fits (c .before .before .before .before .before .before .before .before .before .before .before .before .before .before .before .before .before .before .before .before .before .before .before .before .before .before .before .args .schedule .now) (c .before .before .before .before .before .before .before .before .before .before .before .before .before .before .before .before .before .before .before .before .loop .place) _ (c .before .before .before .before .before .before .before .before .before .before .before .before .before .before .before .before .read-line .ensures) _ (c .before .before .before .before .before .before .before .before .before .before .before .before .before .before .parsed .given .1), sym (c .before .before .before .before .before .before .before .before .before .before .before .is-call .ensures) ∙ c .before .before .before .before .before .before .before .before .before .before .if2 .left, room-body (c .before .before .before .before .before .before .before .before .before .before .before .before .before .before .before .before .before .before .before .before .before .before .before .before .before .before .before .args .schedule .now) (c .before .before .before .before .before .before .before .before .before .before .before .before .before .before .before .before .before .before .before .before .loop .place) _ (c .before .before .before .before .before .before .before .before .before .before .before .before .before .before .before .before .read-line .ensures) _ (c .before .before .before .before .before .before .before .before .before .before .before .before .before .before .parsed .given .1) (c .before .before .before .before .before .before .before .before .before .before .before .before .before .before .before .before .before .before .before .before .loop .inv .1) (c .before .before .before .before .before .before .before .before .before .before .before .before .before .before .before .before .before .before .before .before .before .before .before .before .before .before .before .pre .0) (c .before .before .before .before .before .before .before .before .before .before .before .before .before .before .before .before .before .before .if1 .taken), c .before .before .before .before .before .before .before .before .before .before .before .before .before .before .before .before .before .before .before .before .loop .inv .2 .each _ (line-seat (c .before .before .before .before .before .before .before .before .before .before .before .before .before .before .before .before .before .before .before .before .before .before .before .before .before .before .before .args .schedule .now) (c .before .before .before .before .before .before .before .before .before .before .before .before .before .before .before .before .before .before .before .before .loop .place) _ (c .before .before .before .before .before .before .before .before .before .before .before .before .before .before .before .before .read-line .ensures) _ (c .before .before .before .before .before .before .before .before .before .before .before .before .before .before .parsed .given .1) (c .before .before .before .before .before .before .before .before .before .before .before .before .seat-of .ensures)))
 
 mul-full : tie.Need-mul-full Inv-loop μ-loop
 mul-full c = omega (arith, line-seat (c .before .before .before .before .before .before .before .before .before .before .before .before .before .before .before .before .before .before .before .before .before .before .before .before .before .before .before .before .before .before .before .args .schedule .now) (c .before .before .before .before .before .before .before .before .before .before .before .before .before .before .before .before .before .before .before .before .before .before .before .before .loop .place) _ (c .before .before .before .before .before .before .before .before .before .before .before .before .before .before .before .before .before .before .before .before .read-line .ensures) _ (c .before .before .before .before .before .before .before .before .before .before .before .before .before .before .before .before .before .before .parsed .given .1) (c .before .before .before .before .before .before .before .before .before .before .before .before .before .before .before .before .seat-of .ensures))
@@ -151,7 +151,7 @@ loop-again-6 : tie.Need-loop-again-6 Inv-loop μ-loop
 loop-again-6 c = run-on (c .before .before .before .before .before .before .before .before .before .before .before .before .before .before .before .before .before .before .before .before .before .before .before .before .before .before .before .before .before .before .before .before .args .schedule .now) (c .before .before .before .before .before .before .before .before .before .before .before .before .before .before .before .before .before .before .before .before .before .before .before .before .before .loop .place) _ (c .before .before .before .before .before .before .before .before .before .before .before .before .before .before .before .before .before .before .before .before .before .read-line .ensures) _ (c .before .before .before .before .before .before .before .before .before .before .before .before .before .before .before .before .before .before .before .parsed .given .1) _ _ _ _ _ _ _ (c .before .before .before .before .before .before .before .before .before .before .before .before .before .before .before .before .before .seat-of .ensures) (c .before .before .before .before .before .before .before .before .before .before .before .before .before .before .before .before .before .before .before .before .before .before .before .before .before .loop .inv .0) (c .before .before .before .before .before .before .before .before .before .before .before .before .before .before .before .before .before .before .before .before .before .before .before .before .before .loop .inv .2) (c .before .before .before .before .before .before .before .before .before .before .before .before .before .before .before .before .before .before .before .before .before .before .before .before .before .loop .inv .3) (c .before .before .before .before .run-line .result) _ _ _ _ (c .before .before .before .before .before .before .before .before .before .before .before .before .before .before .before .before .before .before .before .before .before .before .before .if1 .taken) (c .before .before .before .before .run-line .ensures) (c .if5 .left) (c .before .before .before .before .before .before .before .before .before .before .before .before .before .before .before .before .before .before .before .before .before .before .before .before .before .loop .inv .1)
 
 returns : tie.Need-returns Inv-loop μ-loop
-returns c = going-end (c .before .before .loop .inv .1) (omega arith) (c .before .before .before .before .before .before .before .before .before .pre)
+returns c = going-end _ _ (c .before .before .before .before .before .loop .inv .1) (omega arith) (c .before .before .before .before .before .before .before .before .before .before .before .before .pre .0) (c .before .before .before .before .before .before .before .before .before .before .before .before .pre .1) (c .end-of .ensures)
 
 pub run-lines-spec : {M : Type 1} → statement M
 run-lines-spec =
@@ -217,5 +217,7 @@ run-lines-spec =
     loop-again-5
     loop-less-6
     loop-again-6
-    (λ c. going-long (c .before .before .loop .inv .1))
+    (λ c. search needs) (λ c. search needs) (λ c. search needs) (λ c. search needs)
+    (λ c κs. search needs)
+    (λ c. going-long (c .before .before .before .before .before .loop .inv .1))
     returns)

@@ -1,6 +1,6 @@
 use borrow.Author.Needs.{needs}
 use borrow.Author.Tests.{not-true, not-false}
-use Rattle.evidence.proofs.Needed as laws
+use Rattle.evidence.proofs.Needing as laws
 use Rattle.evidence.proofs.remaining.is_needed.Statement.{statement}
 use Rattle.evidence.proofs.remaining.is_needed.Tie as tie
 

@@ -1,5 +1,5 @@
 use borrow.Author.Needs.{needs}
-use Rattle.pekdrav.proofs.Counting.{settled, told-conflict, told-many, told-count}
+use Rattle.pekdrav.proofs.Counting.{settled, told-conflict, told-many, told-value, count-told}
 use Rattle.pekdrav.proofs.count.pekdrav_raw_record_count_reports.Statement.{statement}
 use Rattle.pekdrav.proofs.count.pekdrav_raw_record_count_reports.Tie as tie
 
@@ -12,4 +12,4 @@ pekdrav-raw-record-count-reports-spec =
     (λ c. told-many _ _ _ _ _ _ _ (c .before .before .of-record .ensures .0) _ _ (c .before .if1 .left) (c .if2 .taken))
     (λ c κs. settled (c .before .before .before .before .before .before .of-record .ensures .0) (c .before .before .before .before .before .if1 .left) (c .before .before .before .before .if2 .left))
     (λ c κs. search needs)
-    (λ c. told-count _ _ _ _ _ _ _ (c .before .before .before .before .before .before .before .before .of-record .ensures .0) _ _ (c .before .before .before .before .before .before .before .if1 .left) (c .before .before .before .before .before .before .if2 .left) _ _ (c .before .count-reports .ensures) (c .tell .ensures)))
+    (λ c. told-value _ _ _ _ _ _ _ (c .before .before .before .before .before .before .before .before .of-record .ensures .0) _ _ (c .before .before .before .before .before .before .before .if1 .left) (c .before .before .before .before .before .before .if2 .left) _ (count-told _ _ _ _ _ _ (c .before .count-reports .ensures) (c .tell .ensures))))

@@ -1,0 +1,2 @@
+-- ---- inside: what reading an input answers
+pub mod Input

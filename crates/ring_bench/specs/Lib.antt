@@ -1,2 +1,0 @@
--- ---- inside: what reading an input answers
-pub mod Program

@@ -1,0 +1,5 @@
+pub mod ServiceLaws
+pub mod NoticeLaws
+pub mod WaitLaws
+pub mod Whole
+pub mod Scheduling
