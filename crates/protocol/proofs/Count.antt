@@ -30,15 +30,19 @@ or-or false b c = refl
 
 or_left : (a b : Bool) → T a → T (a || b)
 or_left true b t = tt
+or_left false b t = elim t [ ]
 
 and_mono : (m a b : Bool) → (T a → T b) → T (m && a) → T (m && b)
 and_mono true a b f t = f t
+and_mono false a b f t = elim t [ ]
 
 is_true : (b : Bool) → T b → true ≡ b
 is_true true t = refl
+is_true false t = elim t [ ]
 
 is_false : (b : Bool) → T (not b) → b ≡ false
 is_false false t = refl
+is_false true t = elim t [ ]
 
 module _ (width : ℕ) (t : View) (p : Stmt → Bool) where
   -- more signers are a quorum too

@@ -86,6 +86,7 @@ module _ {A : Type 0} where
     where
       go : (b : Bool) → T b → (if b then a else f n) ≡ a
       go true t = refl
+      go false t = elim t [ ]
 
   -- at each number it is the new value, or what it was
   pub put_is : (n : ℕ) (a : A) (f : ℕ → A) (i : ℕ) → ((i ≡ n) × (put n a f i ≡ a)) ⊎ (put n a f i ≡ f i)

@@ -109,6 +109,9 @@ module _ {run : Run} (is : IsRun run) (notice : ℕ) (honest : T (run.follows (s
     where
       go : (t : Bool) → T t → Fair (if t then bound m else barred)
       go true t = p
+      go false t = elim t [ ]
+  merge-fair (bound m) barred p q = elim q [ ]
+  merge-fair barred b p q = elim p [ ]
 
   merge-all-fair : (b : Binding) (X : List Stmt) → Fair b → ((s : Stmt) → s ∈ X → Fair (binding_of (group_of s notice))) → Fair (merge_all notice b X)
   unfolding merge_all
