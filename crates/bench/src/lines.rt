@@ -62,7 +62,7 @@ fn value_of(a: Answer, n: u64) -> Value
 }
 
 // Where a run stands: what the setup said, where the next line starts, its number, and where its row goes.
-#[derive(Drop)]
+#[derive(Clone, Copy)]
 struct Place {
     setting: Setting,
     at: usize,
@@ -71,7 +71,7 @@ struct Place {
 }
 
 // What a line that calls no controller leaves: `fresh` where every controller is to start. Its record is known to have every number below `full`.
-#[derive(Drop)]
+#[derive(Clone, Copy)]
 struct Moved {
     place: Place,
     fresh: bool,
@@ -79,7 +79,7 @@ struct Moved {
 }
 
 // What a run leaves: where its rows end, and the controller that was asked for, with its record.
-#[derive(Drop)]
+#[derive(Clone, Copy)]
 struct Ended {
     out: usize,
     controller: Controller,

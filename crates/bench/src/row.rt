@@ -13,7 +13,7 @@ pub const HEADER: usize = 22;
 // No row is longer.
 const ROW_MAX: usize = 40;
 
-#[derive(Drop)]
+#[derive(Clone, Copy)]
 pub enum Word {
     Taken,
     Signed,
@@ -24,7 +24,7 @@ pub enum Word {
     Refused,
 }
 
-#[derive(Drop)]
+#[derive(Clone, Copy)]
 pub enum Value {
     Number(u64),
     View(View),

@@ -6,7 +6,7 @@ use engine::{Answer, Refusal};
 use pool::{CAPACITY, POOL_WORDS, RECORD};
 
 // The answer, the number that its row may need, and whether the record has all of the pool.
-#[derive(Drop)]
+#[derive(Clone, Copy)]
 pub struct Given {
     pub answer: Answer,
     pub number: u64,

@@ -22,7 +22,7 @@ use windows::{LAST_MINUTE, WINDOWS};
 pub const NOBODY: u64 = View::WIDTH as u64;
 
 // What a setup says, but for the senders of its notices and when its windows are.
-#[derive(Drop)]
+#[derive(Clone, Copy)]
 pub struct Setting {
     pub ready: bool,
     pub faulty: u16,
@@ -33,7 +33,7 @@ pub struct Setting {
 
 // What a line that calls no controller answers, and what it leaves: `fresh` where every controller is to start, and `whole` where the record
 // has all of the pool now.
-#[derive(Drop)]
+#[derive(Clone, Copy)]
 pub struct Effect {
     pub who: u64,
     pub answer: Answer,
@@ -60,7 +60,7 @@ pub fn is_call(line: Line) -> bool
 }
 
 // What is known of a call before it is made: nothing; or that it changes nothing, and its answer.
-#[derive(Drop)]
+#[derive(Clone, Copy)]
 pub enum Verdict {
     Open,
     Idle(Answer),

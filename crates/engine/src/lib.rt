@@ -1,4 +1,5 @@
 // The engine of one controller: setup, requests, additions and turns, each a value in and a value out, over a record and a pool that are lent.
+#![tactic(auto)]
 ghost use Rattle.std.specs.Prelude.{◌≡◌};
 ghost use Rattle.protocol.specs.Controller.{refusal_number};
 ghost use Rattle.engine.specs.Meaning.{refusal_is};
@@ -22,7 +23,7 @@ use views::{History, View};
 use windows::WINDOWS;
 
 // Of notice j there are the sender, the binding, whether it was delivered, and the payload to send where that was requested: bits and places j.
-#[derive(Drop)]
+#[derive(Clone, Copy)]
 pub struct Controller {
     pub ready: bool,
     pub number: u8,
@@ -43,7 +44,7 @@ pub struct Controller {
 }
 
 // What a setup names in numbers: the initial members, and how many notices and windows there are. Senders and windows are lent beside it.
-#[derive(Drop)]
+#[derive(Clone, Copy)]
 pub struct Setup {
     pub members: u16,
     pub notices: usize,
@@ -51,7 +52,7 @@ pub struct Setup {
 }
 
 // Why a call is refused, in the order of the table of refusals.
-#[derive(Drop)]
+#[derive(Clone, Copy)]
 pub enum Refusal {
     BadSetup,
     BadStatement,
@@ -67,7 +68,7 @@ pub enum Refusal {
 }
 
 // A signed statement is answered by its number in the pool, a delivery by the notice, its payload and the set of those behind its store quorum, bit k for controller k.
-#[derive(Drop)]
+#[derive(Clone, Copy)]
 pub enum Answer {
     Taken,
     Signed(u16),
@@ -78,7 +79,7 @@ pub enum Answer {
     Refused(Refusal),
 }
 
-#[derive(Drop)]
+#[derive(Clone, Copy)]
 pub struct Outcome {
     pub answer: Answer,
     pub controller: Controller,

@@ -23,14 +23,14 @@ const KIND: u64 = 256;
 const ACK: u64 = 7;
 
 // The notices that have a certificate, as a set, or that one has certificates for two payloads.
-#[derive(Drop)]
+#[derive(Clone, Copy)]
 pub struct Certified {
     pub conflict: bool,
     pub some: u64,
 }
 
 // What quorums of sealed tops acked: one payload of one notice, or none, or more.
-#[derive(Drop)]
+#[derive(Clone, Copy)]
 struct Acked {
     many: bool,
     some: bool,

@@ -1,4 +1,5 @@
 // What a record shows, once a turn: the candidates, the greatest sealed history, the certificates, and which reports count.
+#![tactic(auto)]
 mod binding;
 mod certificates;
 mod merging;
@@ -24,14 +25,14 @@ pub const KEYS: usize = tables::KEYS;
 pub const GROUPS: usize = votes::GROUPS;
 
 // What of a ring never changes: its initial view, as a word, and how many notices it has. Who sends each of them is lent beside it.
-#[derive(Drop)]
+#[derive(Clone, Copy)]
 pub struct Ring {
     pub init: u64,
     pub notices: usize,
 }
 
 // What a controller holds of a notice.
-#[derive(Drop)]
+#[derive(Clone, Copy)]
 pub struct Notice {
     pub binding: Binding,
 }
@@ -40,7 +41,7 @@ pub struct Notice {
 // sixteen candidates, and else how many of the list of candidates count; how many of that of the greatest history count, and, as a set of its places, which of these views
 // are skipped; as sets of notices, which have a certificate, and of which its payload is stored; and how many groups of acks and stores by quorums of sealed tops are left
 // in the memory in which the votes were gathered.
-#[derive(Drop)]
+#[derive(Clone, Copy)]
 pub struct Evidence {
     pub conflict: bool,
     pub many: bool,

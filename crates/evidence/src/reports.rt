@@ -24,7 +24,7 @@ use views::{Count, View};
 
 // What a report is judged by, beside the lists that are lent: wished; how many of the list of candidates count; the notices that have a certificate; how many
 // notices there are; and how many rows of what was prepared are known.
-#[derive(Drop)]
+#[derive(Clone, Copy)]
 pub struct Judge {
     pub wished: u64,
     pub count: usize,

@@ -22,7 +22,7 @@ const ACK: u8 = 7;
 const STORE: u8 = 8;
 
 // The word of a sealed top, or that there is none.
-#[derive(Drop)]
+#[derive(Clone, Copy)]
 enum Top {
     At(u64),
     Nothing,

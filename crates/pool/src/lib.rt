@@ -1,4 +1,5 @@
 // Statements in lent memory. Every word of it can be read: specs/Pool.antt says what each stands for.
+#![tactic(auto)]
 mod compare;
 mod listed;
 mod read;
@@ -72,14 +73,14 @@ const GROUPS: u64 = 4294967296;
 const KEY: u64 = NOTICE * BYTE;
 
 // Where a statement is.
-#[derive(Drop)]
+#[derive(Clone, Copy)]
 pub enum Found {
     At(u16),
     Nothing,
 }
 
 // Where a statement went.
-#[derive(Drop)]
+#[derive(Clone, Copy)]
 pub enum Placed {
     At(u16),
     Full,

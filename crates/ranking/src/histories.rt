@@ -17,7 +17,7 @@ use views::View;
 const LENGTHS: usize = View::LIMIT + 1;
 
 // Whether the histories in the slots are a chain; whether each of it starts with all views of the one before, so that none is skipped; and the pool number of the last.
-#[derive(Drop)]
+#[derive(Clone, Copy)]
 struct Links {
     whole: bool,
     steady: bool,

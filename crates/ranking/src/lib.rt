@@ -1,4 +1,5 @@
 // The candidates in order, and the greatest sealed history, from the verdicts on what quorums agreed to.
+#![tactic(auto)]
 mod candidates;
 mod histories;
 
@@ -10,7 +11,7 @@ use tables::KEYS;
 const MEMO: usize = KEYS;
 
 // How many candidates are listed, or that two of them are incomparable; `many` where there are more than sixteen.
-#[derive(Drop)]
+#[derive(Clone, Copy)]
 pub struct Ranked {
     pub conflict: bool,
     pub many: bool,
@@ -18,7 +19,7 @@ pub struct Ranked {
 }
 
 // That two sealed histories are apart; or the set of the places, in the greatest, of the views that are skipped, and how long it is.
-#[derive(Drop)]
+#[derive(Clone, Copy)]
 pub struct Summit {
     pub conflict: bool,
     pub skipped: u32,

@@ -1,4 +1,5 @@
 // The rules of a turn, each by itself: what it has a controller do, from what the controller is and what its record shows.
+#![tactic(auto)]
 mod made;
 mod membership;
 mod notice;
@@ -14,7 +15,7 @@ pub use signed::own_of;
 use views::View;
 
 // A payload that is to be acked, or none.
-#[derive(Drop)]
+#[derive(Clone, Copy)]
 enum OptionalPayload {
     Nothing,
     Payload(u64),
@@ -22,7 +23,7 @@ enum OptionalPayload {
 
 // What a rule has the controller do; of a notice, its number and a payload. Most turns rest, so an action holds no statement: `statement` makes the one that is signed.
 // With which bindings a view is entered is found where that is done.
-#[derive(Drop)]
+#[derive(Clone, Copy)]
 pub enum Action {
     Rest,
     Report(View),
@@ -38,7 +39,7 @@ pub enum Action {
 }
 
 // What the rules look at: the controller's own fields, and what its record shows. What it shows as views or by notice is lent beside it.
-#[derive(Drop)]
+#[derive(Clone, Copy)]
 pub struct Situation {
     pub number: u8,
     pub ring: Ring,

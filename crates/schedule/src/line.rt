@@ -22,7 +22,7 @@ const SHORT_MAX: u64 = 65535;
 
 // A setup is read where it is done (`read_setup`), since its senders and windows need memory, and a lie's statement where the lie is told
 // (`lied`), so that no other line pays for them.
-#[derive(Drop)]
+#[derive(Clone, Copy)]
 pub enum Line {
     Setup,
     Join(u8),
@@ -34,14 +34,14 @@ pub enum Line {
     Lie,
 }
 
-#[derive(Drop)]
+#[derive(Clone, Copy)]
 pub enum Parsed {
     Readable(Line),
     Unreadable,
 }
 
 // What a setup says, and of its senders and windows the counts; `ok` just where the line is one.
-#[derive(Drop)]
+#[derive(Clone, Copy)]
 pub struct ReadSetup {
     pub ok: bool,
     pub members: u16,
@@ -51,7 +51,7 @@ pub struct ReadSetup {
 }
 
 // What a line was read as, and where the next one begins.
-#[derive(Drop)]
+#[derive(Clone, Copy)]
 pub struct ReadLine {
     pub parsed: Parsed,
     pub next: usize,

@@ -2,7 +2,7 @@
 ghost use Rattle.std.specs.Prelude.{◌≡◌};
 ghost use Rattle.schedule.specs.Reading.{starts_with, verb_of};
 
-#[derive(Drop)]
+#[derive(Clone, Copy)]
 pub enum Verb {
     Setup,
     Join,

@@ -1,4 +1,5 @@
 // Which views are candidates and which histories are sealed, from the tables of what quorums agreed to.
+#![tactic(auto)]
 mod cycle;
 mod judge;
 mod rows;

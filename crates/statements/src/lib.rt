@@ -1,5 +1,6 @@
 // Statements: read from their text and written to it. A statement has one text (specs/Text.antt). What a report tells of each notice stands
 // in a lent block (specs/Block.antt); a statement of any other kind means the same with every block.
+#![tactic(auto)]
 ghost use Rattle.std.specs.Prelude.{◌≡◌, true, false, ◌∷◌, ◌+◌, ◌*◌, ◌≤◌, leb, length};
 ghost use Rattle.text.specs.Text.{dec_text};
 ghost use Rattle.text.specs.Written.{Wrote};
@@ -51,7 +52,7 @@ const FIXED_BYTES: usize = 21;
 // The greatest number of eight bits.
 pub const BYTE_MAX: u64 = 255;
 
-#[derive(Drop)]
+#[derive(Clone, Copy)]
 pub enum Binding {
     Unbound,
     Bound(u64),
@@ -59,7 +60,7 @@ pub enum Binding {
 }
 
 // What a report tells of one notice.
-#[derive(Drop)]
+#[derive(Clone, Copy)]
 pub struct Told {
     pub binding: Binding,
     pub stored: bool,
@@ -67,7 +68,7 @@ pub struct Told {
 }
 
 // What all kinds have. The groups of a report are told by a block, their number stands here; the payload is that of a prepare, an ack or a store.
-#[derive(Drop)]
+#[derive(Clone, Copy)]
 pub struct Statement {
     pub kind: u8,
     pub origin: u8,
@@ -79,7 +80,7 @@ pub struct Statement {
     pub history: History,
 }
 
-#[derive(Drop)]
+#[derive(Clone, Copy)]
 pub struct ReadStatement {
     pub ok: bool,
     pub statement: Statement,
@@ -87,28 +88,28 @@ pub struct ReadStatement {
 
 // One number of a text. One that is refused ends where the text does: no comma stands there, so all that follows is refused too, and
 // only the last part's answer need be asked.
-#[derive(Drop)]
+#[derive(Clone, Copy)]
 pub struct Part {
     pub ok: bool,
     pub value: u64,
     pub next: usize,
 }
 
-#[derive(Drop)]
+#[derive(Clone, Copy)]
 pub struct ViewPart {
     pub ok: bool,
     pub view: View,
     pub next: usize,
 }
 
-#[derive(Drop)]
+#[derive(Clone, Copy)]
 pub struct ViewsPart {
     pub ok: bool,
     pub history: History,
 }
 
 // The fields up to the notice.
-#[derive(Drop)]
+#[derive(Clone, Copy)]
 pub struct Head {
     pub ok: bool,
     pub kind: u8,
@@ -119,7 +120,7 @@ pub struct Head {
     pub next: usize,
 }
 
-#[derive(Drop)]
+#[derive(Clone, Copy)]
 pub struct GroupPart {
     pub ok: bool,
     pub told: Told,

@@ -1,5 +1,7 @@
 // The fields of a line: a decimal number and a set of hexadecimal digits. A reader goes from a position and answers the value and the
 // next position, or refuses; a writer goes from a position with room and answers the next one.
+#![tactic(auto)]
+
 ghost use Rattle.std.specs.Prelude.{◌≡◌, ◌+◌, ◌-◌, ◌<◌, ◌≤◌, length, drop};
 ghost use Rattle.text.specs.Text.{glyph, dec_text, hex_text};
 ghost use Rattle.text.specs.Scan.{is_digit, hex_val, scan_dec, zero_then, dec_at, hex_at, is_comma};
@@ -17,7 +19,7 @@ pub const NUMBER_MAX: u64 = 18446744073709551615;
 // With one digit more a greater number than this is too great.
 const NUMBER_TENTH: u64 = 1844674407370955161;
 
-#[derive(Drop)]
+#[derive(Clone, Copy)]
 pub enum Read {
     Got { value: u64, next: usize },
     Refused,

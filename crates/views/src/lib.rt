@@ -1,4 +1,5 @@
 // Views, histories and quorums. A history's unused places may differ from one correct program to another: only its first len views count.
+#![tactic(auto)]
 ghost use Rattle.std.specs.Prelude.{◌≡◌, [], ◌∷◌, ◌++◌, ◌+◌, ◌<◌, ◌≤◌, min};
 ghost use Rattle.protocol.specs.Sets.{bit, set_of};
 ghost use Rattle.protocol.specs.Lists.{any, all, list_of};
@@ -22,14 +23,14 @@ pub use words::{
 };
 
 // Who joined and who left: bit k of each stands for controller k. Bits from the width on stand for none and are not read.
-#[derive(Drop)]
+#[derive(Clone, Copy)]
 pub struct View {
     pub joined: u32,
     pub left: u32,
 }
 
 // The first `len` views count; a len above the limit counts as the limit.
-#[derive(Drop)]
+#[derive(Clone, Copy)]
 pub struct History {
     pub views: [View; View::LIMIT],
     pub len: usize,

@@ -22,7 +22,7 @@ const WAITING: u64 = PLACE * MISSING;
 const OWN: u64 = 281474976710656;
 
 // Whether a quorum signed, and how many statements of a record were read to tell: all without a quorum, else those up to the one that completes it.
-#[derive(Drop)]
+#[derive(Clone, Copy)]
 pub struct Count {
     pub reached: bool,
     pub read: usize,

@@ -27,7 +27,7 @@ const ACK: u64 = 7;
 const NOTICE: u64 = 256;
 
 // A vote by its pool number, with the word of the view at which it was signed, what it is for, and its tag.
-#[derive(Drop)]
+#[derive(Clone, Copy)]
 pub struct Vote {
     pub number: u16,
     pub at: u64,

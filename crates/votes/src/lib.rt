@@ -1,4 +1,5 @@
 // The votes of a record, each counted until its quorum is complete.
+#![tactic(auto)]
 mod chosen;
 mod groups;
 mod keys;
@@ -20,14 +21,14 @@ pub const AGREEMENTS: usize = 1;
 pub const GROUPS: usize = CAPACITY;
 
 // How many groups there are, and the view that the record wishes: both in one pass.
-#[derive(Drop)]
+#[derive(Clone, Copy)]
 pub struct Gathered {
     pub groups: usize,
     pub wished: u64,
 }
 
 // How many rows the two tables have.
-#[derive(Drop)]
+#[derive(Clone, Copy)]
 pub struct Counts {
     pub choices: usize,
     pub agreements: usize,

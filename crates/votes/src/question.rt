@@ -22,7 +22,7 @@ const ACK: u8 = 7;
 const STORE: u8 = 8;
 
 // What is counted: votes of a kind at a view, for a view or for the payload of a notice, as a word; or for a history of this length, which is lent beside it.
-#[derive(Drop)]
+#[derive(Clone, Copy)]
 pub struct Question {
     pub kind: u8,
     pub notice: u8,
