@@ -1,5 +1,6 @@
 // Views, histories and quorums. A history's unused places may differ from one correct program to another: only its first len views count.
 #![tactic(auto)]
+
 ghost use Rattle.std.specs.Prelude.{◌≡◌, [], ◌∷◌, ◌++◌, ◌+◌, ◌<◌, ◌≤◌, min};
 ghost use Rattle.protocol.specs.Sets.{bit, set_of};
 ghost use Rattle.protocol.specs.Lists.{any, all, list_of};
