@@ -163,3 +163,4 @@ module _ (S : List ℕ) (notices m : ℕ) (B : List ℕ) (r : ReadStatement) (e 
     where
       is_true : (b : Bool) → T b → b ≡ true
       is_true true t = refl
+      is_true false t = elim t [ ]

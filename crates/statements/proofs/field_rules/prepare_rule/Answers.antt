@@ -1,0 +1,10 @@
+use native.Mathlib.Omega.{arith}
+use Rattle.protocol.specs.Statement.{no_at, no_view_field, no_views}
+use mathlib.Core.Bool.{◌&&◌}
+use Rattle.statements.specs.Meaning.{stmt_of}
+use Rattle.statements.proofs.FieldLaws.{with-payload, prepare-is}
+use Rattle.statements.proofs.field_rules.prepare_rule.Goals as goal
+
+pub returns : goal.returns
+unfolding stmt_of
+returns c = cc (with-payload c.args.st [] (λ e. omega arith) (no_at (stmt_of c.args.st []) && no_view_field (stmt_of c.args.st [])) (no_views (stmt_of c.args.st [])), prepare-is c.args.n (stmt_of c.args.st []) c.requires)

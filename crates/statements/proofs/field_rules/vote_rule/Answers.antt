@@ -1,0 +1,11 @@
+use native.Mathlib.Omega.{arith}
+use Rattle.protocol.specs.View.{has_members}
+use Rattle.protocol.specs.Statement.{no_view_field, no_views}
+use mathlib.Core.Bool.{◌&&◌}
+use Rattle.statements.specs.Meaning.{stmt_of}
+use Rattle.statements.proofs.FieldLaws.{with-payload, vote-is}
+use Rattle.statements.proofs.field_rules.vote_rule.Goals as goal
+
+pub returns : goal.returns
+unfolding stmt_of
+returns c = cc (with-payload c.args.st [] (λ e. omega arith) (has_members 16 (stmt_of c.args.st []).at && no_view_field (stmt_of c.args.st [])) (no_views (stmt_of c.args.st [])), vote-is c.args.n (stmt_of c.args.st []) c.requires.0 c.requires.1)

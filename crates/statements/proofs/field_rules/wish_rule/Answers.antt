@@ -1,0 +1,11 @@
+use native.Mathlib.Omega.{arith}
+use Rattle.statements.specs.Meaning.{stmt_of}
+use Rattle.statements.proofs.FieldLaws.{wish-is}
+use Rattle.statements.proofs.field_rules.wish_rule.Goals as goal
+
+pub no_groups-requires : goal.no_groups-requires
+no_groups-requires c = λ e. omega arith
+
+pub returns : goal.returns
+unfolding stmt_of
+returns c = cc (wish-is c.args.n (stmt_of c.args.st []) c.requires.0 c.requires.1)
