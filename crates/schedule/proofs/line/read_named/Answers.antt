@@ -13,4 +13,4 @@ pub returns-in-Leave : goal.returns-in-Leave
 returns-in-Leave c = named_some c.args.line.now _ _ _ Leave c.in-Leave.is c.requires c.last_at-p.ensures (not-false _ c.if-not-p.false)
 
 pub returns-in_default : goal.returns-in_default
-returns-in_default c = named_some c.args.line.now _ _ _ All (last-named _ c.in_default.in_default-own.keys3 c.requires.named) c.requires c.last_at-p.ensures (not-false _ c.if-not-p.false)
+returns-in_default c = named_some c.args.line.now _ _ _ All (last-named _ c.in_default.not-Join c.in_default.not-Leave c.requires.named) c.requires c.last_at-p.ensures (not-false _ c.if-not-p.false)
