@@ -1,9 +1,10 @@
 use native.Mathlib.Omega.{arith}
 use mathlib.Core.Path.{refl, sym, ◌∙◌}
-use mathlib.Core.Logic.{⊎_elim, inl, inr}
+use mathlib.Core.Logic.{inl, inr}
 use Prim.Native.Nat.{◌-◌}
 use Rattle.bench.proofs.Runs.{kept-first, going-first, fulls-none, turnings-none, next-within, next-moves, less, room, room-body, line-fits, line-seat, call-on, judged-on, idle-on, run-less, run_on, run-allowed, run-fresh, unread-on, going-long, going_end}
 use Rattle.bench.proofs.lines.run_lines.Goals as goal
+use Rattle.bench.proofs.lines.run_lines.Goals.{then-changes, else-changes}
 
 pub loop-place-init : goal.loop-place-init
 loop-place-init c = (kept-first _ c.new-c.ensures 16 513 refl _ c.clear.ensures.len, going-first _ c.new-c.ensures 16 513 refl _ c.clear.ensures.len _ _ _ c.first-place.ensures, fulls-none _ 16 refl, turnings-none _ _ _ 16 refl)
@@ -84,7 +85,7 @@ pub loop-place-smaller-then-is_call : goal.loop-place-smaller-then-is_call
 loop-place-smaller-then-is_call c = less c.args.schedule.now c.loop-place.place _ c.read_line-read.ensures c.loop-place-test.true c.put_step-on-then-is_call.ensures.passed
 
 pub loop-place-preserved-then-is_call : goal.loop-place-preserved-then-is_call
-loop-place-preserved-then-is_call c = call-on c.args.schedule.now c.loop-place.place _ c.read_line-read.ensures _ c.in-Readable.is _ _ _ _ _ _ _ _ _ c.seat_of-k.ensures c.loop-place.invariant.0 c.loop-place.invariant.2 c.loop-place.invariant.3 c.call-o.result c.call-o.ensures (⊎_elim (λ w. inl (sym c.changes.ensures ∙ w.0.taken, w.2)) (λ w. inr (sym c.changes.ensures ∙ w.0.left, w.1)) c.if-changes.branch) c.loop-place.invariant.1 c.loop-place-test.true c.number_of-then-is_call.ensures c.next_turn.ensures c.put_step-on-then-is_call.ensures
+loop-place-preserved-then-is_call c = call-on c.args.schedule.now c.loop-place.place _ c.read_line-read.ensures _ c.in-Readable.is _ _ _ _ _ _ _ _ _ c.seat_of-k.ensures c.loop-place.invariant.0 c.loop-place.invariant.2 c.loop-place.invariant.3 c.call-o.result c.call-o.ensures (elim c.if-changes.branch [ then-changes w ↦ inl (sym c.changes.ensures ∙ w.if-changes.true, w.seats-is) | else-changes w ↦ inr (sym c.changes.ensures ∙ w.if-changes.false, w.seats-is) ]) c.loop-place.invariant.1 c.loop-place-test.true c.number_of-then-is_call.ensures c.next_turn.ensures c.put_step-on-then-is_call.ensures
 
 pub offset_bounds-full-k : goal.offset_bounds-full-k
 offset_bounds-full-k c = omega (arith, line-seat c.args.schedule.now c.loop-place.place _ c.read_line-read.ensures _ c.in-Readable.is c.seat_of-k.ensures)

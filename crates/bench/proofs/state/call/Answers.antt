@@ -12,4 +12,4 @@ pub returns-in-Send : goal.returns-in-Send
 returns-in-Send c = calls-send _ _ _ _ c.requires.0 c.in-Send.is c.send.ensures
 
 pub returns-in_default : goal.returns-in_default
-returns-in_default c = calls-turn _ _ _ _ c.requires.0 _ (last-call c.args.line c.in_default.in_default-own.keys4 c.requires.1) c.minute_of.ensures c.lend_turn.ensures
+returns-in_default c = calls-turn _ _ _ _ c.requires.0 _ (last-call c.args.line c.in_default.not-Join c.in_default.not-Leave c.in_default.not-Send c.requires.1) c.minute_of.ensures c.lend_turn.ensures

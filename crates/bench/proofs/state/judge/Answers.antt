@@ -17,4 +17,4 @@ pub returns-in-Send : goal.returns-in-Send
 returns-in-Send c = judged-send c.args.c c.args.line c.args.turn (not-false _ c.if-not-c.false) c.in-Send.is c.send_verdict.ensures
 
 pub returns-in_default : goal.returns-in_default
-returns-in_default c = judged-turn c.args.c c.args.line c.args.turn (not-false _ c.if-not-c.false) (last-call c.args.line c.in_default.in_default-own.keys4 c.requires) _ c.minute_of.ensures c.turn_verdict.ensures
+returns-in_default c = judged-turn c.args.c c.args.line c.args.turn (not-false _ c.if-not-c.false) (last-call c.args.line c.in_default.not-Join c.in_default.not-Leave c.in_default.not-Send c.requires) _ c.minute_of.ensures c.turn_verdict.ensures
