@@ -109,6 +109,8 @@ setup-anew k p X (starts t u e) = go (setup_allowed k p.members p.senders) (wind
 
     go : (a b : Bool) → T a → T b → result a b X ≡ result a b []
     go true true t u = refl
+    go false b t u = elim t [ ]
+    go true false t u = elim u [ ]
 
 module _ {run : Run} (is : IsRun run) {k : ℕ} (ok : T (run.follows k)) {e : ℕ → Engine} (engine : EngineRun run k e) where
   -- the call of event n, as the run has it

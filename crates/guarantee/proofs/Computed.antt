@@ -134,6 +134,7 @@ module _ (P P' : List Stmt) (f : T (fits P)) (f' : T (fits P')) where
   answer-in (Delivered i m who) t = refl
   answer-in Left t = refl
   answer-in Quiet t = refl
+  answer-in (Refused _) t = elim t [ ]
 
   number_in : (a : Answer) → T (numbered P P' a) → (s : Stmt) → answer_in P' a ≡ controller.signed s → a ≡ Signed (number_of s (pool_of (memory P)))
   number_in (Signed n) t s e =
@@ -144,9 +145,16 @@ module _ (P P' : List Stmt) (f : T (fits P)) (f' : T (fits P')) where
   number_in (Delivered i m who) t s e = absurd (let z : ◌≡◌ {A = ℕ} 0 1 = cc in omega arith)
   number_in Left t s e = absurd (let z : ◌≡◌ {A = ℕ} 0 1 = cc in omega arith)
   number_in Quiet t s e = absurd (let z : ◌≡◌ {A = ℕ} 0 1 = cc in omega arith)
+  number_in (Refused _) t s e = elim t [ ]
 
   not-refused : (a : Answer) → T (numbered P P' a) → IsRefused (answer_in P' a) → ⊥
   not-refused (Refused r) t i = t
+  not-refused Taken t i = elim i [ ]
+  not-refused (Signed _) t i = elim i [ ]
+  not-refused (Entered _) t i = elim i [ ]
+  not-refused (Delivered _ _ _) t i = elim i [ ]
+  not-refused Left t i = elim i [ ]
+  not-refused Quiet t i = elim i [ ]
 
   pool-after : (p : Change) → P' ≡ pool_after P p → PoolAfter (memory P) p (memory P')
   pool-after unchanged e = ap memory e
@@ -229,6 +237,7 @@ acted k c e s t p h = go (eqb k k) ((says-eqb {m = k} {n = k}).complete refl) (s
   where
     go : (b : Bool) → T b → Called? b s c t → Acts s c t
     go true u p = p
+    go false u p = elim u [ ]
 
 waited : (k : ℕ) (e : Event) (s t : State) → Passes k e s t → ((c : Call) → ¬ (e ≡ call k c)) → Waits s t
 waited k (signing x) s t p f = p
@@ -242,6 +251,7 @@ path-acts : (k : ℕ) (es : List Event) (s : State) (ts : List State) → Path k
 path-acts k [] s ts p n c h = absurd (none≢some h)
 path-acts k (e ∷ es) s (t ∷ ts) (p, q) zero c h = acted k c e s t p (some-injective h)
 path-acts k (e ∷ es) s (t ∷ ts) (p, q) (suc n) c h = path-acts k es t ts q n c h
+path-acts k (e ∷ es) s [] p n c h = elim p [ ]
 
 -- what an event leaves that is no call on k; past the end all stays as it is
 abbrev Leaves : State → State → Type 0
@@ -253,6 +263,7 @@ path-waits k [] s [] p (suc n) f = (refl, refl, ([], sym (append-nil (pool_in s)
 path-waits k [] s (t ∷ ts) p n f = absurd (let z : ◌≡◌ {A = ℕ} 0 1 = cc in omega arith)
 path-waits k (e ∷ es) s (t ∷ ts) (p, q) zero f = let w = waited k e s t p (λ c h. f c (ap some h)) in (ap (λ x. x.0) w, ap (λ x. numbers x.1) w, (t.more, ap (λ x. x.2 ++ t.more) w))
 path-waits k (e ∷ es) s (t ∷ ts) (p, q) (suc n) f = path-waits k es t ts q n f
+path-waits k (e ∷ es) s [] p n f = elim p [ ]
 
 -- Every state is of allowed statements and numbers.
 unfoldable pub all_allowed : State → List State → Bool

@@ -110,6 +110,7 @@ module _ (room : Stmt → Bool) (c : Controller) (X : List Stmt) where
       either Idle c.is_set_up (λ e. either Idle (not (field_rules c.ring.width (length c.senders) s)) (λ f t. t)
       (λ f. either Idle (not (ltb s.notice (length c.senders))) (λ g t. t)
       (λ g. either Idle (any (same_stmt s) X) (λ h t. t) (λ h. either Idle (is_full room X s) (λ i t. t) (λ i t. t))))) (λ e t. t)
+  idle (turn_call _) x'' = elim x'' [ ]
 
   pub turn-only : (a : Call) → Acts (outcome room c X a).answer → IsTurn a
   turn-only (setup_call n p) t = absurd (idle (setup_call n p) tt t)

@@ -39,6 +39,8 @@ unfolding bench_at
 legible-from b [] [] r n l e = absurd (none≢some e)
 legible-from b (s ∷ S) (x ∷ L) r zero l e = subst (Legible b.notices) (some-injective e) (legible b.notices s x r.0)
 legible-from b (s ∷ S) (x ∷ L) r (suc n) l e = legible-from (step b x).bench S L r.1 n l e
+legible-from b [] (x ∷ L) r n l e = elim r [ ]
+legible-from b (s ∷ S) [] r n l e = elim r [ ]
 
 legible-at : (S : List (List ℕ)) (L : List (Option Line)) → ReadAll new_bench S L → AllLegible L
 legible-at S L r n l e = subst (λ b. Legible b.notices l) (sym (bench-is L n)) (legible-from new_bench S L r n l e)
@@ -48,6 +50,7 @@ some_bytes : (schedule : List ℕ) (L : List (Option Line)) → ReadAll new_benc
 unfolding lines
 some_bytes [] [] r n e f = none≢some e
 some_bytes (c ∷ S) L r n e f = omega arith
+some_bytes [] (_ ∷ _) r n {l = l} e f = elim r [ ]
 
 module _ (schedule out : List ℕ) (printed : Printed schedule out) (short : length schedule ≤ 65536) (L : List (Option Line)) (reads : ReadAll new_bench (lines schedule) L)
     (first : ℕ) (setting : Setup) (faulty : ℕ) (start : SetupTaken L (InText out) first setting faulty) where

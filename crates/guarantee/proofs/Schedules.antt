@@ -275,6 +275,7 @@ module _ (S : Schedule) where
       both : (x y : Bool) → T x → T (not (true && not y)) → T (x && y)
       both true true s t = tt
       both true false s t = t
+      both false y s t = elim s [ ]
 
       marked : (t : View) (k : ℕ) → k < controllers → T (member t k && not (ltb k controllers && not (bit faulty k))) → T (member t k && bit faulty k)
       marked t k l m = both (member t k) (bit faulty k) (and_first (member t k) (not (ltb k controllers && not (bit faulty k))) m)

@@ -1,0 +1,15 @@
+use native.Mathlib.Omega.{arith}
+use mathlib.Core.Path.{◌∙◌}
+use lib.ListN.{length-set}
+use Rattle.text.proofs.Stores.{after-byte}
+use Rattle.service.proofs.ServiceLaws.{controller-most}
+use Rattle.service.proofs.sets.put_controller.Goals as goal
+
+pub write_dec-requires : goal.write_dec-requires
+write_dec-requires c = rw length-set (omega (arith, c.requires.1, controller-most c.args.k c.requires.0))
+
+pub shape_of-out : goal.shape_of-out
+shape_of-out c = c.write_dec.auto.out ∙ simp length-set
+
+pub returns : goal.returns
+returns c = (after-byte 32 c.write_dec.ensures, omega (arith, c.write_dec.ensures.next, controller-most c.args.k c.requires.0))
