@@ -1,5 +1,6 @@
 // One controller, lent for its turn.
 #![tactic(auto)]
+
 ghost use Rattle.lent.specs.Lent.{TurnedTo};
 
 use engine::{Answer, Controller, Outcome};

@@ -1,5 +1,6 @@
 // The service screen of a controller, as text.
 #![tactic(auto)]
+
 ghost use Rattle.std.specs.Prelude.{◌≡◌, true, false, ◌≤◌, length};
 ghost use Rattle.text.specs.Written.{Wrote};
 ghost use Rattle.pool.specs.Pool.{record_in};

@@ -1,0 +1,5 @@
+use Rattle.host.proofs.Hosting.{send-hosted}
+use Rattle.pekdrav.proofs.calls.pekdrav_raw_controller_send.Goals as goal
+
+pub returns : goal.returns
+returns c = λ R. send-hosted _ c.load-c.ensures c.finish.ensures R c.args.notice c.args.payload c.send-o.ensures
