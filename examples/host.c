@@ -1,7 +1,7 @@
 /* Two controllers in one program: what one signs, the other is given. Each sends one notice, and both deliver both. `host.rs` is the same host in Rust.
  *
- *     rt staticlib pekdrav
- *     cc -Iinclude examples/host.c target/staticlib/libpekdrav.a -o target/host && target/host
+ *     (cd crates/pekdrav && rt lib)
+ *     cc -Iinclude examples/host.c crates/pekdrav/out/libpekdrav.a -o crates/pekdrav/out/host && crates/pekdrav/out/host
  */
 #include <inttypes.h>
 #include <stdio.h>

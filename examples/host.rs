@@ -1,6 +1,6 @@
 //! Two controllers in one program: what one signs, the other is given. Each sends one notice, and both deliver both. `host.c` is the same host in C.
 //!
-//!     rt staticlib pekdrav
+//!     (cd crates/pekdrav && rt lib)
 //!     cargo run --release --offline --manifest-path rust/Cargo.toml -p pekdrav --example host
 
 use pekdrav::{Answer, Controller, Pool, Question, Window};

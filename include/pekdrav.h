@@ -1,4 +1,4 @@
-/* The proved functions of Pekdrav, for C99 and C++. Link target/staticlib/libpekdrav.a, which `rt staticlib pekdrav` writes.
+/* The proved functions of Pekdrav, for C99 and C++. Link crates/pekdrav/out/libpekdrav.a, which `rt lib` in crates/pekdrav writes.
  *
  * Every function answers whatever the memory holds and whatever the numbers are; it asks only that each pointer has the room named here, apart from that of
  * the others. None keeps a pointer, allocates or blocks. The contracts stand in crates/pekdrav. Signatures are the host's: check one before the line goes to
