@@ -1,5 +1,6 @@
 -- A controller and its record after a schedule's last line.
 -- Assumes nothing.
+use Rattle.std.specs.Prelude.{if◌then◌else◌}
 use mathlib.Core.Path.{◌≡◌, refl, sym, ap, ap₂, subst, ◌∙◌}
 use mathlib.Core.Bool.{Bool, true, false, ◌||◌}
 use mathlib.Core.List.{List, []}
@@ -9,7 +10,6 @@ use lib.Dec.{eqb, ltb}
 use lib.ListN.{length, replicate, get_or-eq_default}
 use lib.Seq.{sets}
 use borrow.Author.Tests.{le-ltb, ne_eqb}
-use Rattle.protocol.specs.Lists.{if◌then◌else◌}
 use Rattle.protocol.specs.Controller.{not_set_up}
 use Rattle.protocol.proofs.Found.{if-false}
 use Rattle.protocol.proofs.Numbered.{list_of-length, list_of-at}

@@ -3,6 +3,7 @@
 --     printed-one  for a schedule one text is printed
 --     after_one    what is told of a controller after a schedule means one controller and one record
 -- Assumes nothing.
+use Rattle.std.specs.Prelude.{if◌then◌else◌}
 use Prim.Native.Nat.{ℕ, ◌^◌, ◌<◌}
 use native.Mathlib.Omega.{arith}
 use mathlib.Core.Path.{◌≡◌, refl, sym, ap, ap₂, subst, ◌∙◌}
@@ -13,7 +14,6 @@ use native.Mathlib.Decide.{dec_lt}
 use lib.Dec.{eqb, ltb}
 use lib.ListN.{length, drop}
 use borrow.Author.Tests.{lt-ltb}
-use Rattle.protocol.specs.Lists.{if◌then◌else◌}
 use Rattle.text.specs.Text.{dec_text}
 use Rattle.text.proofs.Laws.{dec-same}
 use Rattle.statements.specs.Text.{parted, text}

@@ -1,5 +1,6 @@
 -- The numbers of a record: which it has, marks of them, and those that it lacks at its end.
 -- Assumes nothing.
+use Rattle.std.specs.Prelude.{if◌then◌else◌}
 use mathlib.Core.Path.{◌≡◌, refl, sym, ap, ap₂, subst, ◌∙◌}
 use mathlib.Core.Bool.{Bool, true, false, not, ◌&&◌, ◌||◌}
 use mathlib.Core.List.{List, [], ◌∷◌, ◌++◌, append_assoc, append-nil}
@@ -12,7 +13,7 @@ use lib.Dec.{T, eqb}
 use lib.ListN.{length, get_or, set, replicate, length-replicate, get_or-replicate, length-append, length-set}
 use lib.Seq.{get_or-set_same, get_or-set_other}
 use borrow.Author.Tests.{eq-eqb, ne_eqb}
-use Rattle.protocol.specs.Lists.{if◌then◌else◌, any, filter, list_of}
+use Rattle.protocol.specs.Lists.{any, filter, list_of}
 use Rattle.protocol.proofs.Numbered.{list_of-length, list_of-cong}
 use Rattle.views.proofs.Tables.{any_append, any-zero, any-suc, any_at, any-more}
 use Rattle.pool.specs.Pool.{pool_len, record_len, AllIn}

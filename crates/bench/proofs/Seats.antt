@@ -1,5 +1,6 @@
 -- What a line comes to on one controller or on its record.
 -- Assumes nothing.
+use Rattle.std.specs.Prelude.{if◌then◌else◌}
 use mathlib.Core.Path.{◌≡◌, refl, sym, ap, ap₂, subst, ◌∙◌}
 use mathlib.Core.Bool.{Bool, true, false, not, true≢false, ◌||◌}
 use mathlib.Core.List.{List, [], ◌∷◌, ◌++◌, append-nil, map, map-append}
@@ -11,7 +12,7 @@ use lib.Dec.{T, eqb, leb, ltb}
 use lib.ListN.{length, get_or, set, length-append, get_or-append}
 use lib.Seq.{set-get_or}
 use borrow.Author.Tests.{eq-eqb, ne_eqb, lt-ltb, le-ltb, le-leb, lt-leb}
-use Rattle.protocol.specs.Lists.{if◌then◌else◌, any, filter, list_of}
+use Rattle.protocol.specs.Lists.{any, filter, list_of}
 use Rattle.protocol.specs.Statement.{Stmt, same_stmt, no_stmt}
 use Rattle.protocol.specs.Controller as controller
 use Rattle.protocol.specs.Call.{request_join, request_leave, request_send}

@@ -1,5 +1,6 @@
 -- Which answers leave a controller as it was, that no request signs, and that a turn with nothing to do has nothing to do whatever room there is and, where it does not wait for a window, at any minute.
 -- Assumes nothing.
+use Rattle.std.specs.Prelude.{if◌then◌else◌}
 use mathlib.Core.Path.{◌≡◌, refl, sym, ap, ◌∙◌}
 use mathlib.Core.Bool.{Bool, true, false, not, ◌&&◌, ◌||◌, true≢false}
 use mathlib.Core.List.{List, [], ◌∷◌, ◌++◌}
@@ -8,7 +9,7 @@ use Prim.Native.Nat.{ℕ, ◌≤◌}
 use lib.Dec.{eqb, ltb}
 use lib.ListN.{length}
 use borrow.Author.Tests.{le-ltb}
-use Rattle.protocol.specs.Lists.{if◌then◌else◌, when, is_some, first_some}
+use Rattle.protocol.specs.Lists.{when, is_some, first_some}
 use Rattle.protocol.specs.View.{member}
 use Rattle.protocol.specs.Statement.{Stmt, leave}
 use Rattle.protocol.specs.Evidence.{sender_of, candidates, is_conflict}

@@ -1,8 +1,7 @@
 -- The bench after the last line of a schedule, and one controller of it with its record.
 -- Assumes nothing.
-use Rattle.std.specs.Prelude.{◌≡◌, ◌||◌, List, [], ◌∷◌, ℕ, ◌≤◌, eqb, ltb, length}
+use Rattle.std.specs.Prelude.{◌≡◌, ◌||◌, List, [], ◌∷◌, ℕ, ◌≤◌, eqb, ltb, length, if◌then◌else◌}
 use Rattle.std.proofs.Math.Option.{Option}
-use Rattle.protocol.specs.Lists.{if◌then◌else◌}
 use Rattle.pool.specs.Pool.{record_in}
 use Rattle.engine.specs.declared.Controller.{Controller}
 use Rattle.engine.specs.Meaning.{controller_is}

@@ -1,9 +1,9 @@
 -- The bench: sixteen controllers over one pool, and what a line does to it (document 01, "Bench schedule" and "Returned on refusal"; document 02, A1, A4).
 -- Assumes nothing.
-use Rattle.std.specs.Prelude.{Bool, true, false, not, ◌||◌, List, [], ◌∷◌, ◌++◌, ℕ, ◌+◌, leb, ltb, length, get_or, set}
+use Rattle.std.specs.Prelude.{Bool, true, false, not, ◌||◌, List, [], ◌∷◌, ◌++◌, ℕ, ◌+◌, leb, ltb, length, get_or, set, if◌then◌else◌}
 use Rattle.std.proofs.Math.Option.{Option, some, none}
 use Rattle.protocol.specs.Sets.{bit}
-use Rattle.protocol.specs.Lists.{if◌then◌else◌, any, filter, list_of}
+use Rattle.protocol.specs.Lists.{any, filter, list_of}
 use Rattle.protocol.specs.View.{controllers}
 use Rattle.protocol.specs.Statement.{Stmt, same_stmt, no_stmt}
 use Rattle.protocol.specs.Controller.{Controller, not_set_up, Refusal, bad_setup, bad_statement, repeated, full, out_of_place, unknown_notice, bad_window, Answer, taken, signed, entered, delivered, left, quiet, refused, Outcome}

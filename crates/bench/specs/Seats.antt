@@ -1,8 +1,8 @@
 -- The bench in memory: controllers and records over the pool's memory W, and what a line on one of them promises. R is the memory of a record.
 -- Assumes nothing.
-use Rattle.std.specs.Prelude.{◌≡◌, Bool, true, false, not, ◌&&◌, List, [], ◌++◌, ℕ, ◌+◌, ◌<◌, ◌≤◌, min, eqb, ltb, length, get_or, set}
+use Rattle.std.specs.Prelude.{◌≡◌, Bool, true, false, not, ◌&&◌, List, [], ◌++◌, ℕ, ◌+◌, ◌<◌, ◌≤◌, min, eqb, ltb, length, get_or, set, if◌then◌else◌}
 use Rattle.std.proofs.Math.Option.{some}
-use Rattle.protocol.specs.Lists.{if◌then◌else◌, any, filter, list_of}
+use Rattle.protocol.specs.Lists.{any, filter, list_of}
 use Rattle.protocol.specs.Sets.{bit}
 use Rattle.protocol.specs.View.{controllers, member}
 use Rattle.protocol.specs.Statement.{Stmt, same_stmt}

@@ -1,5 +1,6 @@
 -- What a controller holds by notice: senders, sets, bindings and payloads.
 -- Assumes nothing.
+use Rattle.std.specs.Prelude.{if◌then◌else◌}
 use mathlib.Core.Path.{◌≡◌, refl, sym, ap, ap₂, subst, ◌∙◌}
 use mathlib.Core.Bool.{Bool, true, false, ◌&&◌, and-true, and-false}
 use mathlib.Core.List.{List, [], ◌∷◌}
@@ -12,7 +13,7 @@ use lib.Dec.{eqb, ltb}
 use lib.ListN.{length, get_or, set, replicate, get_or-replicate, length-replicate, get_or-eq_default}
 use borrow.Author.Tests.{lt-ltb, le-ltb, ltb-true}
 use Rattle.protocol.specs.Sets.{bit}
-use Rattle.protocol.specs.Lists.{if◌then◌else◌, all, when, is_some, list_of, put}
+use Rattle.protocol.specs.Lists.{all, when, is_some, list_of, put}
 use Rattle.protocol.specs.Statement.{Binding, unbound, bound, tells}
 use Rattle.protocol.specs.Evidence.{sender_of}
 use Rattle.protocol.proofs.Bits.{bit-zero}

@@ -1,5 +1,6 @@
 -- What the ways in which a turn or an addition ends come to.
 -- Assumes nothing.
+use Rattle.std.specs.Prelude.{if◌then◌else◌}
 use mathlib.Core.Path.{◌≡◌, refl, sym, ap, ap₂, subst, fun_ext, ◌∙◌}
 use mathlib.Core.Bool.{Bool, true, false}
 use mathlib.Core.List.{List, [], ◌∷◌, ◌++◌}
@@ -9,7 +10,7 @@ use native.Mathlib.Omega.{arith}
 use lib.Dec.{T, ltb}
 use denote.Enum.Declared.{tag_of}
 use lib.ListN.{length, set}
-use Rattle.protocol.specs.Lists.{if◌then◌else◌, any, put}
+use Rattle.protocol.specs.Lists.{any, put}
 use Rattle.protocol.specs.View.{View}
 use Rattle.protocol.specs.Statement.{Stmt, Binding, bound, same_stmt, field_rules}
 use Rattle.protocol.specs.Signers.{store_set}

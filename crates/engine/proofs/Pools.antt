@@ -1,5 +1,6 @@
 -- The pool in memory and the protocol's pool: where a statement is, and what one more does to it and to the records over it.
 -- Assumes nothing.
+use Rattle.std.specs.Prelude.{if◌then◌else◌}
 use mathlib.Core.Path.{◌≡◌, refl, sym, ap, ap₂, subst, ◌∙◌}
 use mathlib.Core.Bool.{Bool, true, false, ◌||◌}
 use mathlib.Core.List.{List, [], ◌∷◌, ◌++◌}
@@ -9,7 +10,7 @@ use native.Mathlib.Numerals.{add-one}
 use native.Mathlib.Omega.{arith}
 use lib.Dec.{T}
 use lib.ListN.{length}
-use Rattle.protocol.specs.Lists.{if◌then◌else◌, any, find, list_of}
+use Rattle.protocol.specs.Lists.{any, find, list_of}
 use Rattle.protocol.specs.Statement.{Stmt, same_stmt}
 use Rattle.protocol.specs.Pool.{number_of}
 use Rattle.protocol.proofs.Asked.{says-same-stmt}

@@ -1,5 +1,6 @@
 -- What the calls that do not touch the pool come to.
 -- Assumes nothing.
+use Rattle.std.specs.Prelude.{if◌then◌else◌}
 use mathlib.Core.Path.{◌≡◌, refl, sym, ap, ap₂, subst, ◌∙◌}
 use mathlib.Core.Bool.{Bool, true, false, not, ◌&&◌, ◌||◌, true≢false}
 use mathlib.Core.List.{List, [], ◌∷◌}
@@ -10,7 +11,7 @@ use lib.Dec.{eqb, leb, ltb}
 use lib.ListN.{length, get_or, set, replicate}
 use borrow.Author.Tests.{eq-eqb, ne_eqb, lt-ltb, le-ltb, le-leb, lt-leb, ltb-true}
 use Rattle.protocol.specs.Sets.{bit}
-use Rattle.protocol.specs.Lists.{if◌then◌else◌, list_of}
+use Rattle.protocol.specs.Lists.{list_of}
 use Rattle.protocol.specs.View.{View, member}
 use Rattle.protocol.specs.Statement.{Stmt}
 use Rattle.protocol.specs.Window.{windows_allowed}

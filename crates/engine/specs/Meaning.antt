@@ -1,8 +1,8 @@
 -- What the engine's values mean: the protocol's controller and answer.
 -- Assumes nothing.
-use Rattle.std.specs.Prelude.{List, [], ◌∷◌, ℕ, min, get_or}
+use Rattle.std.specs.Prelude.{List, [], ◌∷◌, ℕ, min, get_or, if◌then◌else◌}
 use Rattle.protocol.specs.Sets.{bit}
-use Rattle.protocol.specs.Lists.{if◌then◌else◌, when, list_of}
+use Rattle.protocol.specs.Lists.{when, list_of}
 use Rattle.protocol.specs.View.{View, controllers, member}
 use Rattle.protocol.specs.Controller as controller
 use Rattle.protocol.specs.Call as call

@@ -1,5 +1,6 @@
 -- Laws of a loop that lists the statements of a record that have q: every number is written, and stays only if its statement has q.
 -- Assumes nothing.
+use Rattle.std.specs.Prelude.{if◌then◌else◌}
 use mathlib.Core.Path.{◌≡◌, refl, sym, ap, ap₂, ◌∙◌}
 use mathlib.Core.Bool.{Bool, true, false, ◌&&◌, ◌||◌}
 use mathlib.Core.List.{List, [], ◌∷◌, ◌++◌, append-nil}
@@ -9,7 +10,7 @@ use native.Mathlib.Omega.{arith}
 use mir.Val.{bool_byte}
 use lib.ListN.{length, get_or, set, length-set}
 use lib.Seq.{get_or-set_same, get_or-set_other}
-use Rattle.protocol.specs.Lists.{if◌then◌else◌, any, filter, list_of}
+use Rattle.protocol.specs.Lists.{any, filter, list_of}
 use Rattle.protocol.specs.Statement.{Stmt}
 use Rattle.protocol.proofs.Numbered.{list_of-cong}
 use Rattle.pool.specs.Pool.{stmt_at, record_up_to, record_in}

@@ -1,5 +1,6 @@
 -- Laws of the senders in lent memory, and of statements of the pool: their notice, their payload and what a report tells.
 -- Assumes nothing.
+use Rattle.std.specs.Prelude.{if◌then◌else◌}
 use mathlib.Core.Path.{◌≡◌, refl, sym, ap, ◌∙◌}
 use mathlib.Core.Bool.{Bool, true, false, cond}
 use mathlib.Core.List.{List, [], ◌∷◌}
@@ -10,7 +11,7 @@ use lib.Dec.{eqb}
 use lib.ListN.{length, get_or, get_or-eq_default}
 use borrow.Author.Tests.{eq-eqb, ne_eqb}
 use Rattle.protocol.specs.Sets.{bit}
-use Rattle.protocol.specs.Lists.{if◌then◌else◌, when, list_of}
+use Rattle.protocol.specs.Lists.{when, list_of}
 use Rattle.protocol.specs.Statement as statement
 use Rattle.protocol.specs.Statement.{Group, no_group, only, group_of, payload_of, tells, binding_of}
 use Rattle.protocol.specs.Evidence.{sender_of}

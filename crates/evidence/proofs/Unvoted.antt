@@ -1,5 +1,6 @@
 -- A record without votes shows the initial view alone.
 -- Assumes nothing.
+use Rattle.std.specs.Prelude.{if◌then◌else◌}
 use mathlib.Core.Path.{◌≡◌, refl, sym, ap, subst, ◌∙◌}
 use mathlib.Core.Logic.{inl, inr}
 use mathlib.Core.Bool.{Bool, false, not}
@@ -10,7 +11,7 @@ use Prim.Native.Nat.{ℕ, ◌≤◌}
 use native.Mathlib.Omega.{arith}
 use lib.Dec.{T, ltb}
 use lib.ListN.{length, get_or, set}
-use Rattle.protocol.specs.Lists.{if◌then◌else◌, ◌∈◌, any, filter, first, when}
+use Rattle.protocol.specs.Lists.{◌∈◌, any, filter, first, when}
 use Rattle.protocol.specs.View.{View}
 use Rattle.protocol.specs.Statement.{Stmt, is_kind}
 use Rattle.protocol.specs.Evidence.{wished, candidate, initial, chosen, start, agreed, Candidate, is_candidate, insert, insert_all, candidates, Sealed, certificates}

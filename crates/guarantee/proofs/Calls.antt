@@ -1,5 +1,6 @@
 -- A run whose calls are the engine's is a run of the protocol, so the promises hold of what the engine answers.
 -- Assumes nothing.
+use Rattle.std.specs.Prelude.{if◌then◌else◌}
 use mathlib.Core.Path.{◌≡◌, refl, sym, ap, ap₂, subst, ◌∙◌}
 use mathlib.Core.Bool.{Bool, true, false, not, ◌||◌}
 use mathlib.Core.List.{List, [], ◌∷◌, ◌++◌}
@@ -8,7 +9,7 @@ use Prim.Native.Nat.{ℕ, zero, suc, ◌<◌}
 use native.Mathlib.Omega.{arith}
 use lib.Dec.{T}
 use lib.ListN.{length, get_or}
-use Rattle.protocol.specs.Lists.{if◌then◌else◌, any}
+use Rattle.protocol.specs.Lists.{any}
 use Rattle.protocol.specs.Statement.{Stmt, same_stmt}
 use Rattle.protocol.specs.Controller as controller
 use Rattle.protocol.specs.Window.{windows_allowed}

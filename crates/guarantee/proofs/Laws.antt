@@ -1,5 +1,6 @@
 -- Tests, lists by place, and refusals by their numbers.
 -- Assumes nothing.
+use Rattle.std.specs.Prelude.{if◌then◌else◌}
 use mathlib.Core.Path.{◌≡◌, refl, sym, ap, ◌∙◌}
 use mathlib.Core.Logic.{◌⊎◌, inl, inr}
 use mathlib.Core.Bool.{Bool, true, false}
@@ -12,7 +13,7 @@ use native.Mathlib.Omega.{arith}
 use lib.Dec.{T}
 use lib.ListN.{length, get_or, get_elem?, length-append}
 use Rattle.protocol.specs.Sets.{count}
-use Rattle.protocol.specs.Lists.{if◌then◌else◌, ◌∈◌, filter}
+use Rattle.protocol.specs.Lists.{◌∈◌, filter}
 use Rattle.protocol.specs.Controller.{Refusal, bad_setup, bad_statement, repeated, full, bad_request, many_candidates, conflict, out_of_place, unknown_notice, bad_window, bad_minute, refusal_number}
 use Rattle.protocol.proofs.Found.{none≢some, some-injective, filter-out}
 use Rattle.protocol.proofs.Counting.{count-mono}

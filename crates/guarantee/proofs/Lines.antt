@@ -2,6 +2,7 @@
 --     new_line  until a setup is taken nothing changes
 --     effect    a line does nothing, one call on a controller, an addition of each statement that it misses, or a signing by one who is marked
 -- Assumes nothing.
+use Rattle.std.specs.Prelude.{if◌then◌else◌}
 use mathlib.Core.Path.{◌≡◌, refl, sym, ap, ap₂, subst, ◌∙◌}
 use mathlib.Core.Logic.{◌⊎◌, inl, inr}
 use mathlib.Core.Bool.{Bool, true, false, not, ◌||◌, true≢false, and-false, and-true}
@@ -16,7 +17,7 @@ use lib.Dec.{T, eqb, leb, ltb}
 use lib.ListN.{length, get_or, get_elem?, set, get_or-eq_default}
 use lib.Seq.{set-get_or}
 use Rattle.protocol.specs.Sets.{bit}
-use Rattle.protocol.specs.Lists.{if◌then◌else◌, ◌∈◌, any, is_some, list_of}
+use Rattle.protocol.specs.Lists.{◌∈◌, any, is_some, list_of}
 use Rattle.protocol.specs.Evidence.{sender_of}
 use Rattle.protocol.specs.View.{controllers, member}
 use Rattle.protocol.specs.Statement.{Stmt, no_stmt, same_stmt, field_rules}

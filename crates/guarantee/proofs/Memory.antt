@@ -1,5 +1,6 @@
 -- The memory of a pool whose statements went into it one after another, and a record of given numbers.
 -- Assumes nothing.
+use Rattle.std.specs.Prelude.{if◌then◌else◌}
 use mathlib.Core.Path.{◌≡◌, refl, sym, ap, ap₂, subst, ◌∙◌}
 use mathlib.Core.Bool.{Bool, true, false, cond, not, ◌&&◌}
 use mathlib.Core.List.{List, [], ◌∷◌, ◌++◌, map, foldl, foldl-append, append-nil, append_assoc}
@@ -8,7 +9,7 @@ use native.Mathlib.Omega.{arith}
 use lib.Dec.{T, eqb, ltb, T_not}
 use lib.ListN.{length, get_or, set, replicate, length-append, length-map, length-replicate, get_or-append, get_or-map}
 use lib.Seq.{set-append_seam, get_or-set_same}
-use Rattle.protocol.specs.Lists.{if◌then◌else◌, any, all, is_some, list_of}
+use Rattle.protocol.specs.Lists.{any, all, is_some, list_of}
 use Rattle.protocol.specs.View.{View}
 use Rattle.protocol.specs.Statement.{Stmt, only, no_stmt, same_stmt, field_rules}
 use Rattle.protocol.specs.Pool.{pooled}

@@ -1,5 +1,6 @@
 -- The pool after something is signed, the number of a statement in it, and an addition of what it has.
 -- Assumes nothing.
+use Rattle.std.specs.Prelude.{if◌then◌else◌}
 use mathlib.Core.Path.{◌≡◌, refl, sym, ap, subst, ◌∙◌}
 use mathlib.Core.Logic.{◌⊎◌, inl}
 use mathlib.Core.Bool.{Bool, true, false, ◌||◌, true≢false, or-false}
@@ -10,7 +11,7 @@ use Prim.Native.Nat.{ℕ, suc, ◌+◌, ◌<◌}
 use borrow.Author.Tests.{lt-leb, lt-ltb}
 use lib.Dec.{T, leb}
 use lib.ListN.{length, get_elem?}
-use Rattle.protocol.specs.Lists.{if◌then◌else◌, ◌∈◌, ◌⊆◌, any}
+use Rattle.protocol.specs.Lists.{◌∈◌, ◌⊆◌, any}
 use Rattle.protocol.specs.View.{controllers}
 use Rattle.protocol.specs.Statement.{Stmt, same_stmt, field_rules}
 use Rattle.protocol.specs.Controller.{Controller, repeated, full, taken, Outcome}

@@ -1,5 +1,6 @@
 -- What is promised holds of the rows that are printed for a schedule.
 -- Assumes nothing.
+use Rattle.std.specs.Prelude.{if◌then◌else◌}
 use mathlib.Core.Path.{◌≡◌, refl, sym, ap, ap₂, subst, ◌∙◌}
 use mathlib.Core.Bool.{◌&&◌, ◌||◌}
 use mathlib.Core.List.{List, [], ◌∷◌, ◌++◌}
@@ -10,7 +11,6 @@ use borrow.Author.Tests.{le-ltb, ne_eqb}
 use lib.Dec.{T}
 use lib.ListN.{length, take, drop, get_elem?}
 use lib.Seq.{take-append_seam}
-use Rattle.protocol.specs.Lists.{if◌then◌else◌}
 use Rattle.protocol.specs.Sets.{bit}
 use Rattle.protocol.specs.View.{controllers, View, is_view, member}
 use Rattle.protocol.specs.History.{top}

@@ -4,6 +4,7 @@
 --     signed-number  the number in a row `signed` is that of the statement in the final pool
 --     entered-view   a view in a row `entered` is one of the ring
 -- Assumes nothing.
+use Rattle.std.specs.Prelude.{if◌then◌else◌}
 use mathlib.Core.Path.{◌≡◌, refl, sym, ap, ap₂, subst, ◌∙◌}
 use mathlib.Core.Logic.{inl, inr}
 use mathlib.Core.Bool.{true}
@@ -14,7 +15,6 @@ use native.Mathlib.Decide.{dec_lt}
 use native.Mathlib.Omega.{arith}
 use lib.Dec.{T}
 use lib.ListN.{length, get_elem?}
-use Rattle.protocol.specs.Lists.{if◌then◌else◌}
 use Rattle.protocol.specs.View.{controllers, View, is_view}
 use Rattle.protocol.specs.Statement.{Stmt, prepare, stores}
 use Rattle.protocol.specs.Evidence.{sender_of, Certificate}

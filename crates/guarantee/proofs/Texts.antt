@@ -2,6 +2,7 @@
 --     answer-told  two replies with one row name one controller, and have one answer, but for what a number or a view stands for and for the notice of a delivery
 --     out_at       line n of the output is the row of the reply to line n
 -- Assumes nothing.
+use Rattle.std.specs.Prelude.{if◌then◌else◌}
 use mathlib.Core.Path.{◌≡◌, refl, sym, ap, ap₂, subst, ◌∙◌}
 use mathlib.Core.Bool.{Bool, true, false, cond}
 use mathlib.Core.List.{List, [], ◌∷◌, ◌++◌, append_assoc}
@@ -12,7 +13,7 @@ use native.Mathlib.Omega.{arith}
 use borrow.Author.Tests.{ne_eqb}
 use lib.Dec.{T, eqb, leb, ltb, leb→le}
 use lib.ListN.{length, get_or, drop, get_elem?}
-use Rattle.protocol.specs.Lists.{if◌then◌else◌, all}
+use Rattle.protocol.specs.Lists.{all}
 use Rattle.protocol.specs.View.{View}
 use Rattle.protocol.specs.Statement.{Stmt}
 use Rattle.protocol.specs.Controller.{Refusal, conflict, refusal_number, Answer, taken, signed, entered, delivered, left, quiet, refused, answer_word, answer_value}

@@ -1,8 +1,7 @@
 -- A run in what the exported calls tell a host, in numbers (document 01, "A run").
 -- Assumes nothing.
-use Rattle.std.specs.Prelude.{◌≡◌, List, [], ◌∷◌, ℕ, suc, T, eqb, get_or}
+use Rattle.std.specs.Prelude.{◌≡◌, List, [], ◌∷◌, ℕ, suc, T, eqb, get_or, if◌then◌else◌}
 use Rattle.std.proofs.Math.Option.{some}
-use Rattle.protocol.specs.Lists.{if◌then◌else◌}
 use Rattle.protocol.specs.Controller.{Answer, taken, signed, entered, delivered, left, quiet, refused, Refusal, bad_setup, bad_statement, repeated, full, bad_request, many_candidates, conflict, out_of_place, unknown_notice, bad_window, bad_minute}
 use Rattle.protocol.specs.Pool.{has_room}
 use Rattle.protocol.specs.Run.{Call, setup_call, turn_call, call, Run, ring, event, statements}

@@ -5,8 +5,8 @@
 -- payload to which it is bound and 160 + j the payload to send; words 224 to 231 are the windows, as crates/windows/specs/Windows.antt reads them.
 -- Every memory means some controller: each word is read as the value that it can stand for, and nothing has to hold of it.
 -- Assumes nothing.
-use Rattle.std.specs.Prelude.{Bool, not, List, ℕ, ◌+◌, ◌/◌, ◌%◌, eqb, get_or}
-use Rattle.protocol.specs.Lists.{if◌then◌else◌, list_of}
+use Rattle.std.specs.Prelude.{Bool, not, List, ℕ, ◌+◌, ◌/◌, ◌%◌, eqb, get_or, if◌then◌else◌}
+use Rattle.protocol.specs.Lists.{list_of}
 use Rattle.protocol.specs.Sets.{bit}
 use Rattle.views.specs.declared.View.{View}
 use Rattle.views.specs.declared.History.{History}

@@ -1,5 +1,6 @@
 // The input of a program, read whole into memory.
 #![tactic(auto)]
+
 ghost use Rattle.std.specs.Prelude.{◌-◌, ◌≤◌, length};
 ghost use Rattle.input.specs.Input.{InputWithin};
 

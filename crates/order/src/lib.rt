@@ -1,6 +1,7 @@
 // The order of the rules: the first that applies is done.
 // A function that is lent `own` is lent the controller's own statements; `told` is the block that a report of this turn would tell, `sends` has the payloads to send.
 #![tactic(auto)]
+
 ghost use Rattle.std.specs.Prelude.{[], ◌∷◌, ◌≤◌, ◌<◌};
 ghost use Rattle.protocol.specs.Turn as turn;
 ghost use Rattle.pool.specs.Pool.{record_in};

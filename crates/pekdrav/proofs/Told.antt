@@ -1,5 +1,6 @@
 -- Words that are told one after the other, and that all of them are what the record shows.
 -- Assumes nothing.
+use Rattle.std.specs.Prelude.{if◌then◌else◌}
 use Prim.Native.Nat.{ℕ, zero, suc, ◌+◌, ◌^◌, ◌≤◌, ◌<◌, min}
 use native.Mathlib.Decide.{dec_lt}
 use native.Mathlib.Omega.{arith}
@@ -18,7 +19,7 @@ use Rattle.views.proofs.Tables.{views-count}
 use Rattle.views.proofs.Sets.{bit-far, set_of-lt}
 use Rattle.statements.specs.Sets.{Common}
 use Rattle.protocol.specs.Sets.{bit, one, set_of}
-use Rattle.protocol.specs.Lists.{if◌then◌else◌, first, when, given, is_some, otherwise, list_of}
+use Rattle.protocol.specs.Lists.{first, when, given, is_some, otherwise, list_of}
 use Rattle.protocol.specs.View.{View, Ring}
 use Rattle.protocol.specs.Statement.{Stmt}
 use Rattle.protocol.specs.Evidence.{wished, candidates, greatest, certificates, is_stored}

@@ -1,9 +1,9 @@
 -- What is told of a record: a hundred and four words, each fixed by what the record shows.
 -- Assumes nothing.
-use Rattle.std.specs.Prelude.{ℕ, Bool, cond, List, [], ◌∷◌, ◌++◌, map, ltb, length, get_or, replicate}
+use Rattle.std.specs.Prelude.{ℕ, Bool, cond, List, [], ◌∷◌, ◌++◌, map, ltb, length, get_or, replicate, if◌then◌else◌}
 use Rattle.std.proofs.Math.Option.{Option}
 use Rattle.protocol.specs.Sets.{bit, set_of}
-use Rattle.protocol.specs.Lists.{if◌then◌else◌, first, when, given, is_some, otherwise, list_of}
+use Rattle.protocol.specs.Lists.{first, when, given, is_some, otherwise, list_of}
 use Rattle.protocol.specs.View.{View, Ring}
 use Rattle.protocol.specs.Statement.{Stmt}
 use Rattle.protocol.specs.Evidence.{wished, candidates, greatest, certificates, is_conflict, is_stored}

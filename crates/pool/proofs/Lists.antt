@@ -1,5 +1,6 @@
 -- Laws of a record in memory: one number more, and none.
 -- Assumes nothing.
+use Rattle.std.specs.Prelude.{if◌then◌else◌}
 use mathlib.Core.Path.{◌≡◌, refl, sym, ap, ap₂, ◌∙◌}
 use mathlib.Core.List.{List, [], ◌∷◌, ◌++◌}
 use Prim.Native.Nat.{ℕ, suc, ◌+◌, ◌≤◌, ◌<◌, min}
@@ -8,7 +9,7 @@ use lib.Dec.{ltb}
 use lib.ListN.{length, get_or, set, length-set}
 use lib.Seq.{get_or-set_same, get_or-set_other}
 use borrow.Author.Tests.{lt-ltb, le-ltb}
-use Rattle.protocol.specs.Lists.{if◌then◌else◌, list_of}
+use Rattle.protocol.specs.Lists.{list_of}
 use Rattle.protocol.proofs.Numbered.{list_of-cong}
 use Rattle.pool.specs.Pool.{stmt_at, record_up_to, record_len, record_in}
 use Rattle.pool.specs.Changes.{pushed_to, PushedTo, Emptied}

@@ -1,5 +1,6 @@
 -- Laws of comparing, finding and appending statements, and of what stays as it was.
 -- Assumes nothing.
+use Rattle.std.specs.Prelude.{if◌then◌else◌}
 use mathlib.Core.Path.{◌≡◌, refl, sym, ap, ap₂, subst, ◌∙◌}
 use mathlib.Core.Bool.{Bool, true, false, cond, not, ◌||◌, true≢false}
 use mathlib.Core.List.{List, [], ◌∷◌, ◌++◌}
@@ -12,7 +13,7 @@ use lib.Dec.{eqb, leb}
 use lib.ListN.{length, get_or, set, replicate, length-set}
 use lib.Seq.{get_or-set_same}
 use borrow.Author.Tests.{eq-eqb, lt-ltb, le-ltb, le-leb, lt-leb, leb-false}
-use Rattle.protocol.specs.Lists.{if◌then◌else◌, find, is_some, when, list_of}
+use Rattle.protocol.specs.Lists.{find, is_some, when, list_of}
 use Rattle.protocol.specs.Sets.{bit}
 use Rattle.protocol.specs.History.{same_views}
 use Rattle.protocol.specs.Statement.{Group, Stmt, only, tells, same_groups, same_stmt}

@@ -1,5 +1,6 @@
 -- Laws of writing: one word more, the views, the head and the columns, a whole statement.
 -- Assumes nothing.
+use Rattle.std.specs.Prelude.{if◌then◌else◌}
 use mathlib.Core.Path.{◌≡◌, refl, sym, ap, ap₂, ◌∙◌}
 use mathlib.Core.Bool.{Bool, true, false, cond}
 use mathlib.Core.Logic.{◌⊎◌, inl, inr}
@@ -11,7 +12,7 @@ use lib.Dec.{eqb, ltb}
 use lib.ListN.{length, get_or, set, take, length-set, length-map, length-take}
 use lib.Seq.{sets, length-sets, take_all, get_or-set_same, get_or-set_other}
 use borrow.Author.Tests.{lt-ltb, le-ltb}
-use Rattle.protocol.specs.Lists.{if◌then◌else◌, list_of}
+use Rattle.protocol.specs.Lists.{list_of}
 use Rattle.protocol.specs.Sets.{bit}
 use Rattle.protocol.specs.View.{View}
 use Rattle.protocol.specs.Statement.{Group, Stmt, no_group, only}

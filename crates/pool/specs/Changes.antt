@@ -1,10 +1,10 @@
 -- What writing to the pool does, and where a statement is found in it.
 -- Every word after it is fixed: a statement is written in one way, and no other word changes, not even a place after its last view.
 -- Assumes nothing.
-use Rattle.std.specs.Prelude.{◌≡◌, Bool, cond, ◌||◌, List, ◌∷◌, [], ◌++◌, map, ℕ, ◌+◌, ◌-◌, ◌*◌, ◌/◌, ◌%◌, ◌≤◌, ◌<◌, min, eqb, leb, ltb, length, get_or, set, take}
+use Rattle.std.specs.Prelude.{◌≡◌, Bool, cond, ◌||◌, List, ◌∷◌, [], ◌++◌, map, ℕ, ◌+◌, ◌-◌, ◌*◌, ◌/◌, ◌%◌, ◌≤◌, ◌<◌, min, eqb, leb, ltb, length, get_or, set, take, if◌then◌else◌}
 use Rattle.std.proofs.Math.Option.{Option, some, none}
 use Rattle.std.proofs.lemmas.List.Edits.{sets}
-use Rattle.protocol.specs.Lists.{if◌then◌else◌, find, is_some, list_of}
+use Rattle.protocol.specs.Lists.{find, is_some, list_of}
 use Rattle.protocol.specs.Sets.{set_of}
 use Rattle.protocol.specs.Statement.{Group, Stmt, no_group, same_stmt}
 use Rattle.views.specs.View.{word_of}

@@ -1,5 +1,6 @@
 -- Where no leave is requested, minutes in range change nothing.
 -- Assumes nothing.
+use Rattle.std.specs.Prelude.{if◌then◌else◌}
 use mathlib.Core.Path.{◌≡◌, refl, sym, ap, ap₂, ◌∙◌}
 use mathlib.Core.Bool.{Bool, true, false, not, ◌||◌}
 use mathlib.Core.List.{List, [], ◌∷◌, map}
@@ -8,7 +9,7 @@ use Prim.Native.Nat.{ℕ, zero, suc, ◌≤◌, ◌<◌}
 use native.Mathlib.Omega.{arith}
 use lib.Dec.{eqb, ltb}
 use lib.ListN.{length, get_elem?}
-use Rattle.protocol.specs.Lists.{if◌then◌else◌, any, is_some, first_some}
+use Rattle.protocol.specs.Lists.{any, is_some, first_some}
 use Rattle.protocol.specs.View.{member}
 use Rattle.protocol.specs.Statement.{Stmt, same_stmt, field_rules}
 use Rattle.protocol.specs.Evidence.{sender_of, candidates, is_conflict}

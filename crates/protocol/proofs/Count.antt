@@ -1,5 +1,6 @@
 -- The count that stops says what the whole record says, and reads no further than the statement that completes the quorum.
 -- Assumes nothing.
+use Rattle.std.specs.Prelude.{if◌then◌else◌}
 use mathlib.Core.Path.{◌≡◌, refl, sym, ap, ap₂, subst, ◌∙◌}
 use mathlib.Core.Bool.{Bool, true, false, not, ◌&&◌, ◌||◌}
 use mathlib.Core.List.{List, [], ◌∷◌, ◌++◌}
@@ -9,7 +10,7 @@ use native.Mathlib.Nat.{le_trans}
 use lib.Dec.{T, eqb, leb}
 use lib.ListN.{length, take}
 use Rattle.protocol.specs.Sets.{count}
-use Rattle.protocol.specs.Lists.{if◌then◌else◌, any}
+use Rattle.protocol.specs.Lists.{any}
 use Rattle.protocol.specs.View.{View, member, quorum, member_count, has_members}
 use Rattle.protocol.specs.Statement.{Stmt}
 use Rattle.protocol.specs.Evidence.{signs, has_quorum, signed_by_quorum}

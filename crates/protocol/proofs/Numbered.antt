@@ -1,5 +1,6 @@
 -- What is by number: `list_of`, `least` and `put`.
 -- Assumes nothing.
+use Rattle.std.specs.Prelude.{if◌then◌else◌}
 use mathlib.Core.Path.{◌≡◌, refl, sym, ap, ap₂, ◌∙◌}
 use mathlib.Core.Logic.{◌⊎◌, inl, inr}
 use mathlib.Core.Bool.{Bool, true, false, ◌||◌}
@@ -15,7 +16,7 @@ use lib.Bits.{bit_or}
 use lib.ListN.{length, get_or, set, length-append, get_or-append}
 use lib.Seq.{get_or_at}
 use Rattle.protocol.specs.Sets.{bit}
-use Rattle.protocol.specs.Lists.{if◌then◌else◌, ◌∈◌, first_some, list_of, least, put}
+use Rattle.protocol.specs.Lists.{◌∈◌, first_some, list_of, least, put}
 use Rattle.protocol.proofs.Says.{says_map, says-unique, says-eqb}
 use Rattle.protocol.proofs.Bits.{bit-or, bit-pow}
 use Rattle.protocol.proofs.Found.{none≢some, first_some-cons, first_some-nil}

@@ -1,5 +1,6 @@
 -- A sender that follows the rules prepares one payload of a notice, so no rule-follower is ever barred from it.
 -- Assumes nothing.
+use Rattle.std.specs.Prelude.{if◌then◌else◌}
 use mathlib.Core.Path.{◌≡◌, refl, sym, ap, subst, ◌∙◌}
 use mathlib.Core.Logic.{◌≢◌, inl, inr}
 use mathlib.Core.Bool.{Bool, true, false}
@@ -11,7 +12,7 @@ use native.Mathlib.Decide.{dec_lt, le_ind}
 use native.Mathlib.Omega.{arith}
 use lib.Dec.{T, eqb}
 use lib.ListN.{length, get_or-eq_default}
-use Rattle.protocol.specs.Lists.{if◌then◌else◌, ◌∈◌, ◌⊆◌}
+use Rattle.protocol.specs.Lists.{◌∈◌, ◌⊆◌}
 use Rattle.protocol.specs.View.{Ring}
 use Rattle.protocol.specs.Statement.{Group, Stmt, no_group, group_of, Binding, unbound, bound, barred, binding_of}
 use Rattle.protocol.specs.Evidence.{sender_of, Prepared, CountedFor, Counted}

@@ -1,5 +1,6 @@
 -- The sets of signers, and the least sealed top that has a quorum.
 -- Assumes nothing.
+use Rattle.std.specs.Prelude.{if◌then◌else◌}
 use mathlib.Core.Path.{◌≡◌, refl, sym, ap, subst, ◌∙◌}
 use mathlib.Core.Logic.{◌⊎◌, inl, inr}
 use mathlib.Core.Bool.{Bool, true, false, ◌&&◌}
@@ -13,7 +14,7 @@ use lib.Dec.{T, leb}
 use lib.ListN.{length}
 use borrow.Author.Tests.{lt-ltb}
 use Rattle.protocol.specs.Sets.{bit, count}
-use Rattle.protocol.specs.Lists.{if◌then◌else◌, ◌∈◌, filter}
+use Rattle.protocol.specs.Lists.{◌∈◌, filter}
 use Rattle.protocol.specs.View.{View, Ring, member, quorum, member_count, has_members}
 use Rattle.protocol.specs.History.{top}
 use Rattle.protocol.specs.Statement.{Stmt, Store, Signed, acks, stores}

@@ -1,7 +1,7 @@
 -- Counting a quorum, and stopping where it is reached (document 02, A3). proofs/Count.antt shows that it says what Evidence.antt says.
 -- Assumes nothing.
-use Rattle.std.specs.Prelude.{◌≡◌, Bool, true, false, not, ◌&&◌, ◌||◌, List, [], ◌∷◌, ℕ, suc, ◌≤◌, ◌<◌, T, eqb, length, take}
-use Rattle.protocol.specs.Lists.{if◌then◌else◌, when, least, otherwise}
+use Rattle.std.specs.Prelude.{◌≡◌, Bool, true, false, not, ◌&&◌, ◌||◌, List, [], ◌∷◌, ℕ, suc, ◌≤◌, ◌<◌, T, eqb, length, take, if◌then◌else◌}
+use Rattle.protocol.specs.Lists.{when, least, otherwise}
 use Rattle.protocol.specs.View.{View, Ring, member, has_members}
 use Rattle.protocol.specs.Statement.{Stmt, acks}
 use Rattle.protocol.specs.Evidence.{has_quorum, signed_by_quorum, at_sealed_top}

@@ -1,9 +1,9 @@
 -- Who signed (document 02, A5): "which frames make up a certificate".
 -- Assumes nothing.
-use Rattle.std.specs.Prelude.{◌≡◌, ◌⊎◌, Bool, not, ◌&&◌, ◌||◌, List, [], ◌∷◌, map, ℕ, ◌<◌, T, eqb, leb, ltb, length}
+use Rattle.std.specs.Prelude.{◌≡◌, ◌⊎◌, Bool, not, ◌&&◌, ◌||◌, List, [], ◌∷◌, map, ℕ, ◌<◌, T, eqb, leb, ltb, length, if◌then◌else◌}
 use Rattle.std.proofs.Math.Option.{Option, some, none}
 use Rattle.protocol.specs.Sets.{bit, count, set_of}
-use Rattle.protocol.specs.Lists.{if◌then◌else◌, filter}
+use Rattle.protocol.specs.Lists.{filter}
 use Rattle.protocol.specs.View.{View, Ring, member, quorum, member_count, has_members}
 use Rattle.protocol.specs.History.{top}
 use Rattle.protocol.specs.Statement.{Stmt, acks, stores}

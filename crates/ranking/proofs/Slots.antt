@@ -1,5 +1,6 @@
 -- Laws of the slots, by any scale: each is what one step of a function of candidates or of histories needs.
 -- Assumes nothing.
+use Rattle.std.specs.Prelude.{if◌then◌else◌}
 use mathlib.Core.Path.{◌≡◌, refl, sym, ap, ap₂, subst, ◌∙◌}
 use mathlib.Core.Logic.{◌≢◌, ◌⊎◌, inl, inr}
 use mathlib.Core.Bool.{Bool, true, false, not}
@@ -14,7 +15,7 @@ use lib.ListN.{length, get_or, set, replicate, length-set, length-append, length
 use lib.Seq.{get_or-set_same, get_or-set_other}
 use borrow.Author.Tests.{eq-eqb, ne_eqb, lt-ltb}
 use Rattle.protocol.specs.Sets.{bit}
-use Rattle.protocol.specs.Lists.{if◌then◌else◌, ◌∈◌, ◌⊆◌, list_of}
+use Rattle.protocol.specs.Lists.{◌∈◌, ◌⊆◌, list_of}
 use Rattle.protocol.specs.View.{View, size, Within}
 use Rattle.protocol.proofs.Counting.{count-mono}
 use Rattle.protocol.proofs.Numbered.{list_of-length, list_of-cong}

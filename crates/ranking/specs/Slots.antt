@@ -1,7 +1,7 @@
 -- Slots: one for each size. Views that are comparable differ in size, and histories of which one holds the other in length, so a slot for each holds them.
 -- Assumes nothing.
-use Rattle.std.specs.Prelude.{◌≡◌, ◌≢◌, ◌⊎◌, Bool, true, false, List, [], ◌∷◌, ◌++◌, ℕ, zero, suc, ◌+◌, ◌≤◌, ◌<◌, eqb, ltb, get_or, length}
-use Rattle.protocol.specs.Lists.{if◌then◌else◌, ◌∈◌}
+use Rattle.std.specs.Prelude.{◌≡◌, ◌≢◌, ◌⊎◌, Bool, true, false, List, [], ◌∷◌, ◌++◌, ℕ, zero, suc, ◌+◌, ◌≤◌, ◌<◌, eqb, ltb, get_or, length, if◌then◌else◌}
+use Rattle.protocol.specs.Lists.{◌∈◌}
 use Rattle.protocol.specs.View.{View, size, Within}
 use Rattle.protocol.specs.History.{Holds}
 use Rattle.views.specs.View.{view_of, views_of}

@@ -1,6 +1,7 @@
 // Runs the schedule of the file that its one argument names, or of standard input where it has none, and prints the rows.
 // What it cannot open, read or write, and a second argument, it says in one line on standard error. A program has no exit status of its own.
 #![tactic(auto)]
+
 ghost use Rattle.bench.specs.Rows.{Answered};
 
 use input::Input;

@@ -1,6 +1,7 @@
 // Prints the service screen of a controller after the last line of a schedule. Its first argument names the schedule's file, or is - for standard input; its second is the controller's
 // number. What it cannot open, read or write, and other arguments, it says in one line on standard error. A program has no exit status of its own.
 #![tactic(auto)]
+
 ghost use Rattle.service.specs.After.{ScreenAfter};
 
 use input::Input;

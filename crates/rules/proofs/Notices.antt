@@ -1,5 +1,6 @@
 -- The rules by notice: a set has the notices for which a rule applies, and the least of them goes first.
 -- Assumes nothing.
+use Rattle.std.specs.Prelude.{if◌then◌else◌}
 use mathlib.Core.Path.{◌≡◌, refl, sym, ap, ap₂, subst, ◌∙◌}
 use mathlib.Core.Bool.{Bool, true, false, not, ◌&&◌, ◌||◌, and-true, and-false, true≢false, false≢true}
 use mathlib.Core.List.{List, [], ◌∷◌}
@@ -11,7 +12,7 @@ use lib.Dec.{eqb, leb}
 use lib.ListN.{length, get_or}
 use borrow.Author.Tests.{le-leb, lt-leb}
 use Rattle.protocol.specs.Sets.{bit, every, set_of}
-use Rattle.protocol.specs.Lists.{if◌then◌else◌, any, find, when, given, is_some, least}
+use Rattle.protocol.specs.Lists.{any, find, when, given, is_some, least}
 use Rattle.protocol.specs.View.{View, same_view, member}
 use Rattle.protocol.specs.Statement.{Stmt, Binding, unbound, bound, barred, binding_of, payload_of, tells, kept_payload, same_stmt, leave, prepare, ack, store, acks_at, stores_at}
 use Rattle.protocol.specs.Evidence.{sender_of, prepares, candidates}

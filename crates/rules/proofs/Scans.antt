@@ -1,5 +1,6 @@
 -- What a scan of the record finds, by notice too, and the views of words as a history.
 -- Assumes nothing.
+use Rattle.std.specs.Prelude.{if◌then◌else◌}
 use mathlib.Core.Path.{◌≡◌, refl, sym, ap, ap₂, subst, ◌∙◌}
 use mathlib.Core.Bool.{Bool, true, false, ◌&&◌, ◌||◌, and-false, and_comm, and_assoc, true≢false}
 use mathlib.Core.List.{List, [], ◌∷◌, ◌++◌, append-nil}
@@ -12,7 +13,7 @@ use lib.Dec.{eqb}
 use lib.ListN.{length, get_or, set, length-set}
 use borrow.Author.Tests.{eq-eqb, ne_eqb, eqb-true}
 use Rattle.protocol.specs.Sets.{bit}
-use Rattle.protocol.specs.Lists.{if◌then◌else◌, any, filter, find, list_of, put}
+use Rattle.protocol.specs.Lists.{any, filter, find, list_of, put}
 use Rattle.protocol.specs.View.{View, same_view, member}
 use Rattle.protocol.specs.Statement.{Stmt, same_stmt, is_kind, prepare}
 use Rattle.protocol.proofs.Bits.{bit-zero}

@@ -1,8 +1,7 @@
 -- The lines of a schedule (document 01, "Bench schedule"; document 02, A1, A4). A text is the list of its bytes' numbers.
 -- Assumes nothing.
-use Rattle.std.specs.Prelude.{◌≡◌, ◌≢◌, List, [], ◌∷◌, ◌++◌, map, ℕ, ◌^◌, ◌<◌, ◌≤◌, T, eqb, length}
+use Rattle.std.specs.Prelude.{◌≡◌, ◌≢◌, List, [], ◌∷◌, ◌++◌, map, ℕ, ◌^◌, ◌<◌, ◌≤◌, T, eqb, length, if◌then◌else◌}
 use Rattle.std.proofs.Math.Option.{Option, some, none}
-use Rattle.protocol.specs.Lists.{if◌then◌else◌}
 use Rattle.protocol.specs.Statement.{Stmt, field_rules}
 use Rattle.protocol.specs.Window.{Window}
 use Rattle.protocol.specs.Call.{Setup}

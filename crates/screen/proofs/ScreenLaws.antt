@@ -1,6 +1,7 @@
 -- The text of a service screen: its lines in runs, how long they are, and that they are what the record shows.
 --     lines-shown   the lines of the evidence are the text of what it is of
 -- Assumes nothing.
+use Rattle.std.specs.Prelude.{if◌then◌else◌}
 use Prim.Native.Nat.{ℕ, zero, suc, ◌+◌, ◌*◌, ◌/◌, ◌%◌, ◌<◌, ◌≤◌}
 use native.Mathlib.Omega.{arith}
 use native.Mathlib.Numerals.{add-one}
@@ -16,7 +17,7 @@ use Rattle.text.proofs.Decimal.{long-below, most-long}
 use Rattle.text.specs.Written.{Wrote}
 use Rattle.text.proofs.Stores.{both, wrote_as}
 use Rattle.protocol.specs.Sets.{bit}
-use Rattle.protocol.specs.Lists.{if◌then◌else◌, first, when, list_of}
+use Rattle.protocol.specs.Lists.{first, when, list_of}
 use Rattle.protocol.specs.View.{View, Ring}
 use Rattle.protocol.specs.Statement.{Stmt}
 use Rattle.protocol.specs.Evidence.{wished, candidates, greatest, certificates, is_conflict, is_stored}

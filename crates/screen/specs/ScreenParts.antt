@@ -1,8 +1,8 @@
 -- What the functions that write the text of a service screen promise each other: the same lines, from the evidence as it is held.
 -- Assumes nothing.
-use Rattle.std.specs.Prelude.{ℕ, ◌≤◌, ◌≡◌, Bool, false, List, [], ◌∷◌, ◌++◌, eqb, get_or}
+use Rattle.std.specs.Prelude.{ℕ, ◌≤◌, ◌≡◌, Bool, false, List, [], ◌∷◌, ◌++◌, eqb, get_or, if◌then◌else◌}
 use Rattle.protocol.specs.Sets.{bit}
-use Rattle.protocol.specs.Lists.{if◌then◌else◌, when}
+use Rattle.protocol.specs.Lists.{when}
 use Rattle.views.specs.View.{view_of, views_of}
 use Rattle.text.specs.Text.{dec_text}
 use Rattle.evidence.specs.declared.Evidence.{Evidence}

@@ -1,7 +1,6 @@
 -- What the cycle of candidates and sealed histories goes over, and what it remembers.
 -- Assumes nothing.
-use Rattle.std.specs.Prelude.{◌≡◌, Bool, List, ℕ, ◌-◌, ◌≤◌, ◌<◌, eqb, ltb, get_or}
-use Rattle.protocol.specs.Lists.{if◌then◌else◌}
+use Rattle.std.specs.Prelude.{◌≡◌, Bool, List, ℕ, ◌-◌, ◌≤◌, ◌<◌, eqb, ltb, get_or, if◌then◌else◌}
 use Rattle.protocol.specs.Statement.{Stmt}
 use Rattle.protocol.specs.Evidence.{is_candidate}
 use Rattle.views.specs.View.{view_of, ring_of_word}

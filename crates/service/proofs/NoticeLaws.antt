@@ -1,5 +1,6 @@
 -- The lines of the notices, one after the other, from the evidence as it is held.
 -- Assumes nothing.
+use Rattle.std.specs.Prelude.{if◌then◌else◌}
 use Prim.Native.Nat.{ℕ, zero, suc, ◌+◌, ◌<◌}
 use native.Mathlib.Omega.{arith}
 use native.Mathlib.Numerals.{add-one}
@@ -8,7 +9,7 @@ use mathlib.Core.Bool.{Bool, true, false}
 use mathlib.Core.List.{List, [], ◌++◌}
 use lib.ListN.{get_or}
 use Rattle.protocol.specs.Sets.{bit}
-use Rattle.protocol.specs.Lists.{if◌then◌else◌, when}
+use Rattle.protocol.specs.Lists.{when}
 use Rattle.protocol.specs.Statement.{Stmt, acks}
 use Rattle.protocol.specs.Signers.{set_behind, store_set}
 use Rattle.views.specs.View.{ring_of_word}

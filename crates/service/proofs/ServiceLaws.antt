@@ -1,5 +1,6 @@
 -- The text of the service screen: its parts in runs, and how they are written one after the other.
 -- Assumes nothing.
+use Rattle.std.specs.Prelude.{if◌then◌else◌}
 use Prim.Native.Nat.{ℕ, zero, suc, ◌+◌, ◌-◌, ◌<◌, ◌≤◌, min}
 use native.Mathlib.Omega.{arith}
 use native.Mathlib.Numerals.{add-one}
@@ -8,7 +9,7 @@ use mathlib.Core.Bool.{Bool, true, false}
 use mathlib.Core.List.{List, [], ◌∷◌, ◌++◌, append_assoc, append-nil}
 use lib.ListN.{length, get_or}
 use Rattle.protocol.specs.Sets.{bit, set_of}
-use Rattle.protocol.specs.Lists.{if◌then◌else◌, list_of}
+use Rattle.protocol.specs.Lists.{list_of}
 use Rattle.protocol.specs.View.{View, member}
 use Rattle.protocol.specs.History.{last}
 use Rattle.protocol.specs.Statement.{Binding}

@@ -1,5 +1,6 @@
 -- What a controller waits for, line by line.
 -- Assumes nothing.
+use Rattle.std.specs.Prelude.{if◌then◌else◌}
 use Prim.Native.Nat.{ℕ, zero, suc, ◌+◌, ◌*◌, ◌<◌}
 use native.Mathlib.Omega.{arith}
 use mathlib.Core.Path.{◌≡◌, refl, sym, ap, ap₂, ◌∙◌}
@@ -7,7 +8,7 @@ use mathlib.Core.Bool.{Bool, true, false, not, ◌&&◌}
 use mathlib.Core.List.{List, [], ◌∷◌, ◌++◌, append_assoc, append-nil}
 use lib.ListN.{length, get_or}
 use Rattle.protocol.specs.Sets.{bit, set_of, one}
-use Rattle.protocol.specs.Lists.{if◌then◌else◌, filter, list_of}
+use Rattle.protocol.specs.Lists.{filter, list_of}
 use Rattle.protocol.specs.View.{View, Ring, member, below}
 use Rattle.protocol.specs.History.{top}
 use Rattle.protocol.specs.Statement.{Stmt}

@@ -1,10 +1,10 @@
 -- The service screen of a controller (docs/SCREEN.md), as text: the list of its bytes' numbers.
 -- Assumes nothing.
-use Rattle.std.specs.Prelude.{◌≡◌, Bool, not, ◌&&◌, List, [], ◌∷◌, ◌++◌, ℕ, zero, suc, ◌≤◌, ◌<◌, ltb, length}
+use Rattle.std.specs.Prelude.{◌≡◌, Bool, not, ◌&&◌, List, [], ◌∷◌, ◌++◌, ℕ, zero, suc, ◌≤◌, ◌<◌, ltb, length, if◌then◌else◌}
 use Rattle.std.proofs.Math.Option.{Option, some, none}
 use Rattle.std.proofs.lemmas.List.Edits.{sets}
 use Rattle.protocol.specs.Sets.{bit, set_of}
-use Rattle.protocol.specs.Lists.{if◌then◌else◌, filter, is_some}
+use Rattle.protocol.specs.Lists.{filter, is_some}
 use Rattle.protocol.specs.View.{View, member, controllers}
 use Rattle.protocol.specs.History.{last}
 use Rattle.protocol.specs.Statement.{Stmt, Binding, unbound, bound, barred}

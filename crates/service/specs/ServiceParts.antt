@@ -1,9 +1,9 @@
 -- What the functions that write the service screen promise each other: parts of its lines, from the evidence as it is held.
 -- Assumes nothing.
-use Rattle.std.specs.Prelude.{ℕ, min, Bool, false, not, ◌&&◌, List, [], ◌∷◌, ◌++◌}
+use Rattle.std.specs.Prelude.{ℕ, min, Bool, false, not, ◌&&◌, List, [], ◌∷◌, ◌++◌, if◌then◌else◌}
 use Rattle.std.proofs.Math.Option.{Option, some, none}
 use Rattle.protocol.specs.Sets.{bit, set_of}
-use Rattle.protocol.specs.Lists.{if◌then◌else◌, filter}
+use Rattle.protocol.specs.Lists.{filter}
 use Rattle.protocol.specs.View.{View, Ring, member}
 use Rattle.protocol.specs.Statement.{Stmt, Binding, acks}
 use Rattle.protocol.specs.Evidence.{signs, signed_by_quorum, is_counted_on}

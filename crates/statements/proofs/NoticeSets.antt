@@ -1,5 +1,6 @@
 -- Laws of sets of notices in one word.
 -- Assumes nothing.
+use Rattle.std.specs.Prelude.{if◌then◌else◌}
 use mathlib.Core.Path.{◌≡◌, refl, sym, ap, ◌∙◌}
 use mathlib.Core.Bool.{Bool, true, false, not, ◌&&◌, ◌||◌, true≢false}
 use mathlib.Core.Option.{Option, none}
@@ -13,7 +14,7 @@ use lib.Count.{count_trailing_zeros, under}
 use lib.Pow.{pow-lt, shr-shr}
 use borrow.Author.Tests.{eqb-true, eqb-false, eq-eqb, ne_eqb}
 use Rattle.protocol.specs.Sets.{bit}
-use Rattle.protocol.specs.Lists.{if◌then◌else◌, first_some, least, put}
+use Rattle.protocol.specs.Lists.{first_some, least, put}
 use Rattle.protocol.proofs.Bits.{bit-and, bit-or, bit-pow, bit-zero, bit-set_of, bits-ext}
 use Rattle.protocol.proofs.Numbered.{or_put}
 use Rattle.views.proofs.Sets.{bit-shift, bit-far, set-without}

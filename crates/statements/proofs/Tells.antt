@@ -1,5 +1,6 @@
 -- Laws of the block: one word more, one notice more.
 -- Assumes nothing.
+use Rattle.std.specs.Prelude.{if◌then◌else◌}
 use mathlib.Core.Path.{◌≡◌, refl, sym, ap, subst, ◌∙◌}
 use mathlib.Core.Logic.{◌≢◌}
 use mathlib.Core.Bool.{Bool, true, false, true≢false}
@@ -12,7 +13,7 @@ use lib.ListN.{length, get_or, set, length-set}
 use lib.Seq.{get_or-set_same, get_or-set_other}
 use borrow.Author.Tests.{eqb-true, eqb-false}
 use Rattle.protocol.specs.Sets.{bit}
-use Rattle.protocol.specs.Lists.{if◌then◌else◌, when, list_of}
+use Rattle.protocol.specs.Lists.{when, list_of}
 use Rattle.protocol.specs.Statement.{no_group, tells, unbound, bound, barred, binding_payload}
 use Rattle.protocol.specs.Statement as statement
 use Rattle.protocol.proofs.Bits.{bit-zero}

@@ -1,6 +1,7 @@
 // Two tables in lent memory, each of at most 512 rows with an index: specs/Index.antt says what each number and each word stands for.
 // A table is 0 or 1, and a row is told by its number plus one where 0 stands for none.
 #![tactic(auto)]
+
 mod rows;
 mod search;
 

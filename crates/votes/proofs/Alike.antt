@@ -1,5 +1,6 @@
 -- Laws of votes that are alike, and of their three words.
 -- Assumes nothing.
+use Rattle.std.specs.Prelude.{if◌then◌else◌}
 use mathlib.Core.Path.{◌≡◌, refl, sym, ap, ap₂, ◌∙◌}
 use mathlib.Core.Logic.{◌⊎◌, inl, inr}
 use mathlib.Core.Bool.{Bool, true, false}
@@ -14,7 +15,7 @@ use lib.ListN.{length}
 use borrow.Author.Tests.{eq-eqb, ne_eqb, le-leb, lt-leb}
 use Rattle.protocol.specs.View.{View}
 use Rattle.protocol.specs.History.{same_views}
-use Rattle.protocol.specs.Lists.{if◌then◌else◌, list_of}
+use Rattle.protocol.specs.Lists.{list_of}
 use Rattle.protocol.specs.Statement.{Stmt, payload_of, is_kind, agrees_view, agrees_history, acks, stores}
 use Rattle.protocol.proofs.Says.{Says, from-true, says_map, says-unique, says-and, says-or, says-imp, says-eqb}
 use Rattle.protocol.proofs.Bits.{Fits}

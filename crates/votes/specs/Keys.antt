@@ -1,7 +1,6 @@
 -- Votes by three words: votes that are alike have the same words, and votes with the same words are alike but for their histories.
 -- Assumes nothing.
-use Rattle.std.specs.Prelude.{◌≡◌, Bool, true, false, not, ◌&&◌, ◌||◌, List, [], ◌∷◌, ℕ, ◌+◌, ◌-◌, ◌*◌, ◌/◌, ◌%◌, ◌≤◌, ◌<◌, T, eqb, length, get_or}
-use Rattle.protocol.specs.Lists.{if◌then◌else◌}
+use Rattle.std.specs.Prelude.{◌≡◌, Bool, true, false, not, ◌&&◌, ◌||◌, List, [], ◌∷◌, ℕ, ◌+◌, ◌-◌, ◌*◌, ◌/◌, ◌%◌, ◌≤◌, ◌<◌, T, eqb, length, get_or, if◌then◌else◌}
 use Rattle.protocol.specs.View.{View}
 use Rattle.protocol.specs.History.{same_views}
 use Rattle.protocol.specs.Statement.{Stmt, payload_of}

@@ -1,7 +1,6 @@
 -- What a count of votes asks.
 -- Assumes nothing.
-use Rattle.std.specs.Prelude.{Bool, false, List, ℕ, eqb}
-use Rattle.protocol.specs.Lists.{if◌then◌else◌}
+use Rattle.std.specs.Prelude.{Bool, false, List, ℕ, eqb, if◌then◌else◌}
 use Rattle.protocol.specs.Statement.{Stmt, agrees_view, agrees_history, acks, stores}
 use Rattle.views.specs.View.{view_of, views_of}
 use Rattle.votes.specs.declared.question.Question.{Question}

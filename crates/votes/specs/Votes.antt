@@ -1,7 +1,6 @@
 -- The votes of a record: agree-views, agree-histories, acks and stores, gathered by what they say.
 -- Assumes nothing.
-use Rattle.std.specs.Prelude.{◌≡◌, Bool, ◌&&◌, ◌||◌, List, ℕ, ◌+◌, ◌*◌, ◌≤◌, ◌<◌, min, T, leb, get_or}
-use Rattle.protocol.specs.Lists.{if◌then◌else◌}
+use Rattle.std.specs.Prelude.{◌≡◌, Bool, ◌&&◌, ◌||◌, List, ℕ, ◌+◌, ◌*◌, ◌≤◌, ◌<◌, min, T, leb, get_or, if◌then◌else◌}
 use Rattle.protocol.specs.Statement.{Stmt, payload_of, is_kind, agrees_view, agrees_history, acks, stores}
 use Rattle.protocol.specs.Evidence.{wished}
 use Rattle.views.specs.Tally.{place_in, own_in, TallyOf}

@@ -1,5 +1,6 @@
 // Service windows. A window is one word: the weekday in its low 16 bits, the first minute in the next 16, the end in the high 32.
 #![tactic(auto)]
+
 ghost use Rattle.std.specs.Prelude.{◌≡◌, ◌≤◌, min};
 ghost use Rattle.protocol.specs.Window.{window_allowed, windows_allowed, is_inside, is_open};
 ghost use Rattle.windows.specs.Windows.{window_in, window_of, windows_in};

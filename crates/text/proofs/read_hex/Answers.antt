@@ -31,11 +31,11 @@ overflow_add-acc c = omega (arith, c.if-d-gt15.false, hex-small c.loop-i.acc (c.
 
 pub loop-i-preserved : goal.loop-i-preserved
 loop-i-preserved c = (
-      omega (arith, c.loop-i.invariant.0),
-      omega (arith, c.loop-i-test.true),
-      hex-more c.args.at c.loop-i.i c.loop-i.acc c.hex_value-d.result c.loop-i.invariant.2 (omega (arith, c.if-d-gt15.false)) c.loop-i.invariant.0,
-      c.loop-i.invariant.3 ∙ hex-go c.args.s.now c.loop-i.i c.loop-i.acc (omega (arith, c.loop-i-test.true, c.if-room-digits.false, c.room.ensures)) _ (omega (arith, c.loop-i-test.true)) (omega (arith, c.hex_value-d.ensures, c.if-d-gt15.false)) ∙ (let e : c.args.at + c.args.digits - c.loop-i.i - 1 ≡ c.args.at + c.args.digits - (c.loop-i.i + 1) = omega arith in rw (e, c.hex_value-d.ensures)),
-    )
+  omega (arith, c.loop-i.invariant.0),
+  omega (arith, c.loop-i-test.true),
+  hex-more c.args.at c.loop-i.i c.loop-i.acc c.hex_value-d.result c.loop-i.invariant.2 (omega (arith, c.if-d-gt15.false)) c.loop-i.invariant.0,
+  c.loop-i.invariant.3 ∙ hex-go c.args.s.now c.loop-i.i c.loop-i.acc (omega (arith, c.loop-i-test.true, c.if-room-digits.false, c.room.ensures)) _ (omega (arith, c.loop-i-test.true)) (omega (arith, c.hex_value-d.ensures, c.if-d-gt15.false)) ∙ (let e : c.args.at + c.args.digits - c.loop-i.i - 1 ≡ c.args.at + c.args.digits - (c.loop-i.i + 1) = omega arith in rw (e, c.hex_value-d.ensures)),
+)
 
 pub returns : goal.returns
 unfolding hex_at
