@@ -7,4 +7,4 @@ use Rattle.input.specs.declared.Input.TheVariants.{Bytes, Failed}
 -- What was read is within memory of that size.
 abbrev pub InputWithin : Input → ℕ → Type 0
 InputWithin (Bytes n) size = n ≤ size
-InputWithin Failed size = Unit {0}
+InputWithin (Failed error) size = Unit {0}
