@@ -60,6 +60,7 @@ take_in (suc k) (x ∷ l) a h = elim (Memᴰ.cases_cons h) [ inl e ↦ Memᴰ.he
 
 is_true : {b : Bool} → T b → b ≡ true
 is_true {b = true} t = refl
+is_true {b = false} t = elim t [ ]
 
 -- ---- tests of one statement
 
@@ -161,6 +162,7 @@ module _ (W ids : List ℕ) (len init : ℕ) (G : List ℕ) (n : ℕ) (backed : 
         where
           both : (b : Bool) → T b → T (not b) → ⊥
           both true y z = z
+          both false y z = elim y [ ]
 
   -- a group tells as many as there have to be
   forth : (h : ℕ) → h < n → T (cast_for 7 i m (vote h)) → T (by (read h)) × (read h ≤ length X)

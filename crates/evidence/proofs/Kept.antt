@@ -74,6 +74,7 @@ backed-none W ids init G e = record {
   where
     is_true : {b : Bool} → T b → b ≡ true
     is_true {b = true} t = refl
+    is_true {b = false} t = elim t [ ]
 
 module _ (W ids : List ℕ) (init : ℕ) (G₀ : List ℕ) where
   abbrev backs : ℕ → Bool

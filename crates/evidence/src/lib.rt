@@ -1,5 +1,6 @@
 // What a record shows, once a turn: the candidates, the greatest sealed history, the certificates, and which reports count.
 #![tactic(auto)]
+
 mod binding;
 mod certificates;
 mod merging;

@@ -1,5 +1,6 @@
 // Statements in lent memory. Every word of it can be read: specs/Pool.antt says what each stands for.
 #![tactic(auto)]
+
 mod compare;
 mod listed;
 mod read;

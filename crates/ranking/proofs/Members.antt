@@ -14,6 +14,7 @@ module _ {A : Type 0} where
   pub in_left : {a : A} (k l : List A) → a ∈ k → a ∈ k ++ l
   in_left (b ∷ k) l (Memᴰ.head e) = Memᴰ.head e
   in_left (b ∷ k) l (Memᴰ.tail m) = Memᴰ.tail (in_left k l m)
+  in_left {a = a} [] l x' = elim x' [ ]
 
   pub in_right : {a : A} (k l : List A) → a ∈ l → a ∈ k ++ l
   in_right [] l m = m
@@ -39,6 +40,7 @@ module _ {A : Type 0} where
     pub climbs-apart : {a b : A} (k l : List A) → Climbs (k ++ l) → a ∈ k → b ∈ l → f a < f b
     climbs-apart (c ∷ k) l p (Memᴰ.head e) j = omega (arith, p.0 _ (in_right k l j), ap f e)
     climbs-apart (c ∷ k) l p (Memᴰ.tail i) j = climbs-apart k l p.1 i j
+    climbs-apart {a = a} {b = b} [] l p x3 j = elim x3 [ ]
 
     heads : (a b : A) (k l : List A) → Climbs (a ∷ k) → Climbs (b ∷ l) → a ∈ b ∷ l → b ∈ a ∷ k → a ≡ b
     heads a b k l p q (Memᴰ.head e) j = e

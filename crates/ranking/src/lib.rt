@@ -1,5 +1,6 @@
 // The candidates in order, and the greatest sealed history, from the verdicts on what quorums agreed to.
 #![tactic(auto)]
+
 mod candidates;
 mod histories;
 

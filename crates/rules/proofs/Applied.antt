@@ -81,8 +81,8 @@ find-cong p q (a ∷ l) h = rw (h a, find-cong p q l h)
 -- ---- actions by their tags
 
 -- all but the first act
-pub acts-else : (a : Action) → OneOf (1 ∷ 2 ∷ 3 ∷ 4 ∷ 5 ∷ 6 ∷ 7 ∷ 8 ∷ 9 ∷ 10 ∷ []) (tag_of action.the_type a) → true ≡ acts a
-acts-else Rest k = absurd (miss (1 ∷ 2 ∷ 3 ∷ 4 ∷ 5 ∷ 6 ∷ 7 ∷ 8 ∷ 9 ∷ 10 ∷ []) 0 tt k)
+pub acts-else : (a : Action) → (a ≡ Rest → ⊥) → true ≡ acts a
+acts-else Rest k = absurd (k refl)
 acts-else (Report u) k = refl
 acts-else (Enter v) k = refl
 acts-else AgreeView k = refl

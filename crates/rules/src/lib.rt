@@ -1,5 +1,6 @@
 // The rules of a turn, each by itself: what it has a controller do, from what the controller is and what its record shows.
 #![tactic(auto)]
+
 mod made;
 mod membership;
 mod notice;

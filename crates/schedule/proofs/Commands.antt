@@ -7,9 +7,6 @@ use mathlib.Core.Bool.{true, false, false≢true}
 use mathlib.Core.List.{List, [], ◌∷◌, ◌++◌}
 use lib.ListN.{length, drop}
 use lib.Seq.{drop-append_seam}
-use types.Run.{OneOf, miss}
-use denote.Enum.Declared.{tag_of}
-use Rattle.schedule.specs.contracts.verb.Verb as verb
 use Rattle.text.specs.Text.{dec_text}
 use Rattle.statements.specs.declared.Part.{Part}
 use Rattle.statements.specs.Text.{parted}
@@ -148,13 +145,13 @@ module _ (T : List ℕ) (v : Verb) (by : v ≡ verb_of T) where
   unknown e = record { reads = reads_none T Unknown (sym e ∙ by) tt }
 
 -- ---- what is left when the other words are not
-pub last-named : (v : Verb) → OneOf (0 ∷ 3 ∷ 4 ∷ 5 ∷ 6 ∷ 7 ∷ 8 ∷ []) (tag_of verb.the_type v) → IsNamed v → v ≡ All
-last-named Setup t n = absurd n
-last-named Join t n = absurd (miss (0 ∷ 3 ∷ 4 ∷ 5 ∷ 6 ∷ 7 ∷ 8 ∷ []) 1 tt t)
-last-named Leave t n = absurd (miss (0 ∷ 3 ∷ 4 ∷ 5 ∷ 6 ∷ 7 ∷ 8 ∷ []) 2 tt t)
-last-named Send t n = absurd n
-last-named Give t n = absurd n
-last-named All t n = refl
-last-named Turn t n = absurd n
-last-named Lie t n = absurd n
-last-named Unknown t n = absurd n
+pub last-named : (v : Verb) → (v ≡ Join → ⊥) → (v ≡ Leave → ⊥) → IsNamed v → v ≡ All
+last-named Setup j l n = absurd n
+last-named Join j l n = absurd (j refl)
+last-named Leave j l n = absurd (l refl)
+last-named Send j l n = absurd n
+last-named Give j l n = absurd n
+last-named All j l n = refl
+last-named Turn j l n = absurd n
+last-named Lie j l n = absurd n
+last-named Unknown j l n = absurd n

@@ -1,5 +1,6 @@
 // What a record in lent memory shows, as the text of a service screen.
 #![tactic(auto)]
+
 ghost use Rattle.std.specs.Prelude.{◌≡◌, false, [], ◌∷◌, ◌++◌, ◌+◌, ◌*◌, ◌≤◌, ◌<◌, eqb, length};
 ghost use Rattle.text.specs.Text.{dec_text};
 ghost use Rattle.text.specs.Written.{Wrote};

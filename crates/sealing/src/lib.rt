@@ -1,5 +1,6 @@
 // Which views are candidates and which histories are sealed, from the tables of what quorums agreed to.
 #![tactic(auto)]
+
 mod cycle;
 mod judge;
 mod rows;

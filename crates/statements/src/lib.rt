@@ -1,6 +1,7 @@
 // Statements: read from their text and written to it. A statement has one text (specs/Text.antt). What a report tells of each notice stands
 // in a lent block (specs/Block.antt); a statement of any other kind means the same with every block.
 #![tactic(auto)]
+
 ghost use Rattle.std.specs.Prelude.{◌≡◌, true, false, ◌∷◌, ◌+◌, ◌*◌, ◌≤◌, leb, length};
 ghost use Rattle.text.specs.Text.{dec_text};
 ghost use Rattle.text.specs.Written.{Wrote};

@@ -1,5 +1,6 @@
 // The votes of a record, each counted until its quorum is complete.
 #![tactic(auto)]
+
 mod chosen;
 mod groups;
 mod keys;

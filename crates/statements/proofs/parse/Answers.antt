@@ -1,5 +1,6 @@
 use borrow.Author.Tests.{not-true, not-false}
 use Rattle.statements.proofs.Statements.{refused-of, head-refused, told-refused, parse-of}
+use mathlib.Core.List.{[]}
 use Rattle.statements.proofs.parse.Goals as goal
 
 pub returns-then-not-head : goal.returns-then-not-head

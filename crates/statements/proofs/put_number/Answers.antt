@@ -8,7 +8,7 @@ pub write_dec-requires : goal.write_dec-requires
 write_dec-requires c = rw length-set (omega (arith, c.requires))
 
 pub shape_of-out : goal.shape_of-out
-shape_of-out c = c.write_dec.auto.0 ∙ simp length-set
+shape_of-out c = c.write_dec.auto.out ∙ simp length-set
 
 pub returns : goal.returns
 returns c = after-byte 44 c.write_dec.ensures

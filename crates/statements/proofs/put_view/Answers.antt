@@ -8,7 +8,7 @@ pub write_hex-requires : goal.write_hex-requires
 write_hex-requires c = rw length-set (omega (arith, c.requires))
 
 pub shape_of-out : goal.shape_of-out
-shape_of-out c = c.write_hex.auto.0 ∙ simp length-set
+shape_of-out c = c.write_hex.auto.out ∙ simp length-set
 
 pub returns : goal.returns
 returns c = view-wrote c.args.v _ _ c.joined_set.ensures.0 c.left_set.ensures.0 c.write_hex.ensures

@@ -15,7 +15,7 @@ pub bounds-h-i : goal.bounds-h-i
 bounds-h-i c = omega (arith, c.requires.0, c.loop-i-test.true)
 
 pub put_view-at-requires : goal.put_view-at-requires
-put_view-at-requires c = omega (arith, c.requires.0, c.requires.1, c.loop-i-test.true, c.loop-i.invariant.1, ap length c.loop-i.invariant.2.is ∙ length-sets c.args.out.now c.args.from (tail_text (first_views c.loop-i.i c.args.t3.views)))
+put_view-at-requires c = omega (arith, c.requires.0, c.requires.1, c.loop-i-test.true, c.loop-i.invariant.1, ap length c.loop-i.invariant.2.is ∙ length-sets c.args.out.now c.args.from (tail_text (first_views c.loop-i.i c.args.h.views)))
 
 pub loop-i-preserved : goal.loop-i-preserved
 loop-i-preserved c = (omega arith, omega (arith, c.put_view-at.ensures.0), put_next _ _ c.loop-i.invariant.2 c.put_view-at.ensures.1)
@@ -24,4 +24,4 @@ pub shape_of-out : goal.shape_of-out
 shape_of-out c = ap length c.loop-i.invariant.2.is ∙ simp length-sets
 
 pub returns : goal.returns
-returns c = let e : c.loop-i.i ≡ c.args.t3.len = omega arith in (rw (← e) c.loop-i.invariant.1, rw (← e) c.loop-i.invariant.2)
+returns c = let e : c.loop-i.i ≡ c.args.h.len = omega arith in (rw (← e) c.loop-i.invariant.1, rw (← e) c.loop-i.invariant.2)

@@ -9,4 +9,4 @@ pub returns-then-not-r : goal.returns-then-not-r
 returns-then-not-r c = read-refused _ _ _ _ _ c.few.ensures.0 c.parse-r.ensures (not-true _ c.if-not-r.true)
 
 pub returns : goal.returns
-returns c = read_kept _ _ _ _ _ c.before.before.before.before.before.before.before.few.ensures.0 c.before.before.before.before.before.parse.ensures _ (not-false _ c.before.before.before.if1.false) c.keeps_field_rules.ensures
+returns c = read_kept _ _ _ _ _ c.few.ensures.0 c.parse-r.ensures _ (not-false _ c.if-not-r.false) c.keeps_field_rules.ensures

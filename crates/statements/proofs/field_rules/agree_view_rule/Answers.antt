@@ -1,4 +1,5 @@
 use native.Mathlib.Omega.{arith}
+use mathlib.Core.List.{[]}
 use Rattle.statements.specs.Meaning.{stmt_of}
 use Rattle.statements.proofs.FieldLaws.{agree-view-is}
 use Rattle.statements.proofs.field_rules.agree_view_rule.Goals as goal

@@ -1,5 +1,6 @@
 use native.Mathlib.Omega.{arith}
 use mathlib.Core.Logic.{inl, inr}
+use mathlib.Core.List.{[]}
 use Rattle.statements.specs.Meaning.{stmt_of}
 use Rattle.statements.proofs.FieldLaws.{no_kind}
 use Rattle.statements.proofs.field_rules.kind_rule.Goals as goal

@@ -1,3 +1,4 @@
+use mathlib.Core.List.{[]}
 use Rattle.statements.proofs.FieldLaws.{no-groups-is}
 use Rattle.statements.proofs.field_rules.no_groups.Goals as goal
 

@@ -1,3 +1,4 @@
+use mathlib.Core.List.{[]}
 use Rattle.statements.proofs.FieldLaws.{no-views-is}
 use Rattle.statements.proofs.field_rules.no_views.Goals as goal
 

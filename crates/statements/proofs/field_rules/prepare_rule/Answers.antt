@@ -1,6 +1,7 @@
 use native.Mathlib.Omega.{arith}
 use Rattle.protocol.specs.Statement.{no_at, no_view_field, no_views}
 use mathlib.Core.Bool.{◌&&◌}
+use mathlib.Core.List.{[]}
 use Rattle.statements.specs.Meaning.{stmt_of}
 use Rattle.statements.proofs.FieldLaws.{with-payload, prepare-is}
 use Rattle.statements.proofs.field_rules.prepare_rule.Goals as goal

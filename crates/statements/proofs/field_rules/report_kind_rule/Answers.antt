@@ -1,3 +1,4 @@
+use mathlib.Core.List.{[]}
 use Rattle.statements.specs.Meaning.{stmt_of}
 use Rattle.statements.proofs.FieldLaws.{report-is}
 use Rattle.statements.proofs.field_rules.report_kind_rule.Goals as goal

@@ -1,3 +1,4 @@
+use mathlib.Core.List.{[]}
 use Rattle.statements.proofs.FieldLaws.{report-rule-is}
 use Rattle.statements.proofs.field_rules.report_rule.Goals as goal
 

@@ -1,3 +1,4 @@
+use mathlib.Core.List.{[]}
 use native.Mathlib.Omega.{arith}
 use Rattle.statements.proofs.FieldLaws.{views-rule-long, views-rule-is}
 use Rattle.statements.proofs.field_rules.views_rule.Goals as goal

@@ -2,6 +2,7 @@ use native.Mathlib.Omega.{arith}
 use Rattle.protocol.specs.View.{has_members}
 use Rattle.protocol.specs.Statement.{no_view_field, no_views}
 use mathlib.Core.Bool.{◌&&◌}
+use mathlib.Core.List.{[]}
 use Rattle.statements.specs.Meaning.{stmt_of}
 use Rattle.statements.proofs.FieldLaws.{with-payload, vote-is}
 use Rattle.statements.proofs.field_rules.vote_rule.Goals as goal

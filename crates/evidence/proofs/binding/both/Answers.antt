@@ -1,0 +1,11 @@
+use Rattle.evidence.proofs.Merges as laws
+use Rattle.evidence.proofs.binding.both.Goals as goal
+
+pub returns-in-Unbound : goal.returns-in-Unbound
+returns-in-Unbound c = laws.both-second _ c.args.b c.in-Unbound.is
+
+pub returns-in-Barred : goal.returns-in-Barred
+returns-in-Barred c = laws.both-barred _ c.args.b c.in-Barred.is
+
+pub returns-in-Bound : goal.returns-in-Bound
+returns-in-Bound c = laws.both-payload _ c.args.b _ c.in-Bound.is c.with_payload.ensures

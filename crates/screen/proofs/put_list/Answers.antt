@@ -1,0 +1,24 @@
+use native.Mathlib.Omega.{arith}
+use Prim.Native.Nat.{◌-◌}
+use mathlib.Core.Path.{◌≡◌, ap, ◌∙◌}
+use lib.ListN.{length}
+use lib.Seq.{length-sets}
+use Rattle.statements.specs.Parts.{tail_text}
+use Rattle.views.specs.View.{views_of}
+use Rattle.screen.proofs.ScreenLaws.{word-text, words-first, words-next}
+use Rattle.screen.proofs.put_list.Goals as goal
+
+pub loop-i-init : goal.loop-i-init
+loop-i-init c = (omega arith, omega arith, words-first _ _ _)
+
+pub put_view-at-requires : goal.put_view-at-requires
+put_view-at-requires c = omega (arith, c.requires.0, c.requires.1, c.loop-i-test.true, c.loop-i.invariant.1, ap length c.loop-i.invariant.2.is ∙ length-sets c.args.out.now c.args.from (tail_text (views_of c.args.list.now c.loop-i.i)))
+
+pub loop-i-preserved : goal.loop-i-preserved
+loop-i-preserved c = (omega arith, omega (arith, c.put_view-at.ensures.0), words-next c.args.list.now c.loop-i.i _ (word-text _ _ _ c.of_word-v.ensures c.list_at.ensures) c.loop-i.invariant.2 c.put_view-at.ensures.1)
+
+pub shape_of-out : goal.shape_of-out
+shape_of-out c = ap length c.loop-i.invariant.2.is ∙ simp length-sets
+
+pub returns : goal.returns
+returns c = let e : c.loop-i.i ≡ c.args.n = omega arith in rw (← e) c.loop-i.invariant.2

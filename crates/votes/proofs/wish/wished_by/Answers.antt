@@ -1,0 +1,14 @@
+use native.Mathlib.Omega.{arith}
+use mathlib.Core.Path.{◌≡◌, refl}
+use Prim.Native.Nat.{◌-◌}
+use Rattle.pool.proofs.Records.{set_first, set_next, set-whole}
+use Rattle.votes.proofs.wish.wished_by.Goals as goal
+
+pub loop-i-init : goal.loop-i-init
+loop-i-init c = (omega arith, set_first _ _ _, set_first _ _ _)
+
+pub loop-i-preserved : goal.loop-i-preserved
+loop-i-preserved c = (omega arith, set_next _ _ _ _ _ _ _ _ (omega (arith, c.record_length-end.ensures.1)) c.loop-i.invariant.1 c.note_asked-asked.ensures.0 refl refl, set_next _ _ _ _ _ _ _ _ (omega (arith, c.record_length-end.ensures.1)) c.loop-i.invariant.2 c.note_asked-asked.ensures.1 refl refl)
+
+pub returns : goal.returns
+returns c = let e : c.loop-i.i ≡ c.record_length-end.result = omega arith in c.wished_view.ensures _ (set-whole _ _ _ _ _ _ _ e c.record_length-end.ensures.0 c.loop-i.invariant.1) (set-whole _ _ _ _ _ _ _ e c.record_length-end.ensures.0 c.loop-i.invariant.2)
