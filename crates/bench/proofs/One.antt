@@ -105,6 +105,10 @@ read-all-one t [] [] [] p q = refl
 read-all-one t (S ∷ L) (a ∷ A) (b ∷ B) p q =
     let e = reads-one S t.notices a b p.0 q.0 in
     ap (λ (x : Option Line). x ∷ A) e ∙ ap (λ (X : List (Option Line)). b ∷ X) (read-all-one (step t b).bench L A B (subst (λ x. ReadAll (step t x).bench L A) e p.1) q.1)
+read-all-one t [] [] (b ∷ B) p q = elim q [ ]
+read-all-one t [] (a ∷ A) b p q = elim p [ ]
+read-all-one t (S ∷ L) [] b p q = elim p [ ]
+read-all-one t (S ∷ L) (a ∷ A) [] p q = elim q [ ]
 
 either-long : {A : Type 0} (a b : Bool) (x y : A) → b ≡ true → (if a || b then x else y) ≡ x
 either-long true b x y e = refl

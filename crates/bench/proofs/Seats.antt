@@ -427,6 +427,11 @@ keeps-after W R R' (controller.refused r) e = subst (Keeps R) (sym e) (keeps_sam
 resting-idle : (a : controller.Answer) → Resting a → Idle a
 resting-idle controller.left r = tt
 resting-idle controller.quiet r = tt
+resting-idle controller.taken r = elim r [ ]
+resting-idle (controller.signed _) r = elim r [ ]
+resting-idle (controller.entered _) r = elim r [ ]
+resting-idle (controller.delivered _ _ _) r = elim r [ ]
+resting-idle (controller.refused _) r = elim r [ ]
 
 waits-as : (c : Controller) (minute : ℕ) → waits_at c minute ≡ false → Waits (controller_is c) [] minute ≡ false
 unfolding waits_at controller_is

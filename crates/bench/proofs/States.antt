@@ -7,7 +7,6 @@ use mathlib.Core.Option.{some, none}
 use Prim.Native.Nat.{ℕ, suc, ◌%◌, ◌≤◌, ◌<◌, min}
 use native.Mathlib.Decide.{dec_lt}
 use native.Mathlib.Omega.{arith}
-use types.Run.{OneOf, miss}
 use denote.Enum.Declared.{tag_of}
 use lib.Dec.{T, eqb, leb, ltb, leb→le}
 use lib.ListN.{length, get_or, set}
@@ -400,35 +399,36 @@ needless W g full k l e q b = subst (LacksNothing W g full) (sym e) (record {
 
 -- ---- what a line is that is none of the others
 
-pub last-call : (l : Held) → OneOf (0 ∷ 4 ∷ 5 ∷ 6 ∷ 7 ∷ []) (tag_of line.the_type l) → is_call l ≡ true → l ≡ is.Turn (seat_of (Readable l)) (minute_in l)
-last-call is.Setup t e = absurd (true≢false (sym e))
-last-call (is.Join k) t e = absurd (miss (0 ∷ 4 ∷ 5 ∷ 6 ∷ 7 ∷ []) 1 tt t)
-last-call (is.Leave k) t e = absurd (miss (0 ∷ 4 ∷ 5 ∷ 6 ∷ 7 ∷ []) 2 tt t)
-last-call (is.Send k i m) t e = absurd (miss (0 ∷ 4 ∷ 5 ∷ 6 ∷ 7 ∷ []) 3 tt t)
-last-call (is.Give k n) t e = absurd (true≢false (sym e))
-last-call (is.All k) t e = absurd (true≢false (sym e))
-last-call (is.Turn k m) t e = refl
-last-call is.Lie t e = absurd (true≢false (sym e))
+pub last-call : (l : Held) → ((k : ℕ) → l ≡ is.Join k → ⊥) → ((k : ℕ) → l ≡ is.Leave k → ⊥) → ((k i m : ℕ) → l ≡ is.Send k i m → ⊥) → is_call l ≡ true
+    → l ≡ is.Turn (seat_of (Readable l)) (minute_in l)
+last-call is.Setup j v s e = absurd (true≢false (sym e))
+last-call (is.Join k) j v s e = absurd (j k refl)
+last-call (is.Leave k) j v s e = absurd (v k refl)
+last-call (is.Send k i m) j v s e = absurd (s k i m refl)
+last-call (is.Give k n) j v s e = absurd (true≢false (sym e))
+last-call (is.All k) j v s e = absurd (true≢false (sym e))
+last-call (is.Turn k m) j v s e = refl
+last-call is.Lie j v s e = absurd (true≢false (sym e))
 
-pub no-minute : (l : Held) → OneOf (0 ∷ 1 ∷ 2 ∷ 3 ∷ 4 ∷ 5 ∷ 7 ∷ []) (tag_of line.the_type l) → 0 ≡ minute_in l
+pub no-minute : (l : Held) → ((k m : ℕ) → l ≡ is.Turn k m → ⊥) → 0 ≡ minute_in l
 no-minute is.Setup t = refl
 no-minute (is.Join k) t = refl
 no-minute (is.Leave k) t = refl
 no-minute (is.Send k i m) t = refl
 no-minute (is.Give k n) t = refl
 no-minute (is.All k) t = refl
-no-minute (is.Turn k m) t = absurd (miss (0 ∷ 1 ∷ 2 ∷ 3 ∷ 4 ∷ 5 ∷ 7 ∷ []) 6 tt t)
+no-minute (is.Turn k m) t = absurd (t k m refl)
 no-minute is.Lie t = refl
 
-pub last-other : (l : Held) → OneOf (1 ∷ 2 ∷ 3 ∷ 6 ∷ 7 ∷ []) (tag_of line.the_type l) → is_call l ≡ false → l ≡ is.Lie
-last-other is.Setup t e = absurd (miss (1 ∷ 2 ∷ 3 ∷ 6 ∷ 7 ∷ []) 0 tt t)
-last-other (is.Join k) t e = absurd (true≢false e)
-last-other (is.Leave k) t e = absurd (true≢false e)
-last-other (is.Send k i m) t e = absurd (true≢false e)
-last-other (is.Give k n) t e = absurd (miss (1 ∷ 2 ∷ 3 ∷ 6 ∷ 7 ∷ []) 4 tt t)
-last-other (is.All k) t e = absurd (miss (1 ∷ 2 ∷ 3 ∷ 6 ∷ 7 ∷ []) 5 tt t)
-last-other (is.Turn k m) t e = absurd (true≢false e)
-last-other is.Lie t e = refl
+pub last-other : (l : Held) → (l ≡ is.Setup → ⊥) → ((k n : ℕ) → l ≡ is.Give k n → ⊥) → ((k : ℕ) → l ≡ is.All k → ⊥) → is_call l ≡ false → l ≡ is.Lie
+last-other is.Setup s g a e = absurd (s refl)
+last-other (is.Join k) s g a e = absurd (true≢false e)
+last-other (is.Leave k) s g a e = absurd (true≢false e)
+last-other (is.Send k i m) s g a e = absurd (true≢false e)
+last-other (is.Give k n) s g a e = absurd (g k n refl)
+last-other (is.All k) s g a e = absurd (a k refl)
+last-other (is.Turn k m) s g a e = absurd (true≢false e)
+last-other is.Lie s g a e = refl
 
 -- ---- the line that was read
 

@@ -8,7 +8,6 @@ use Prim.Native.Nat.{ℕ, ◌≤◌, ◌<◌, min}
 use native.Mathlib.Omega.{arith}
 use lib.Dec.{T, ltb}
 use denote.Enum.Declared.{tag_of}
-use types.Run.{OneOf, miss}
 use lib.ListN.{length, set}
 use Rattle.protocol.specs.Lists.{if◌then◌else◌, any, put}
 use Rattle.protocol.specs.View.{View}
@@ -188,20 +187,20 @@ module _ (W R : List ℕ) (c : Controller) (s : Situation) (H : List View) (B : 
       (signing-is W' R' st (subst (λ x. Makes s H x st) (sym d) made) (controller.with_binding (put j (bound m) (controller_is c).binding) (controller_is c)) t)
 
 -- all but four sign, and do nothing else
-pub signs-else : (s : Situation) (H : List View) (B : List ℕ) (b : ℕ → Binding) (a : Action) → Known a → OneOf (0 ∷ 1 ∷ 3 ∷ 4 ∷ 6 ∷ 8 ∷ 9 ∷ 10 ∷ []) (tag_of action.the_type a)
-    → action_is s H B b a ≡ some (turn.sign (statement_of s H B a))
+pub signs-else : (s : Situation) (H : List View) (B : List ℕ) (b : ℕ → Binding) (a : Action) → Known a → ((v : held.View) → a ≡ Enter v → ⊥) → ((j m : ℕ) → a ≡ Ack j m → ⊥)
+    → ((j m : ℕ) → a ≡ Deliver j m → ⊥) → action_is s H B b a ≡ some (turn.sign (statement_of s H B a))
 unfolding action_is
-signs-else s H B b Rest n k = absurd n
-signs-else s H B b (Report u) n k = refl
-signs-else s H B b (Enter v) n k = absurd (miss (0 ∷ 1 ∷ 3 ∷ 4 ∷ 6 ∷ 8 ∷ 9 ∷ 10 ∷ []) 2 tt k)
-signs-else s H B b AgreeView n k = refl
-signs-else s H B b AgreeHistory n k = refl
-signs-else s H B b (Ack j m) n k = absurd (miss (0 ∷ 1 ∷ 3 ∷ 4 ∷ 6 ∷ 8 ∷ 9 ∷ 10 ∷ []) 5 tt k)
-signs-else s H B b (Store j m) n k = refl
-signs-else s H B b (Deliver j m) n k = absurd (miss (0 ∷ 1 ∷ 3 ∷ 4 ∷ 6 ∷ 8 ∷ 9 ∷ 10 ∷ []) 7 tt k)
-signs-else s H B b Join n k = refl
-signs-else s H B b Leave n k = refl
-signs-else s H B b (Prepare j m) n k = refl
+signs-else s H B b Rest n e k d = absurd n
+signs-else s H B b (Report u) n e k d = refl
+signs-else s H B b (Enter v) n e k d = absurd (e v refl)
+signs-else s H B b AgreeView n e k d = refl
+signs-else s H B b AgreeHistory n e k d = refl
+signs-else s H B b (Ack j m) n e k d = absurd (k j m refl)
+signs-else s H B b (Store j m) n e k d = refl
+signs-else s H B b (Deliver j m) n e k d = absurd (d j m refl)
+signs-else s H B b Join n e k d = refl
+signs-else s H B b Leave n e k d = refl
+signs-else s H B b (Prepare j m) n e k d = refl
 
 -- ---- additions
 

@@ -1,5 +1,6 @@
 // The engine of one controller: setup, requests, additions and turns, each a value in and a value out, over a record and a pool that are lent.
 #![tactic(auto)]
+
 ghost use Rattle.std.specs.Prelude.{◌≡◌};
 ghost use Rattle.protocol.specs.Controller.{refusal_number};
 ghost use Rattle.engine.specs.Meaning.{refusal_is};

@@ -59,16 +59,28 @@ module _ (W R R' : List ℕ) where
   started-idle controller.left i n = n
   started-idle controller.quiet i n = n
   started-idle (controller.refused r) i n = n
+  started-idle controller.taken i n = elim i [ ]
+  started-idle (controller.signed _) i n = elim i [ ]
+  started-idle (controller.entered _) i n = elim i [ ]
+  started-idle (controller.delivered _ _ _) i n = elim i [ ]
 
   signed-idle : (a : controller.Answer) → Idle a → NumbersAfter W R (signed_of a) R' → R' ≡ R
   signed-idle controller.left i n = n
   signed-idle controller.quiet i n = n
   signed-idle (controller.refused r) i n = n
+  signed-idle controller.taken i n = elim i [ ]
+  signed-idle (controller.signed _) i n = elim i [ ]
+  signed-idle (controller.entered _) i n = elim i [ ]
+  signed-idle (controller.delivered _ _ _) i n = elim i [ ]
 
   added-idle : (a : controller.Answer) (s : Stmt) → Idle a → NumbersAfter W R (added_of a s) R' → R' ≡ R
   added-idle controller.left s i n = n
   added-idle controller.quiet s i n = n
   added-idle (controller.refused r) s i n = n
+  added-idle controller.taken s i n = elim i [ ]
+  added-idle (controller.signed _) s i n = elim i [ ]
+  added-idle (controller.entered _) s i n = elim i [ ]
+  added-idle (controller.delivered _ _ _) s i n = elim i [ ]
 
 module _ {W R : List ℕ} {c : Controller} {o : controller.Outcome} {p : Change} {r : Outcome} {W' R' : List ℕ} (m : Meets W R c o p r W' R') (i : 4 ≤ answer_number r.answer) where
   pub is-answer : Idle o.answer

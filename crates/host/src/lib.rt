@@ -1,5 +1,6 @@
 // A controller in memory that a host lends: read before a call, written after it, and the answer told in numbers. Its record is lent to the call itself.
 #![tactic(auto)]
+
 mod add;
 mod answers;
 mod held;
