@@ -1,7 +1,7 @@
 #!/usr/bin/env python3
 """Spells this repository's own definitions, fields and lemmas in snake case, as today's Rattle does.
 
-usage: python3 tools/spelling.py [--pages]      at the top of the repository, after /opt/rattle/port/port.py
+usage: python3 tools/spelling.py [--pages]      at the top of the repository, after port.py of the kit
 
 A word in lower camel case becomes one in snake case: `isSetUp` is `is_set_up`. It goes by text, over crates/*/src, specs, proofs and
 must-fail; strings keep their text. In must-fail edits it also turns the operators, projections and paths, which port.py leaves.
