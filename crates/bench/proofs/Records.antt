@@ -5,17 +5,19 @@ use mathlib.Core.Path.{◌≡◌, refl, sym, ap, ap₂, subst, ◌∙◌}
 use mathlib.Core.Bool.{Bool, true, false, not, ◌&&◌, ◌||◌}
 use mathlib.Core.List.{List, [], ◌∷◌, ◌++◌, append_assoc, append-nil}
 use Prim.Native.Nat.{ℕ, zero, suc, ◌+◌, ◌-◌, ◌≤◌, ◌<◌}
+use Rattle.std.specs.List.{list_any}
+use Rattle.std.proofs.lemmas.List.Folds.{list_any_more}
 use native.Mathlib.Decide.{dec_lt, ℕ_discrete}
 use native.Mathlib.Numerals.{add-one}
 use native.Mathlib.Nat.{add-zero}
 use native.Mathlib.Omega.{arith}
 use lib.Dec.{T, eqb}
-use lib.ListN.{length, get_or, set, replicate, length-replicate, get_or-replicate, length-append, length-set}
+use lib.ListN.{length, take, get_or, set, replicate, length-replicate, get_or-replicate, length-append, length-set}
 use lib.Seq.{get_or-set_same, get_or-set_other}
 use borrow.Author.Tests.{eq-eqb, ne_eqb}
 use Rattle.protocol.specs.Lists.{any, filter, list_of}
 use Rattle.protocol.proofs.Numbered.{list_of-length, list_of-cong}
-use Rattle.views.proofs.Tables.{any_append, any-zero, any-suc, any_at, any-more}
+use Rattle.views.proofs.Tables.{any_append, any-zero, any-suc}
 use Rattle.pool.specs.Pool.{pool_len, record_len, AllIn}
 use Rattle.pool.specs.Changes.{PushedTo}
 use Rattle.bench.specs.Seats.{numbers_in, has_number, Full, Keeps, NumbersBelow, NumberMarks, Marked, FirstFree, unmarked, RecordFilled}
@@ -25,20 +27,22 @@ use Rattle.bench.specs.Seats.{numbers_in, has_number, Full, Keeps, NumbersBelow,
 abbrev pub ids : List ℕ → ℕ → ℕ
 ids R i = get_or R i 0
 
-module _ (f : ℕ → ℕ) (n : ℕ) where
-  pub number-next : (i : ℕ) → any (eqb n) (list_of i f) ≡ false → (f i ≡ n → ⊥) → any (eqb n) (list_of (i + 1) f) ≡ false
-  number-next i e h = any-more (eqb n) f i e (ne_eqb n (f i) (λ q. h (sym q)))
+eqb-either : (a b : ℕ) → eqb a b ≡ eqb b a
+eqb-either a b = elim (ℕ_discrete a b) [
+  | yes e ↦ eq-eqb a b e ∙ sym (eq-eqb b a (sym e))
+  | no e ↦ ne_eqb a b e ∙ sym (ne_eqb b a (λ q. e (sym q)))
+]
 
-  pub number_at : (m i : ℕ) → i < m → f i ≡ n → any (eqb n) (list_of m f) ≡ true
-  number_at m i l e = any_at (eqb n) f m l (eq-eqb n (f i) (sym e))
-
-pub listed-yes : (R : List ℕ) (n i : ℕ) → i < record_len R → get_or R i 0 ≡ n → true ≡ has_number R n
-unfolding has_number numbers_in
-listed-yes R n i l e = sym (number_at (ids R) n (record_len R) i l e)
-
-pub listed-no : (R : List ℕ) (n i : ℕ) → i ≡ record_len R → any (eqb n) (list_of i (ids R)) ≡ false → false ≡ has_number R n
-unfolding has_number numbers_in
-listed-no R n i l e = sym (subst (λ m. any (eqb n) (list_of m (ids R)) ≡ false) l e)
+-- one among a record's numbers
+pub listed : (R : List ℕ) (n m : ℕ) → m ≡ record_len R → m ≤ length R → list_any (λ y. eqb y n) (take m R) ≡ has_number R n
+unfolding has_number numbers_in list_of any
+listed R n m e l = go m l ∙ ap (λ k. any (eqb n) (list_of k (ids R))) e
+  where
+    go : (k : ℕ) → k ≤ length R → list_any (λ y. eqb y n) (take k R) ≡ any (eqb n) (list_of k (ids R))
+    go zero h = refl
+    go (suc k) h =
+        ap (λ j. list_any (λ y. eqb y n) (take j R)) (sym (add-one k)) ∙ list_any_more (λ y. eqb y n) R k 0 (omega arith)
+        ∙ ap₂ ◌||◌ (go k (omega arith)) (eqb-either (get_or R k 0) n) ∙ sym (any-suc (eqb n) (ids R) k)
 
 -- a record that has what another has
 pub keeps_same : (R : List ℕ) → Keeps R R
@@ -242,43 +246,44 @@ module _ (marks : List Bool) where
       go zero q = ap (unmarked marks) (add-zero i)
       go (suc n) q = ap (unmarked marks) (let e : i + suc n ≡ (i + n) + 1 = omega arith in e) ∙ unmarked-skip (i + n) (p (i + n) (omega arith) (omega arith)) ∙ go n (omega arith)
 
-  pub unmarked-after : (i j n : ℕ) → get_or marks i false ≡ false → FirstFree marks (i + 1) n j → unmarked marks j ≡ unmarked marks i ++ (i ∷ [])
-  unmarked-after i j n e f = unmarked-over (i + 1) j f.from f.passed ∙ unmarked-more i e
+  -- the first of them
+  unmarked-first : (i j n : ℕ) → FirstFree marks i n j → unmarked marks (j + 1) ≡ unmarked marks i ++ (j ∷ [])
+  unmarked-first i j n f = unmarked-more j f.free ∙ ap (λ t. t ++ (j ∷ [])) (unmarked-over i j f.from f.passed)
 
-  pub count-first : (j n : ℕ) → FirstFree marks 0 n j → 0 ≡ length (unmarked marks j)
-  count-first j n f = sym (ap length (unmarked-over 0 j (omega arith) f.passed ∙ unmarked-none))
+  pub count-first : 0 ≡ length (unmarked marks 0)
+  count-first = sym (ap length unmarked-none)
 
-  pub count_next : (i j n count : ℕ) → get_or marks i false ≡ false → FirstFree marks (i + 1) n j → count ≡ length (unmarked marks i) → count + 1 ≡ length (unmarked marks j)
-  count_next i j n count e f c = ap (λ t. t + 1) c ∙ sym (ap length (unmarked-after i j n e f) ∙ length-append (unmarked marks i) (i ∷ []))
+  pub count_next : (i j n count : ℕ) → FirstFree marks i n j → count ≡ length (unmarked marks i) → count + 1 ≡ length (unmarked marks (j + 1))
+  count_next i j n count f c = ap (λ t. t + 1) c ∙ sym (ap length (unmarked-first i j n f) ∙ length-append (unmarked marks i) (j ∷ []))
 
-  pub count-end : (i n count : ℕ) → i ≡ n → count ≡ length (unmarked marks i) → count ≡ length (unmarked marks n)
-  count-end i n count e c = c ∙ ap (λ t. length (unmarked marks t)) e
+  pub count-end : (i n count : ℕ) → i ≤ n → Marked marks i n → count ≡ length (unmarked marks i) → count ≡ length (unmarked marks n)
+  count-end i n count l m c = c ∙ sym (ap length (unmarked-over i n l m))
 
   -- the record with the first of them at its end
 
-  pub fill-first : (R : List ℕ) (j n : ℕ) → FirstFree marks 0 n j → RecordFilled R marks j R
-  fill-first R j n f =
-      let e : unmarked marks j ≡ [] = unmarked-over 0 j (omega arith) f.passed ∙ unmarked-none in
-      record { numbers = λ l. sym (ap (λ t. numbers_in R ++ t) e ∙ append-nil (numbers_in R)); below = λ m l b. b }
+  pub fill-first : (R : List ℕ) → RecordFilled R marks 0 R
+  fill-first R = record { numbers = λ l. sym (ap (λ t. numbers_in R ++ t) unmarked-none ∙ append-nil (numbers_in R)); below = λ m l b. b }
 
   numbers-length : (R : List ℕ) → length (numbers_in R) ≡ record_len R
   unfolding numbers_in
   numbers-length R = list_of-length (record_len R) (ids R)
 
-  pub fill-next : (R R' R'' : List ℕ) (i j n : ℕ) → get_or marks i false ≡ false → FirstFree marks (i + 1) n j → RecordFilled R marks i R' → PushedTo R' i R'' → RecordFilled R marks j R''
-  fill-next R R' R'' i j n e f m p =
-      let q : unmarked marks j ≡ unmarked marks i ++ (i ∷ []) = unmarked-after i j n e f in
-      let s : length (unmarked marks j) ≡ length (unmarked marks i) + 1 = ap length q ∙ length-append (unmarked marks i) (i ∷ []) in
+  pub fill-next : (R R' R'' : List ℕ) (i j n : ℕ) → FirstFree marks i n j → RecordFilled R marks i R' → PushedTo R' j R'' → RecordFilled R marks (j + 1) R''
+  fill-next R R' R'' i j n f m p =
+      let q : unmarked marks (j + 1) ≡ unmarked marks i ++ (j ∷ []) = unmarked-first i j n f in
+      let s : length (unmarked marks (j + 1)) ≡ length (unmarked marks i) + 1 = ap length q ∙ length-append (unmarked marks i) (j ∷ []) in
       record {
         numbers = λ l. (
             let u : numbers_in R' ≡ numbers_in R ++ unmarked marks i = m.numbers (omega arith) in
             let v : record_len R' ≡ record_len R + length (unmarked marks i) = sym (numbers-length R') ∙ ap length u ∙ length-append (numbers_in R) (unmarked marks i) ∙ ap (λ t. t + length (unmarked marks i)) (numbers-length R) in
-            numbers-pushed R' R'' i p (omega arith) ∙ ap (λ t. t ++ (i ∷ [])) u ∙ append_assoc (numbers_in R) (unmarked marks i) (i ∷ []) ∙ sym (ap (λ t. numbers_in R ++ t) q));
-        below = λ m' l b. below-pushed R' R'' i m' p (omega (arith, f.from)) (m.below m' (omega (arith, f.from)) b);
+            numbers-pushed R' R'' j p (omega arith) ∙ ap (λ t. t ++ (j ∷ [])) u ∙ append_assoc (numbers_in R) (unmarked marks i) (j ∷ []) ∙ sym (ap (λ t. numbers_in R ++ t) q));
+        below = λ m' l b. below-pushed R' R'' j m' p (omega arith) (m.below m' (omega (arith, f.from)) b);
       }
 
-  pub fill_end : (R R' : List ℕ) (i n : ℕ) → i ≡ n → RecordFilled R marks i R' → RecordFilled R marks n R'
-  fill_end R R' i n e f = subst (λ m. RecordFilled R marks m R') e f
+  pub fill_end : (R R' : List ℕ) (i n : ℕ) → i ≤ n → Marked marks i n → RecordFilled R marks i R' → RecordFilled R marks n R'
+  fill_end R R' i n l p f =
+      let e : unmarked marks n ≡ unmarked marks i = unmarked-over i n l p in
+      record { numbers = λ r. f.numbers (omega (arith, ap length e)) ∙ sym (ap (λ t. numbers_in R ++ t) e); below = λ m h b. f.below m (omega arith) b }
 
   -- nothing is missing
   pub fill_none : (R : List ℕ) (n : ℕ) → length (unmarked marks n) ≡ 0 → RecordFilled R marks n R

@@ -2,12 +2,14 @@
 --     row-most   no row has more than 40 bytes
 --     shown      the row that is written is that of the reply
 -- Assumes nothing.
-use Prim.Native.Nat.{ℕ, zero, suc, ◌+◌, ◌<◌, ◌≤◌}
+use Prim.Native.Nat.{ℕ, zero, suc, ◌+◌, ◌-◌, ◌<◌, ◌≤◌, min}
 use native.Mathlib.Omega.{arith}
 use mathlib.Core.Path.{◌≡◌, refl, sym, ap, ap₂, ◌∙◌}
-use mathlib.Core.List.{List, [], ◌∷◌, ◌++◌}
-use lib.ListN.{length, take, drop, set, length-append, take-append-drop}
-use lib.Seq.{sets, length-take-le, sets-eq, take-append_seam}
+use mathlib.Core.List.{List, [], ◌∷◌, ◌++◌, append_assoc}
+use lib.ListN.{length, take, drop, set, length-append, take-append-drop, drop_of_length-le}
+use lib.Seq.{sets, drop-drop, length-sets, length-take-le, sets-eq, take-append_seam}
+use borrow.Rule.Slice.PartMut.{put_mid}
+use native.Mathlib.Decide.{dec_lt}
 use Rattle.protocol.specs.Controller.{Answer, taken, signed, entered, delivered, left, quiet, refused}
 use Rattle.text.specs.Text.{dec_text}
 use Rattle.text.proofs.Decimal.{long-below}
@@ -32,11 +34,29 @@ sets-past : (xs l : List ℕ) (i : ℕ) → length l ≤ i → sets l i xs ≡ l
 sets-past [] l i h = refl
 sets-past (x ∷ xs) l i h = ap (λ t. sets t (suc i) xs) (set_past l i x h) ∙ sets-past xs l (suc i) (omega arith)
 
--- the rest of a text past the end
-pub put-past : (out₀ out t : List ℕ) (at i : ℕ) → i ≤ length t → out ≡ sets out₀ at (take i t) → length out ≤ at + i → out ≡ sets out₀ at t
-put-past out₀ out t at i h e m =
-    let n : length (take i t) ≡ i = length-take-le i t h in
-    sym (ap (sets out₀ at) (sym (take-append-drop i t)) ∙ sets-append (take i t) (drop i t) out₀ at ∙ ap₂ (λ o k. sets o (at + k) (drop i t)) (sym e) n ∙ sets-past (drop i t) out (at + i) m)
+-- as much of a text as has room, copied
+module _ (out t : List ℕ) (at start room : ℕ) (e : start ≡ min at (length out)) (f : room ≡ min (length t) (length out - start)) where
+  rest-gone : (o : List ℕ) → length o ≡ length out → sets o (start + room) (drop room t) ≡ o
+  rest-gone o h = elim (dec_lt room (length t)) [
+    | yes l ↦ sets-past (drop room t) o (start + room) (omega arith)
+    | no l ↦ ap (sets o (start + room)) (drop_of_length-le t (omega arith))
+  ]
+
+  -- it stands where the text was to stand
+  there : at < length out → put_mid start room out (take room t) ≡ sets out at t
+  there l =
+      let n : length (take room t) ≡ room = length-take-le room t (omega arith) in
+      let s : start ≡ at = omega arith in
+      ap (λ d. take start out ++ (take room t ++ d)) (drop-drop room start out ∙ ap (λ k. drop (start + k) out) (sym n))
+      ∙ sym (append_assoc (take start out) (take room t) (drop (start + length (take room t)) out)) ∙ sym (sets-eq (take room t) out start (omega arith))
+      ∙ sym (rest-gone (sets out start (take room t)) (length-sets out start (take room t))) ∙ ap (λ k. sets (sets out start (take room t)) (start + k) (drop room t)) (sym n)
+      ∙ sym (sets-append (take room t) (drop room t) out start) ∙ ap₂ (sets out) s (take-append-drop room t)
+
+  pub put-part : (k : ℕ) (part : List ℕ) → k ≡ room → part ≡ take room t → put_mid start k out part ≡ sets out at t
+  put-part k part g h = ap₂ (λ i p. put_mid start i out p) g h ∙ elim (dec_lt at (length out)) [
+    | yes l ↦ there l
+    | no l ↦ (let z : room ≡ 0 = omega arith in let s : start ≡ length out = omega arith in ap₂ (λ i j. put_mid i j out (take j t)) s z ∙ take-append-drop (length out) out ∙ sym (sets-past t out at (omega arith)))
+  ]
 
 -- a row that was written by itself, and what of it was put
 module _ (one one' row : List ℕ) (end : ℕ) (alone : Wrote one 0 row end one' × (length row ≤ 40)) (l : length one ≡ 40) where

@@ -22,12 +22,12 @@ use Rattle.text.specs.Written.{Wrote}
 use Rattle.text.proofs.Stores.{both}
 use Rattle.pool.specs.Pool.{stmt_at, pool_len, record_up_to, record_len, record_in, AllIn, Grows}
 use Rattle.engine.specs.declared.Controller.{Controller}
-use Rattle.engine.specs.declared.Outcome.{Outcome}
 use Rattle.engine.specs.declared.Answer.{Answer}
-use Rattle.engine.specs.declared.Answer.TheVariants.{Taken, Signed, Entered, Delivered, Left, Quiet, Refused}
-use Rattle.engine.specs.Meaning.{controller_is, signed_number, answer_is}
+use Rattle.engine.specs.declared.Refusal.{Refusal}
+use Rattle.engine.specs.declared.Outcome.{Outcome}
+use Rattle.engine.specs.declared.Answer.TheVariants.{Taken, Signed, Entered, Delivered, Left, Quiet}
+use Rattle.engine.specs.Meaning.{controller_is, Came, came_to, signed_number, answer_is}
 use Rattle.schedule.specs.declared.line.Line.{Line as Held}
-use Rattle.schedule.specs.declared.line.Parsed.TheVariants.{Readable, Unreadable}
 use Rattle.schedule.specs.declared.line.ReadLine.{ReadLine}
 use Rattle.protocol.proofs.Found.{if-true, if-false}
 use Rattle.protocol.proofs.Numbered.{list_of-length, list_of-at, list_of-cong}
@@ -35,8 +35,6 @@ use Rattle.bench.specs.declared.row.Word.TheVariants as word
 use Rattle.bench.specs.declared.row.Value.TheVariants as value
 use Rattle.bench.specs.declared.state.Setting.{Setting}
 use Rattle.bench.specs.declared.state.Effect.{Effect}
-use Rattle.bench.specs.declared.state.Verdict.{Verdict}
-use Rattle.bench.specs.declared.state.Verdict.TheVariants.{Idle, Open}
 use Rattle.bench.specs.declared.row.Word.{Word}
 use Rattle.bench.specs.declared.row.Value.{Value}
 use Rattle.bench.specs.declared.lines.Place.{Place}
@@ -50,25 +48,26 @@ use Rattle.bench.specs.Bench.{Seat, empty_seat, Bench, Reply, new_bench, step}
 use Rattle.bench.specs.Rows.{row_text, header_text, rows_from, ReadAll, refused_row, Printed}
 use Rattle.bench.specs.After.{bench_after}
 use Rattle.bench.specs.Writing.{word_for, value_is, row_of}
-use Rattle.bench.specs.Seats.{blank, seat_is, terms_of, bench_of, Sound, Full, Keeps, ReadFrom, seat_of, setup_in, MayStart, seats_after, reply_is, changes_is, CalledAtSeat, IfIdle, Rests, CalledByLine, next_turn, Judged, LacksNothing, Advanced, SteppedBy, word_of_answer, value_of_answer}
-use Rattle.bench.specs.Running.{row_is, seats_is, bench_is, BenchKept, Fulls, Turnings, Started, Reading, RunSoFar, AtStart, HasRoom, RowWritten, RowPut, full_after, LineRun, Ran, PrintedInto}
+use Rattle.bench.specs.Seats.{blank, seat_is, terms_of, bench_of, Sound, Full, Keeps, ReadFrom, seat_of, setup_in, MayStart, seats_after, reply_is, changes_is, CalledAtSeat, Known, IfIdle, Rests, CalledByLine, next_turn, Judged, LacksNothing, Advanced, SteppedBy, word_of_answer, value_of_answer}
+use Rattle.bench.specs.Running.{row_is, seats_is, bench_is, BenchKept, Fulls, Turnings, Started, Reading, RunSoFar, AtStart, HasRoom, RowWritten, RowPut, full_after, CallRun, LineRun, Ran, PrintedInto}
 use Rattle.bench.proofs.Rows.{shown}
 use Rattle.bench.proofs.Records.{full-none, full-kept}
 use Rattle.bench.proofs.States.{fit-seat, record-kept, whole-kept, no-pool}
+use Rattle.std.specs.Prelude.{Some, None, Result, Ok, Err}
 
 -- ---- a row is that of the reply
 
-shows : (W : List ℕ) (a : Answer) (n : ℕ) → (word_for (answer_is W a) ≡ word_of_answer a) × (controller.answer_value n (answer_is W a) ≡ value_is (value_of_answer a n))
+shows : (W : List ℕ) (a : Result Answer Refusal) (n : ℕ) → (word_for (answer_is W a) ≡ word_of_answer a) × (controller.answer_value n (answer_is W a) ≡ value_is (value_of_answer a n))
 unfolding answer_is
-shows W Taken n = (refl, refl)
-shows W (Signed i) n = (refl, refl)
-shows W (Entered v) n = (refl, refl)
-shows W (Delivered i m who) n = (refl, refl)
-shows W Left n = (refl, refl)
-shows W Quiet n = (refl, refl)
-shows W (Refused r) n = (refl, refl)
+shows W (Ok Taken) n = (refl, refl)
+shows W (Ok (Signed i)) n = (refl, refl)
+shows W (Ok (Entered v)) n = (refl, refl)
+shows W (Ok (Delivered i m who)) n = (refl, refl)
+shows W (Ok Left) n = (refl, refl)
+shows W (Ok Quiet) n = (refl, refl)
+shows W (Err r) n = (refl, refl)
 
-row_is_lem : (W : List ℕ) (n who : ℕ) (a : Answer) (number : ℕ) → row_is n who a number ≡ row_text n (reply_is W who a number)
+row_is_lem : (W : List ℕ) (n who : ℕ) (a : Result Answer Refusal) (number : ℕ) → row_is n who a number ≡ row_text n (reply_is W who a number)
 unfolding row_is
 row_is_lem W n who a number = shown n (record { named = refl; word = (shows W a number).0; value = (shows W a number).1 })
 
@@ -87,7 +86,7 @@ passed-as : {R : List ℕ} {place : Place} {next : ℕ} {row row' : List ℕ} {o
 passed-as {R} {place} {next} {row} {row'} {on} {R'} e p = subst (λ t. RowWritten R place next t on R') e p
 
 -- the row of an answer
-pub put-answer : (R : List ℕ) (place : Place) (next who : ℕ) (a : Answer) (number : ℕ) (on : Place) (R' : List ℕ) {w : Word} {v : Value} → w ≡ word_of_answer a → v ≡ value_of_answer a number
+pub put-answer : (R : List ℕ) (place : Place) (next who : ℕ) (a : Result Answer Refusal) (number : ℕ) (on : Place) (R' : List ℕ) {w : Word} {v : Value} → w ≡ word_of_answer a → v ≡ value_of_answer a number
     → RowPut R place next (row_of place.n who w v) on R' → RowPut R place next (row_is place.n who a number) on R'
 unfolding row_is
 put-answer R place next who a number on R' e f p = subst (λ t. RowPut R place next t on R') (ap₂ (row_of place.n who) e f) p
@@ -164,50 +163,99 @@ fulls-none Rs m e = record {
 }
 
 -- a turn that is known to do nothing, over a pool that grew and in the place of the same controller
-idle-same : (W W' : List ℕ) (a : Answer) → changes_is a ≡ false → answer_is W a ≡ answer_is W' a
+idle-same : (W W' : List ℕ) (a : Result Answer Refusal) → changes_is a ≡ false → answer_is W a ≡ answer_is W' a
 unfolding answer_is
-idle-same W W' Taken e = refl
-idle-same W W' (Signed n) e = absurd (true≢false e)
-idle-same W W' (Entered v) e = refl
-idle-same W W' (Delivered i m who) e = refl
-idle-same W W' Left e = refl
-idle-same W W' Quiet e = refl
-idle-same W W' (Refused r) e = refl
+idle-same W W' (Ok Taken) e = refl
+idle-same W W' (Ok (Signed n)) e = absurd (true≢false e)
+idle-same W W' (Ok (Entered v)) e = refl
+idle-same W W' (Ok (Delivered i m who)) e = refl
+idle-same W W' (Ok Left) e = refl
+idle-same W W' (Ok Quiet) e = refl
+idle-same W W' (Err r) e = refl
 
-rests-as : (W W' R R' : List ℕ) (c d : Controller) (v : Verdict) → controller_is d ≡ controller_is c → record_in W' R' ≡ record_in W R → IfIdle v (Rests W R c) → IfIdle v (Rests W' R' d)
-rests-as W W' R R' c d (Idle a) e f r = record {
+rests-as : (W W' R R' : List ℕ) (c d : Controller) (v : Known) → controller_is d ≡ controller_is c → record_in W' R' ≡ record_in W R → IfIdle v (Rests W R c) → IfIdle v (Rests W' R' d)
+rests-as W W' R R' c d (Some a) e f r = record {
   idle = r.idle;
   turns = λ room minute l. ap₂ (λ x X. turn_of x X room minute) e f ∙ r.turns room minute l
       ∙ ap₂ (λ b (o : controller.Outcome). record { answer = b; controller = o.controller; statements = o.statements }) (idle-same W W' a r.idle) (ap₂ (λ x X. record { answer = controller.quiet; controller = x; statements = X }) (sym e) (sym f));
 }
-rests-as W W' R R' c d Open e f r = tt
+rests-as W W' R R' c d None e f r = tt
 
-module _ (W W' : List ℕ) (cs cs' : List Controller) (Rs : List (List ℕ)) (vs : List Verdict) (R' : List ℕ) (k : ℕ) (h : k < 16) (m : BenchKept W cs Rs) (g : Grows W W') (o : Others cs k cs') (y : Turnings W cs Rs vs) where
-  turnings-set : (v : Verdict) → IfIdle v (Rests W' R' (get_or cs' k blank)) → Turnings W' cs' (set Rs k R') (set vs k v)
+module _ (W W' : List ℕ) (cs cs' : List Controller) (Rs : List (List ℕ)) (vs : List Known) (R' : List ℕ) (k : ℕ) (h : k < 16) (m : BenchKept W cs Rs) (g : Grows W W') (o : Others cs k cs') (y : Turnings W cs Rs vs) where
+  turnings-set : (v : Known) → IfIdle v (Rests W' R' (get_or cs' k blank)) → Turnings W' cs' (set Rs k R') (set vs k v)
   turnings-set v r = record {
     long = length-set vs k v ∙ y.long;
     each = λ i l. elim (ℕ_discrete i k) [
-      | yes e ↦ subst (λ j. IfIdle (get_or (set vs k v) j Open) (Rests W' (get_or (set Rs k R') j []) (get_or cs' j blank))) (sym e)
-          (subst (λ t. IfIdle t (Rests W' (get_or (set Rs k R') k []) (get_or cs' k blank))) (sym (get_or-set_same vs k v Open (omega (arith, y.long))))
+      | yes e ↦ subst (λ j. IfIdle (get_or (set vs k v) j None) (Rests W' (get_or (set Rs k R') j []) (get_or cs' j blank))) (sym e)
+          (subst (λ t. IfIdle t (Rests W' (get_or (set Rs k R') k []) (get_or cs' k blank))) (sym (get_or-set_same vs k v None (omega (arith, y.long))))
           (subst (λ t. IfIdle v (Rests W' t (get_or cs' k blank))) (sym (get_or-set_same Rs k R' [] (omega (arith, m.records)))) r))
-      | no e ↦ subst (λ t. IfIdle t (Rests W' (get_or (set Rs k R') i []) (get_or cs' i blank))) (sym (get_or-set_other vs k i v Open e))
-          (rests-as W W' (get_or Rs i []) (get_or (set Rs k R') i []) (get_or cs i blank) (get_or cs' i blank) (get_or vs i Open) (ap controller_is (o.same i e)) (ap (record_in W') (get_or-set_other Rs k i R' [] e) ∙ record-kept g (get_or Rs i []) (m.whole i l)) (y.each i l))
+      | no e ↦ subst (λ t. IfIdle t (Rests W' (get_or (set Rs k R') i []) (get_or cs' i blank))) (sym (get_or-set_other vs k i v None e))
+          (rests-as W W' (get_or Rs i []) (get_or (set Rs k R') i []) (get_or cs i blank) (get_or cs' i blank) (get_or vs i None) (ap controller_is (o.same i e)) (ap (record_in W') (get_or-set_other Rs k i R' [] e) ∙ record-kept g (get_or Rs i []) (m.whole i l)) (y.each i l))
     ];
   }
 
-pub turnings-none : (W : List ℕ) (cs : List Controller) (Rs : List (List ℕ)) (m : ℕ) → m ≡ 16 → Turnings W cs Rs (replicate m Open)
+pub turnings-none : (W : List ℕ) (cs : List Controller) (Rs : List (List ℕ)) (m : ℕ) → m ≡ 16 → Turnings W cs Rs (replicate m None)
 turnings-none W cs Rs m e = record {
-  long = length-replicate m Open ∙ e;
-  each = λ k l. subst (λ t. IfIdle t (Rests W (get_or Rs k []) (get_or cs k blank))) (sym (get_or-replicate m k Open Open (omega arith))) tt;
+  long = length-replicate m None ∙ e;
+  each = λ k l. subst (λ t. IfIdle t (Rests W (get_or Rs k []) (get_or cs k blank))) (sym (get_or-replicate m k None None (omega arith))) tt;
 }
 
 -- ---- a line that calls a controller
 
 -- the controller is stored where it changed
-abbrev pub Stored : List Controller → ℕ → Outcome → List Controller → Type 0
+abbrev pub Stored : List Controller → ℕ → Came → List Controller → Type 0
 Stored cs k o cs' = ((changes_is o.answer ≡ true) × (cs' ≡ set cs k o.controller)) ⊎ ((changes_is o.answer ≡ false) × (cs' ≡ cs))
 
-module _ (g : Setting) (W W' : List ℕ) (cs cs' : List Controller) (Rs : List (List ℕ)) (R' : List ℕ) (k : ℕ) (l : Line) (o : Outcome) (h : k < 16) (m : BenchKept W cs Rs)
+-- the controller and the answer after a call on c that returned r
+abbrev pub StoredIn : Controller → Came → Controller → Type 0
+StoredIn c o c' = ((changes_is o.answer ≡ true) × (c' ≡ o.controller)) ⊎ ((changes_is o.answer ≡ false) × (c' ≡ c))
+
+pub record CameTo (c : Controller) (r : Result Outcome Refusal) (c' : Controller) (a : Result Answer Refusal) : Type 0 where
+  pub stored : StoredIn c (came_to c r) c'
+  pub answered : a ≡ (came_to c r).answer
+
+module _ (c : Controller) {r : Result Outcome Refusal} {c' : Controller} {a : Result Answer Refusal} where
+  pub came-changed : (o : Outcome) {b : Bool} → r ≡ Ok o → b ≡ changes_is (Ok o.answer) → b ≡ true → c' ≡ o.controller → a ≡ Ok o.answer → CameTo c r c' a
+  came-changed o e f g h i = subst (λ t. CameTo c t c' a) (sym e) (record { stored = inl (sym f ∙ g, h); answered = i })
+
+  pub came-kept : (o : Outcome) {b : Bool} → r ≡ Ok o → b ≡ changes_is (Ok o.answer) → b ≡ false → c' ≡ c → a ≡ Ok o.answer → CameTo c r c' a
+  came-kept o e f g h i = subst (λ t. CameTo c t c' a) (sym e) (record { stored = inr (sym f ∙ g, h); answered = i })
+
+  pub came-refused : (q : Refusal) → r ≡ Err q → c' ≡ c → a ≡ Err q → CameTo c r c' a
+  came-refused q e h i = subst (λ t. CameTo c t c' a) (sym e) (record { stored = inr (refl, h); answered = i })
+
+-- a call, and its row
+module _ (W R : List ℕ) (place : Place) (next : ℕ) (c : Controller) (l : Held) (rows rows' : List ℕ) (on : Place) (number : ℕ) where
+  -- one that is known to change nothing
+  pub judged-run : (t : Known) {v : Known} (a : Result Answer Refusal) {k : ℕ} → Sound W R → IfIdle t (Rests W R c) → Judged c l t v → v ≡ Some a → k ≡ seat_of l → number ≡ signed_number a
+      → RowPut rows place next (row_is place.n k a number) on rows' → CallRun W R place next c l rows on W R c t rows'
+  judged-run t a s y j z q n p = record {
+    came = record { answer = a; controller = c };
+    called = subst (λ u. IfIdle u (λ r. CalledByLine W R c l (record { answer = r; controller = c }) W R)) z (j.answers W R s y);
+    stored = go (changes_is a) refl;
+    rests = y;
+    passed = subst (λ u. RowPut rows place next u on rows') (ap₂ (λ i m. row_is place.n i a m) q n) p;
+  }
+    where
+      go : (b : Bool) → changes_is a ≡ b → StoredIn c (record { answer = a; controller = c }) c
+      go true e = inl (e, refl)
+      go false e = inr (e, refl)
+
+  pub called-run : {W' R' : List ℕ} {r : Result Outcome Refusal} {c' : Controller} {a : Result Answer Refusal} {v : Known} {k : ℕ} → CalledByLine W R c l (came_to c r) W' R' → CameTo c r c' a → v ≡ next_turn c l a
+      → k ≡ seat_of l → number ≡ signed_number a → RowPut rows place next (row_is place.n k a number) on rows' → CallRun W R place next c l rows on W' R' c' v rows'
+  called-run {W'} {R'} {r} {c'} {a} {v} {k} m t x q n p = record {
+    came = came_to c r;
+    called = m;
+    stored = t.stored;
+    rests = rests-as W' W' R' R' (came_to c r).controller c' v (same t.stored) refl (subst (λ u. IfIdle u (Rests W' R' (came_to c r).controller)) (sym (x ∙ ap (next_turn c l) t.answered)) m.rests);
+    passed = subst (λ u. RowPut rows place next u on rows') (ap₂ (λ i j. row_is place.n i a j) q n ∙ ap (λ b. row_is place.n (seat_of l) b (signed_number b)) t.answered) p;
+  }
+    where
+      same : StoredIn c (came_to c r) c' → controller_is c' ≡ controller_is (came_to c r).controller
+      same (inl (e, z)) = ap controller_is z
+      same (inr (e, z)) = ap controller_is z ∙ sym (m.called.same e)
+
+module _ (g : Setting) (W W' : List ℕ) (cs cs' : List Controller) (Rs : List (List ℕ)) (R' : List ℕ) (k : ℕ) (l : Line) (o : Came) (h : k < 16) (m : BenchKept W cs Rs)
     (a : CalledAtSeat W (get_or Rs k []) (get_or cs k blank) k l o W' R') (t : Stored cs k o cs') where
   call-others : Others cs k cs'
   call-others = go t
@@ -229,7 +277,7 @@ module _ (g : Setting) (W W' : List ℕ) (cs cs' : List Controller) (Rs : List (
       (ap (λ c. set (seats_is W cs Rs) k (record { controller = c; statements = record_in W' R' })) controller-after ∙ seats-set W W' cs cs' Rs R' k h m a.grows call-others)
 
   -- what is known of its next turn
-  call-turnings : (vs : List Verdict) (v : Verdict) → Turnings W cs Rs vs → IfIdle v (Rests W' R' o.controller) → Turnings W' cs' (set Rs k R') (set vs k v)
+  call-turnings : (vs : List Known) (v : Known) → Turnings W cs Rs vs → IfIdle v (Rests W' R' o.controller) → Turnings W' cs' (set Rs k R') (set vs k v)
   call-turnings vs v y r = turnings-set W W' cs cs' Rs vs R' k h m a.grows call-others y v (rests-as W' W' R' R' o.controller (get_or cs' k blank) v (sym controller-after) refl r)
 
   call_kept : BenchKept W' cs' (set Rs k R')
@@ -334,7 +382,7 @@ module _ (S : List ℕ) (place : Place) (r : ReadLine) (of : LineOf (take (lengt
   room g s m = record { out = omega (arith, g.wrote.next, g.small); number = omega (arith, g.number); at = omega (arith, next-within (omega arith)) }
 
   -- a line that reads
-  module _ (l : Held) (e : r.parsed ≡ Readable l) where
+  module _ (l : Held) (e : r.parsed ≡ Some l) where
     -- its text, as the part of the schedule that the line is given
     abbrev body : List ℕ
     body = take (place.at + r.next - 1 - place.at) (drop place.at S)
@@ -354,14 +402,14 @@ module _ (S : List ℕ) (place : Place) (r : ReadLine) (of : LineOf (take (lengt
     pub line-fits : ReadFrom l body
     line-fits = record { tells = subst (λ t. Tells (meant l) (ended t)) (sym body_is) (line-tells (drop place.at S) r (part-read S place.at r of) l e) }
 
-    pub line-seat : {k : ℕ} → k ≡ seat_of (Readable l) → k < 16
+    pub line-seat : {k : ℕ} → k ≡ seat_of l → k < 16
     line-seat q = omega (arith, q, fit-seat l line-fits)
 
     pub room-body : {b : Bench} {R R' : List ℕ} → RunSoFar S place b R R' → length S ≤ 65536 → place.at < length S → HasRoom place (length body + 1)
     room-body g s m = subst (HasRoom place) (sym (body-long m)) (room g s m)
 
     -- one that calls
-    module _ (W W' : List ℕ) (cs cs' : List Controller) (Rs : List (List ℕ)) (fs : List ℕ) (vs : List Verdict) (R' : List ℕ) (k : ℕ) (q : k ≡ seat_of (Readable l)) (m : BenchKept W cs Rs) (w : Fulls Rs fs) (y : Turnings W cs Rs vs) (o : Outcome)
+    module _ (W W' : List ℕ) (cs cs' : List Controller) (Rs : List (List ℕ)) (fs : List ℕ) (vs : List Known) (R' : List ℕ) (k : ℕ) (q : k ≡ seat_of l) (m : BenchKept W cs Rs) (w : Fulls Rs fs) (y : Turnings W cs Rs vs) (o : Came)
         (a : CalledByLine W (get_or Rs k []) (get_or cs k blank) l o W' R') (t : Stored cs k o cs') where
       at-seat : CalledAtSeat W (get_or Rs k []) (get_or cs k blank) k a.line o W' R'
       at-seat = subst (λ j. CalledAtSeat W (get_or Rs k []) (get_or cs k blank) j a.line o W' R') (sym q) a.called
@@ -369,7 +417,7 @@ module _ (S : List ℕ) (place : Place) (r : ReadLine) (of : LineOf (take (lengt
       call-reads : (n : ℕ) → Reads n (ended body) (some a.line)
       call-reads = subst (λ u. Tells u (ended body)) a.means line-fits.tells
 
-      pub call-on : {R₀ rows rows' : List ℕ} {on : Place} {number : ℕ} {v : Verdict} → RunSoFar S place (bench_is place.setting W cs Rs) R₀ rows → place.at < length S → number ≡ signed_number o.answer → v ≡ next_turn (get_or cs k blank) l o.answer
+      pub call-on : {R₀ rows rows' : List ℕ} {on : Place} {number : ℕ} {v : Known} → RunSoFar S place (bench_is place.setting W cs Rs) R₀ rows → place.at < length S → number ≡ signed_number o.answer → v ≡ next_turn (get_or cs k blank) l o.answer
           → RowPut rows place r.next (row_is place.n k o.answer number) on rows'
           → BenchKept W' cs' (set Rs k R') × RunSoFar S on (bench_is on.setting W' cs' (set Rs k R')) R₀ rows' × Fulls (set Rs k R') fs × Turnings W' cs' (set Rs k R') (set vs k v)
       call-on {R₀} {rows} {rows'} {on} {number} {v} going more z x p = (
@@ -382,32 +430,31 @@ module _ (S : List ℕ) (place : Place) (r : ReadLine) (of : LineOf (take (lengt
         call-turnings place.setting W W' cs cs' Rs R' k a.line o (line-seat q) m at-seat t vs v y (subst (λ u. IfIdle u (Rests W' R' o.controller)) (sym x) a.rests),
       )
 
-    -- one whose call is known to change nothing
-    module _ (W : List ℕ) (cs : List Controller) (Rs : List (List ℕ)) (fs : List ℕ) (vs : List Verdict) (k : ℕ) (q : k ≡ seat_of (Readable l)) (m : BenchKept W cs Rs) (w : Fulls Rs fs) (y : Turnings W cs Rs vs)
-        (v : Verdict) (j : Judged (get_or cs k blank) l (get_or vs k Open) v) (x : Answer) (z : v ≡ Idle x) where
-      judged-call : CalledByLine W (get_or Rs k []) (get_or cs k blank) l (record { answer = x; controller = get_or cs k blank }) W (get_or Rs k [])
-      judged-call = subst (λ u. IfIdle u (λ r. CalledByLine W (get_or Rs k []) (get_or cs k blank) l (record { answer = r; controller = get_or cs k blank }) W (get_or Rs k []))) z
-          (j.answers W (get_or Rs k []) (record { distinct = m.distinct; whole = m.whole k (line-seat q) }) (y.each k (line-seat q)))
-
-      stays-stored : Stored cs k (record { answer = x; controller = get_or cs k blank }) cs
-      stays-stored = go (changes_is x) refl
+    -- one that was run
+    module _ (W W' : List ℕ) (cs : List Controller) (Rs : List (List ℕ)) (fs : List ℕ) (vs : List Known) (R' : List ℕ) (k : ℕ) (q : k ≡ seat_of l) (m : BenchKept W cs Rs) (w : Fulls Rs fs) (y : Turnings W cs Rs vs)
+        (rows rows' : List ℕ) (on : Place) (c' : Controller) (v' : Known) (x : CallRun W (get_or Rs k []) place r.next (get_or cs k blank) l rows on W' R' c' v' rows') where
+      run-stored : Stored cs k x.came (set cs k c')
+      run-stored = go x.stored
         where
-          go : (b : Bool) → changes_is x ≡ b → Stored cs k (record { answer = x; controller = get_or cs k blank }) cs
-          go true e' = inl (e', sym (set-get_or cs k blank))
-          go false e' = inr (e', refl)
+          go : StoredIn (get_or cs k blank) x.came c' → Stored cs k x.came (set cs k c')
+          go (inl (e', z)) = inl (e', ap (set cs k) z)
+          go (inr (e', z)) = inr (e', ap (set cs k) z ∙ set-get_or cs k blank)
 
-      pub judged-on : {R₀ rows rows' : List ℕ} {on : Place} {number : ℕ} → RunSoFar S place (bench_is place.setting W cs Rs) R₀ rows → place.at < length S → number ≡ signed_number x → RowPut rows place r.next (row_is place.n k x number) on rows'
-          → BenchKept W cs Rs × RunSoFar S on (bench_is on.setting W cs Rs) R₀ rows' × Fulls Rs fs × Turnings W cs Rs vs
-      judged-on {R₀} {rows} {rows'} {on} going more n p =
-          let c = call-on W W cs cs Rs fs vs (get_or Rs k []) k q m w y (record { answer = x; controller = get_or cs k blank }) judged-call stays-stored going more n refl p in
-          (m, subst (λ Us. RunSoFar S on (bench_is on.setting W cs Us) R₀ rows') (set-get_or Rs k []) c.1, w, y)
+      run-seat : CalledAtSeat W (get_or Rs k []) (get_or cs k blank) k x.called.line x.came W' R'
+      run-seat = subst (λ j. CalledAtSeat W (get_or Rs k []) (get_or cs k blank) j x.called.line x.came W' R') (sym q) x.called.called
+
+      pub called-on : {R₀ : List ℕ} → RunSoFar S place (bench_is place.setting W cs Rs) R₀ rows → place.at < length S
+          → BenchKept W' (set cs k c') (set Rs k R') × RunSoFar S on (bench_is on.setting W' (set cs k c') (set Rs k R')) R₀ rows' × Fulls (set Rs k R') fs × Turnings W' (set cs k c') (set Rs k R') (set vs k v')
+      called-on {R₀} going more =
+          let b = call-on W W' cs (set cs k c') Rs fs vs R' k q m w y x.came x.called run-stored going more refl refl (subst (λ j. RowPut rows place r.next (row_is place.n j x.came.answer (signed_number x.came.answer)) on rows') (sym q) x.passed) in
+          (b.0, b.1, b.2, turnings-set W W' cs (set cs k c') Rs vs R' k (line-seat q) m run-seat.grows (others-set cs k c') y v' (subst (λ d. IfIdle v' (Rests W' R' d)) (sym (get_or-set_same cs k c' blank (omega (arith, m.long, line-seat q)))) x.rests))
 
     -- one that finds nothing to do
-    module _ (W : List ℕ) (cs : List Controller) (Rs : List (List ℕ)) (fs : List ℕ) (k : ℕ) (q : k ≡ seat_of (Readable l)) (m : BenchKept W cs Rs) (w : Fulls Rs fs) {vs : List Verdict} (y : Turnings W cs Rs vs) (idle : LacksNothing W place.setting (get_or fs k 0) l) where
+    module _ (W : List ℕ) (cs : List Controller) (Rs : List (List ℕ)) (fs : List ℕ) (k : ℕ) (q : k ≡ seat_of l) (m : BenchKept W cs Rs) (w : Fulls Rs fs) {vs : List Known} (y : Turnings W cs Rs vs) (idle : LacksNothing W place.setting (get_or fs k 0) l) where
       idle-reads : (n : ℕ) → Reads n (ended body) (some idle.line)
       idle-reads = subst (λ u. Tells u (ended body)) idle.means line-fits.tells
 
-      idle-left : step (bench_is place.setting W cs Rs) (some idle.line) ≡ record { reply = record { who = seat_of (Readable l); answer = controller.taken; number = 0 }; bench = bench_is place.setting W cs Rs }
+      idle-left : step (bench_is place.setting W cs Rs) (some idle.line) ≡ record { reply = record { who = seat_of l; answer = controller.taken; number = 0 }; bench = bench_is place.setting W cs Rs }
       idle-left = idle.steps (get_or Rs k []) (record { distinct = m.distinct; whole = m.whole k (line-seat q) }) (w.each k (line-seat q)) (seats_is W cs Rs)
           (ap (λ j. (get_or (seats_is W cs Rs) j empty_seat).statements) (sym q) ∙ ap (λ (s : Seat). s.statements) (seat-there W cs Rs k (line-seat q)))
 
@@ -417,15 +464,15 @@ module _ (S : List ℕ) (place : Place) (r : ReadLine) (of : LineOf (take (lengt
         m,
         subst (λ g. RunSoFar S on (bench_is g W cs Rs) R₀ rows') (sym p.setting)
             (goes_on S place on (bench_is place.setting W cs Rs) (bench_is place.setting W cs Rs) R₀ rows rows' going r (part-read S place.at r of) more (some idle.line) (line_reads (terms_of place.setting).notices idle.line (idle-reads (terms_of place.setting).notices))
-            (record { who = seat_of (Readable l); answer = controller.taken; number = 0 }) idle-left
+            (record { who = seat_of l; answer = controller.taken; number = 0 }) idle-left
             (passed-as (taken-row place.n k ∙ ap (λ j. row_text place.n (record { who = j; answer = controller.taken; number = 0 })) q) p.passed)),
         w,
         y,
       )
 
     -- one that calls no controller
-    module _ (W W' : List ℕ) (cs : List Controller) (Rs : List (List ℕ)) (fs R' : List ℕ) (k : ℕ) (q : k ≡ seat_of (Readable l)) (m : BenchKept W cs Rs) (w : Fulls Rs fs) {vs : List Verdict} (y : Turnings W cs Rs vs) (s : Moved) (rows rows' senders windows : List ℕ) (more : place.at < length S)
-        (a : LineRun W (get_or Rs k []) place (seat_of (Readable l)) body rows s W' R' rows' senders windows) where
+    module _ (W W' : List ℕ) (cs : List Controller) (Rs : List (List ℕ)) (fs R' : List ℕ) (k : ℕ) (q : k ≡ seat_of l) (m : BenchKept W cs Rs) (w : Fulls Rs fs) {vs : List Known} (y : Turnings W cs Rs vs) (s : Moved) (rows rows' senders windows : List ℕ) (more : place.at < length S)
+        (a : LineRun W (get_or Rs k []) place (seat_of l) body rows s W' R' rows' senders windows) where
       run_at : Advanced W (get_or Rs k []) place.setting k a.line a.reply s.place.setting s.fresh W' R' senders windows
       run_at = subst (λ j. Advanced W (get_or Rs k []) place.setting j a.line a.reply s.place.setting s.fresh W' R' senders windows) (sym q) a.advanced
 
@@ -436,20 +483,20 @@ module _ (S : List ℕ) (place : Place) (r : ReadLine) (of : LineOf (take (lengt
       run-less = less more run-passed
 
       pub run_on : {R₀ : List ℕ} → s.fresh ≡ false → RunSoFar S place (bench_is place.setting W cs Rs) R₀ rows
-          → BenchKept W' cs (set Rs k R') × RunSoFar S s.place (bench_is s.place.setting W' cs (set Rs k R')) R₀ rows' × Fulls (set Rs k R') (set fs k s.full) × Turnings W' cs (set Rs k R') (set vs k Open)
+          → BenchKept W' cs (set Rs k R') × RunSoFar S s.place (bench_is s.place.setting W' cs (set Rs k R')) R₀ rows' × Fulls (set Rs k R') (set fs k s.full) × Turnings W' cs (set Rs k R') (set vs k None)
       run_on {R₀} e' going = (
         line_kept place.setting W W' cs Rs R' k a.line a.reply s.place.setting s.fresh senders windows (line-seat q) m run_at e',
         goes_on S place s.place (bench_is place.setting W cs Rs) (bench_is s.place.setting W' cs (set Rs k R')) R₀ rows rows' going r (part-read S place.at r of) more (some a.line) (line_reads (terms_of place.setting).notices a.line a.reads) a.reply
             (line-left place.setting W W' cs Rs R' k a.line a.reply s.place.setting s.fresh senders windows (line-seat q) m run_at e') run-passed,
         fulls-set Rs fs k (line-seat q) m.records w R' s.full (a.full_is e'),
-        turnings-set W W' cs cs Rs vs R' k (line-seat q) m (run_at.grows e') (others-none cs k) y Open tt,
+        turnings-set W W' cs cs Rs vs R' k (line-seat q) m (run_at.grows e') (others-none cs k) y None tt,
       )
 
       pub run-allowed : s.fresh ≡ true → MayStart (setup_in s.place.setting senders windows)
       run-allowed e' = (run_at.begun e').1
 
       pub run-fresh : {R₀ : List ℕ} (cs'' : List Controller) (Rs'' : List (List ℕ)) (f : ℕ) → f ≡ 16 → s.fresh ≡ true → Started (setup_in s.place.setting senders windows) cs'' Rs'' → RunSoFar S place (bench_is place.setting W cs Rs) R₀ rows
-          → BenchKept W' cs'' Rs'' × RunSoFar S s.place (bench_is s.place.setting W' cs'' Rs'') R₀ rows' × Fulls Rs'' (replicate f 0) × Turnings W' cs'' Rs'' (replicate f Open)
+          → BenchKept W' cs'' Rs'' × RunSoFar S s.place (bench_is s.place.setting W' cs'' Rs'') R₀ rows' × Fulls Rs'' (replicate f 0) × Turnings W' cs'' Rs'' (replicate f None)
       run-fresh {R₀} cs'' Rs'' f z e' d going = (
         fresh_kept place.setting W W' cs Rs R' k a.line a.reply s.place.setting s.fresh senders windows (line-seat q) m run_at cs'' Rs'' d e',
         goes_on S place s.place (bench_is place.setting W cs Rs) (bench_is s.place.setting W' cs'' Rs'') R₀ rows rows' going r (part-read S place.at r of) more (some a.line) (line_reads (terms_of place.setting).notices a.line a.reads) a.reply
@@ -459,7 +506,7 @@ module _ (S : List ℕ) (place : Place) (r : ReadLine) (of : LineOf (take (lengt
       )
 
   -- one that does not
-  pub unread-on : r.parsed ≡ Unreadable → {W : List ℕ} {cs : List Controller} {Rs : List (List ℕ)} {R R' R'' : List ℕ} {on : Place} → BenchKept W cs Rs → RunSoFar S place (bench_is place.setting W cs Rs) R R' → place.at < length S
+  pub unread-on : r.parsed ≡ None → {W : List ℕ} {cs : List Controller} {Rs : List (List ℕ)} {R R' R'' : List ℕ} {on : Place} → BenchKept W cs Rs → RunSoFar S place (bench_is place.setting W cs Rs) R R' → place.at < length S
       → RowPut R' place r.next (row_of place.n 16 word.Refused (value.Number 8)) on R'' → RunSoFar S on (bench_is on.setting W cs Rs) R R''
   unfolding step
   unread-on e {W} {cs} {Rs} {R} {R'} {R''} {on} m going more p =
@@ -483,9 +530,9 @@ module _ (W R : List ℕ) (place : Place) (l : Held) (T : List ℕ) (full : ℕ)
   full-after R' n true k h = h refl
   full-after R' n false k h = full-kept R R' k full f
 
-  pub run-stepped : {W' R' : List ℕ} {st : Effect} {on : Place} {rows' : List ℕ} {known : ℕ} {S A : List ℕ} → SteppedBy W R place.setting (seat_of (Readable l)) T st W' R' S A → RowPut rows place (length T + 1) (row_is place.n st.who st.answer st.number) on rows'
+  pub run-stepped : {W' R' : List ℕ} {st : Effect} {on : Place} {rows' : List ℕ} {known : ℕ} {S A : List ℕ} → SteppedBy W R place.setting (seat_of l) T st W' R' S A → RowPut rows place (length T + 1) (row_is place.n st.who st.answer st.number) on rows'
       → known ≡ full_after st.whole (pool_len W') full
-      → LineRun W R place (seat_of (Readable l)) T rows (record { place = record { setting = st.setting; at = on.at; n = on.n; out = on.out }; fresh = st.fresh; full = known }) W' R' rows' S A
+      → LineRun W R place (seat_of l) T rows (record { place = record { setting = st.setting; at = on.at; n = on.n; out = on.out }; fresh = st.fresh; full = known }) W' R' rows' S A
   run-stepped {W'} {R'} {st} {on} {rows'} {known} {S} {A} a p z = record {
     line = a.line;
     reads = a.reads;

@@ -1,6 +1,6 @@
 -- What a line comes to on one controller or on its record.
 -- Assumes nothing.
-use Rattle.std.specs.Prelude.{if◌then◌else◌}
+use Rattle.std.specs.Prelude.{if◌then◌else◌, Result, Ok, Err}
 use mathlib.Core.Path.{◌≡◌, refl, sym, ap, ap₂, subst, ◌∙◌}
 use mathlib.Core.Bool.{Bool, true, false, not, true≢false, ◌||◌}
 use mathlib.Core.List.{List, [], ◌∷◌, ◌++◌, append-nil, map, map-append}
@@ -27,12 +27,11 @@ use Rattle.views.proofs.Views.{passes}
 use Rattle.pool.specs.Pool.{stmt_at, pool_len, record_up_to, record_len, record_in, pool_of, AllIn, Grows}
 use Rattle.pool.specs.Changes.{PushedTo}
 use Rattle.engine.specs.declared.Controller.{Controller}
-use Rattle.engine.specs.declared.Outcome.{Outcome}
 use Rattle.engine.specs.declared.Refusal.{Refusal}
 use Rattle.engine.specs.declared.Refusal.TheVariants as refusal
 use Rattle.engine.specs.declared.Answer.{Answer}
-use Rattle.engine.specs.declared.Answer.TheVariants.{Taken, Signed, Entered, Delivered, Left, Quiet, Refused}
-use Rattle.engine.specs.Meaning.{controller_is, signed_number, answer_is, refusal_is}
+use Rattle.engine.specs.declared.Answer.TheVariants.{Taken, Signed, Entered, Delivered, Left, Quiet}
+use Rattle.engine.specs.Meaning.{controller_is, Came, signed_number, answer_is, refusal_is}
 use Rattle.engine.specs.Promise.{Change, unchanged, Meets, Calls, Turns, PoolAfter, NumbersAfter, signed_of}
 use Rattle.schedule.specs.Line.{Line, join, leave, send, give, all, turn}
 use Rattle.schedule.specs.declared.line.Line.{Line as Held}
@@ -350,17 +349,17 @@ pool-then W W' controller.left e = ap pool_of e
 pool-then W W' controller.quiet e = ap pool_of e
 pool-then W W' (controller.refused r) e = ap pool_of e
 
-not-signed : (W : List ℕ) (x : Answer) (a : controller.Answer) → answer_is W x ≡ a → signed_of a ≡ unchanged → signed_number x ≡ 0
+not-signed : (W : List ℕ) (x : Result Answer Refusal) (a : controller.Answer) → answer_is W x ≡ a → signed_of a ≡ unchanged → signed_number x ≡ 0
 unfolding answer_is
-not-signed W Taken a e h = refl
-not-signed W (Signed n) a e h = let q = ap signed_of e ∙ h in let z : ◌≡◌ {A = ℕ} 0 1 = cc in absurd (omega arith)
-not-signed W (Entered v) a e h = refl
-not-signed W (Delivered i m who) a e h = refl
-not-signed W Left a e h = refl
-not-signed W Quiet a e h = refl
-not-signed W (Refused q) a e h = refl
+not-signed W (Ok Taken) a e h = refl
+not-signed W (Ok (Signed n)) a e h = let q = ap signed_of e ∙ h in let z : ◌≡◌ {A = ℕ} 0 1 = cc in absurd (omega arith)
+not-signed W (Ok (Entered v)) a e h = refl
+not-signed W (Ok (Delivered i m who)) a e h = refl
+not-signed W (Ok Left) a e h = refl
+not-signed W (Ok Quiet) a e h = refl
+not-signed W (Err q) a e h = refl
 
-number-then : (W W' : List ℕ) (x : Answer) (a : controller.Answer) → answer_is W' x ≡ a → ((s : Stmt) → a ≡ controller.signed s → x ≡ Signed (number_of s (pool_of W))) → number_then a (pool_of W) ≡ signed_number x
+number-then : (W W' : List ℕ) (x : Result Answer Refusal) (a : controller.Answer) → answer_is W' x ≡ a → ((s : Stmt) → a ≡ controller.signed s → x ≡ Ok (Signed (number_of s (pool_of W)))) → number_then a (pool_of W) ≡ signed_number x
 number-then W W' x controller.taken e h = sym (not-signed W' x controller.taken e refl)
 number-then W W' x (controller.signed s) e h = sym (ap signed_number (h s refl))
 number-then W W' x (controller.entered v) e h = sym (not-signed W' x (controller.entered v) e refl)
@@ -390,17 +389,17 @@ turn-keeps W W' (controller.refused r) e d = (same-distinct e d, same_grows e)
 
 -- ---- calls
 
-seat-of : {W R W' R' : List ℕ} {c : Controller} {o : controller.Outcome} {p : Change} {ro : Outcome} → Meets W R c o p ro W' R' → AllIn W R
+seat-of : {W R W' R' : List ℕ} {c : Controller} {o : controller.Outcome} {p : Change} {ro : Came} → Meets W R c o p ro W' R' → AllIn W R
     → record { controller = o.controller; statements = o.statements } ≡ seat_is W' ro.controller R'
 seat-of m w = ap₂ (λ x y. record { controller = x; statements = y }) (sym m.controller) (sym (m.statements w).0)
 
 -- a call that changed nothing
-stays-so : {W R W' R' : List ℕ} {c : Controller} {X : List Stmt} {o : controller.Outcome} {p : Change} {ro : Outcome} → Meets W R c o p ro W' R' → Stays (controller_is c) X o → changes_is ro.answer ≡ false
+stays-so : {W R W' R' : List ℕ} {c : Controller} {X : List Stmt} {o : controller.Outcome} {p : Change} {ro : Came} → Meets W R c o p ro W' R' → Stays (controller_is c) X o → changes_is ro.answer ≡ false
     → controller_is ro.controller ≡ controller_is c
 stays-so {W} {R} {W'} {R'} {c} {X} {o} {p} {ro} m s e = m.controller ∙ (s.stays (subst Idle m.answer (idle-answer W' ro.answer e))).0
 
 -- a request
-module _ (W R : List ℕ) (c : Controller) (k : ℕ) (l : Line) (o : Outcome) (s : Sound W R) (f : controller.Controller → List Stmt → controller.Outcome)
+module _ (W R : List ℕ) (c : Controller) (k : ℕ) (l : Line) (o : Came) (s : Sound W R) (f : controller.Controller → List Stmt → controller.Outcome)
     (st : (d : controller.Controller) (X : List Stmt) → Stays d X (f d X)) (un : (d : controller.Controller) (X : List Stmt) → Unsigned (f d X)) (m : Calls (f (controller_is c)) c o)
     (h : (b : Bench) → step b (some l) ≡ bench.at b k (f (bench.seat b k).controller (bench.seat b k).statements) b.pool 0) where
   asked : CalledAtSeat W R c k l o W R
@@ -441,7 +440,7 @@ waits-as c minute e = e
 same_outcome : {o : controller.Outcome} {a : controller.Answer} {d : controller.Controller} {X : List Stmt} → o.answer ≡ a → o.controller ≡ d → o.statements ≡ X → o ≡ record { answer = a; controller = d; statements = X }
 same_outcome {o} {a} e f g = ap (λ x. record { answer = x; controller = o.controller; statements = o.statements }) e ∙ ap₂ (λ d X. record { answer = a; controller = d; statements = X }) f g
 
-module _ (W R W' R' : List ℕ) (c : Controller) (k minute : ℕ) (ro : Outcome) (s : Sound W R) where
+module _ (W R W' R' : List ℕ) (c : Controller) (k minute : ℕ) (ro : Came) (s : Sound W R) where
   abbrev outcome : controller.Outcome
   outcome = turn_of (controller_is c) (record_in W R) (has_room (pool_of W)) minute
 
@@ -470,7 +469,7 @@ module _ (W R W' R' : List ℕ) (c : Controller) (k minute : ℕ) (ro : Outcome)
       same-statements : Resting outcome.answer → outcome.statements ≡ record_in W R
       same-statements r = ((turn-stays (controller_is c) (record_in W R) (has_room (pool_of W)) minute).stays (resting-idle outcome.answer r)).1
 
-      again : (a : Answer) → changes_is a ≡ false → outcome.answer ≡ answer_is W' a → Resting (answer_is W' a) → Rests W' R' ro.controller a
+      again : (a : Result Answer Refusal) → changes_is a ≡ false → outcome.answer ≡ answer_is W' a → Resting (answer_is W' a) → Rests W' R' ro.controller a
       again a i e r = record {
         idle = i;
         turns = λ room minute' l.
@@ -479,14 +478,14 @@ module _ (W R W' R' : List ℕ) (c : Controller) (k minute : ℕ) (ro : Outcome)
             ∙ same_outcome e (sym m.controller) (sym (m.statements s.whole).0);
       }
 
-      go : (a : Answer) → ro.answer ≡ a → IfIdle (turn_after a) (Rests W' R' ro.controller)
-      go Taken e = tt
-      go (Signed n) e = tt
-      go (Entered v) e = tt
-      go (Delivered i m who) e = tt
-      go Left e = again Left refl (sym m.answer ∙ ap (answer_is W') e) tt
-      go Quiet e = again Quiet refl (sym m.answer ∙ ap (answer_is W') e) tt
-      go (Refused r) e = tt
+      go : (a : Result Answer Refusal) → ro.answer ≡ a → IfIdle (turn_after a) (Rests W' R' ro.controller)
+      go (Ok Taken) e = tt
+      go (Ok (Signed n)) e = tt
+      go (Ok (Entered v)) e = tt
+      go (Ok (Delivered i m who)) e = tt
+      go (Ok Left) e = again (Ok Left) refl (sym m.answer ∙ ap (answer_is W') e) tt
+      go (Ok Quiet) e = again (Ok Quiet) refl (sym m.answer ∙ ap (answer_is W') e) tt
+      go (Err r) e = tt
 
   -- what is known of its next turn
   turn-known : Turns W R c outcome ro W' R' → IfIdle (turn_known c minute ro.answer) (Rests W' R' ro.controller)
@@ -494,7 +493,7 @@ module _ (W R W' R' : List ℕ) (c : Controller) (k minute : ℕ) (ro : Outcome)
   turn-known m = either (λ v. IfIdle v (Rests W' R' ro.controller)) (waits_at c minute) (λ w. tt) (λ w. turn-rested w m)
 
 -- the line that calls
-module _ (W R : List ℕ) (c : Controller) (o : Outcome) (s : Sound W R) {l : Held} {k : ℕ} where
+module _ (W R : List ℕ) (c : Controller) (o : Came) (s : Sound W R) {l : Held} {k : ℕ} where
   pub calls-join : l ≡ is.Join k → Calls (request_join (controller_is c)) c o → CalledByLine W R c l o W R
   unfolding step
   calls-join e m = subst (λ x. CalledByLine W R c x o W R) (sym e) (record { line = join k; means = refl; called = asked W R c k (join k) o s request_join join-stays join-unsigned m (λ b. refl); rests = tt })

@@ -13,9 +13,10 @@ use Rattle.protocol.specs.Statement.{Stmt}
 use Rattle.protocol.specs.Controller as controller
 use Rattle.protocol.specs.Call as call
 use Rattle.pool.specs.Pool.{record_len, record_in}
+use Rattle.std.specs.Prelude.{Err}
+use Rattle.engine.specs.declared.Refusal.{Refusal}
 use Rattle.engine.specs.declared.Controller.{Controller}
-use Rattle.engine.specs.declared.Outcome.{Outcome}
-use Rattle.engine.specs.Meaning.{controller_is}
+use Rattle.engine.specs.Meaning.{controller_is, Came, answer_is, refusal_is}
 use Rattle.engine.specs.Promise.{Starts, NumbersAfter, started_of}
 use Rattle.bench.specs.Seats.{blank, MayStart}
 use Rattle.bench.specs.Running.{Started}
@@ -42,13 +43,18 @@ module _ (p : call.Setup) where
     unfolding call.setup
     setup-is c X k e l = ap (λ t. call.setup t X k p) e ∙ (rw (allowed_at k l, ok.windows))
 
-    module _ (c : Controller) (fresh : controller_is c ≡ controller.not_set_up) (k : ℕ) (o : Outcome) (R R' : List ℕ) (l : k < 16) (m : Starts (λ X. call.setup (controller_is c) X k p) R c o R') where
+    module _ (c : Controller) (fresh : controller_is c ≡ controller.not_set_up) (k : ℕ) (o : Came) (R R' : List ℕ) (l : k < 16) (m : Starts (λ X. call.setup (controller_is c) X k p) R c o R') where
       outcome-is : call.setup (controller_is c) (record_in [] R) k p ≡ record { answer = controller.taken; controller = call.started k p; statements = [] }
       outcome-is = setup-is (controller_is c) (record_in [] R) k fresh l
 
       begun : (controller_is o.controller ≡ call.started k p) × (record_len R' ≡ 0)
       unfolding Starts
       begun = ((m []).controller ∙ ap (λ (t : controller.Outcome). t.controller) outcome-is, (subst (λ (t : controller.Outcome). NumbersAfter [] R (started_of t.answer) R') outcome-is (m []).numbers).len)
+
+      -- a setup that may start a ring is taken
+      pub never-refused : (q : Refusal) → o.answer ≡ Err q → ⊥
+      unfolding Starts answer_is
+      never-refused q e = let h : controller.refused (refusal_is q) ≡ controller.taken = ap (answer_is []) (sym e) ∙ (m []).answer ∙ ap (λ (t : controller.Outcome). t.answer) outcome-is in cc
 
       pub started-next : (cs : List Controller) (Rs : List (List ℕ)) → StartedTo p k cs Rs → StartedTo p (k + 1) (set cs k o.controller) (set Rs k R')
       started-next cs Rs s = record {

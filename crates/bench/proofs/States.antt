@@ -1,6 +1,6 @@
 -- What a line comes to that calls no controller: on one record, on the pool, or on all.
 -- Assumes nothing.
-use Rattle.std.specs.Prelude.{if◌then◌else◌}
+use Rattle.std.specs.Prelude.{if◌then◌else◌, Some, None, Result, Ok, Err}
 use mathlib.Core.Path.{◌≡◌, refl, sym, ap, ap₂, subst, ◌∙◌}
 use mathlib.Core.Bool.{Bool, true, false, not, ◌&&◌, ◌||◌, true≢false}
 use mathlib.Core.List.{List, [], ◌∷◌, ◌++◌}
@@ -8,7 +8,6 @@ use mathlib.Core.Option.{some, none}
 use Prim.Native.Nat.{ℕ, suc, ◌%◌, ◌≤◌, ◌<◌, min}
 use native.Mathlib.Decide.{dec_lt}
 use native.Mathlib.Omega.{arith}
-use denote.Enum.Declared.{tag_of}
 use lib.Dec.{T, eqb, leb, ltb, leb→le}
 use lib.ListN.{length, get_or, set}
 use lib.Seq.{ext_get_or}
@@ -26,15 +25,13 @@ use Rattle.protocol.proofs.Found.{none≢some, if-true, if-false}
 use Rattle.protocol.proofs.Numbered.{list_of-length, list_of-at, list_of-cong}
 use Rattle.protocol.proofs.Rules.{and_first, and_second}
 use Rattle.statements.specs.declared.Statement.{Statement}
-use Rattle.statements.specs.declared.ReadStatement.{ReadStatement}
 use Rattle.statements.specs.Meaning.{stmt_of}
-use Rattle.pool.specs.declared.Found.TheVariants as found
-use Rattle.pool.specs.declared.Placed.{Placed as Answered}
-use Rattle.pool.specs.declared.Placed.TheVariants as placed
+use Rattle.pool.specs.declared.Full.{Full as NoRoom}
 use Rattle.pool.specs.Pool.{stmt_at, pool_len, record_up_to, record_len, record_in, pool_of, AllIn, Grows}
 use Rattle.pool.specs.Changes as memory
-use Rattle.pool.specs.Steps.{found_of}
-use Rattle.pool.proofs.Searches.{found_at, full≢at, at-injective}
+use Rattle.views.specs.Options.{option_of}
+use Rattle.views.proofs.Options.{option-some}
+use Rattle.pool.proofs.Searches.{full≢at, at-injective}
 use Rattle.windows.specs.Windows.{windows_in}
 use Rattle.windows.proofs.Windows.{few-windows}
 use Rattle.engine.specs.declared.Refusal.{Refusal}
@@ -44,9 +41,7 @@ use Rattle.engine.specs.Meaning.{first_senders, answer_is, refusal_is}
 use Rattle.engine.proofs.Pools.{Located, there, absent, in-pool, grown-pool}
 use Rattle.schedule.specs.declared.line.Line.{Line as Held}
 use Rattle.schedule.specs.declared.line.Line.TheVariants as is
-use Rattle.schedule.specs.declared.line.Parsed.TheVariants.{Readable}
 use Rattle.schedule.specs.declared.line.ReadSetup.{ReadSetup}
-use Rattle.schedule.specs.contracts.line.Line as line
 use Rattle.pool.proofs.Records.{pool-length}
 use Rattle.bench.specs.declared.seat.Given.{Given}
 use Rattle.bench.specs.declared.state.Setting.{Setting}
@@ -183,14 +178,14 @@ module _ (p : call.Setup) (faulty : ℕ) where
   setup-is b {ready} {allowed} {windows} e f g =
       ap (λ t. settled b t (setup_allowed 0 p.members p.senders) (windows_allowed p.windows)) e ∙ ap (λ t. settled b ready t (windows_allowed p.windows)) f ∙ ap (settled b ready allowed) g
 
-module _ (W : List ℕ) (g : Setting) (T' S A : List ℕ) (r : ReadSetup) (of : SetupOf T' S A r) (by : SettingUp T') where
+-- a line that was read as a setup is one
+pub setup-read : (T' S A : List ℕ) → SetupOf T' S A None → SettingUp T' → ⊥
+setup-read T' S A of by = of.untold 0 by.tells.0 by.tells.1 (by.tells.2 0)
+
+module _ (W : List ℕ) (g : Setting) (T' S A : List ℕ) (r : ReadSetup) (of : SetupOf T' S A (Some r)) where
   -- the line is the setup that was read
   said : ReadsSetup T' S A r
-  said = go r.ok refl
-    where
-      go : (b : Bool) → r.ok ≡ b → ReadsSetup T' S A r
-      go true e = of.told e
-      go false e = absurd (of.untold e 0 by.tells.0 by.tells.1 (by.tells.2 0))
+  said = of.told
 
   abbrev L₀ : List ℕ
   L₀ = said.senders
@@ -245,7 +240,7 @@ module _ (W : List ℕ) (g : Setting) (T' S A : List ℕ) (r : ReadSetup) (of : 
     setup-shut ew e q a h = refuses refusal.BadWindow ew e (λ X. setup-is P₀ r.faulty (bench_of g.ready (terms_of g) X W) q (allowed-so a) (windows-allowed T' S A r said ∙ h))
 
   pub setup-taken : {who : ℕ} (W' : List ℕ) → who ≡ shown_in S r.count → memory.Cleared W W' → g.ready ≡ false → setup_allowed 0 r.members (first_senders S r.count) ≡ true → windows_allowed (windows_in A r.windows) ≡ true
-      → SetUpBy W g T' (record { who = who; answer = Taken; number = 0; setting = record { ready = true; faulty = r.faulty; members = r.members; notices = r.count; windows = r.windows }; fresh = true; whole = false }) W' S A
+      → SetUpBy W g T' (record { who = who; answer = Ok Taken; number = 0; setting = record { ready = true; faulty = r.faulty; members = r.members; notices = r.count; windows = r.windows }; fresh = true; whole = false }) W' S A
   unfolding answer_is
   setup-taken {who} W' ew n q a v =
       let few : r.count ≤ 64 = omega (arith, allowed-few r.members (first_senders S r.count) a, first-long S r.count) in
@@ -349,29 +344,29 @@ module _ (W : List ℕ) (g : Setting) (st : Statement) (B : List ℕ) (s : Effec
       lie-unknown e k = lie-refused refusal.UnknownNotice e q b k refl refl (λ X. refl)
 
       module _ (k : ltb st.notice (min g.notices 64) ≡ true) where
-        pub lie-again : ToldAs g st.origin (refused_for refusal.Repeated) s → (i : ℕ) → found.At i ≡ found_of (memory.pool_number W x₀) → SteppedOnPool W g (lie x₀) s W
+        pub lie-again : ToldAs g st.origin (refused_for refusal.Repeated) s → (i : ℕ) → Some i ≡ option_of (memory.pool_number W x₀) → SteppedOnPool W g (lie x₀) s W
         unfolding stmt_of
-        lie-again e i f = lie-refused refusal.Repeated e q b k (present-in W x₀ i (found_at (memory.pool_number W x₀) i f)) refl (λ X. refl)
+        lie-again e i f = lie-refused refusal.Repeated e q b k (present-in W x₀ i (option-some (memory.pool_number W x₀) i f)) refl (λ X. refl)
 
         module _ (W' : List ℕ) (n : memory.pool_number W x₀ ≡ none) where
-          pub lie-full : ToldAs g st.origin (refused_for refusal.Full) s → memory.Appended W W' st B placed.Full → SteppedOnPool W g (lie x₀) s W'
+          pub lie-full : ToldAs g st.origin (refused_for refusal.Full) s → memory.Appended W W' st B (Err memory.no_room) → SteppedOnPool W g (lie x₀) s W'
           unfolding stmt_of
           lie-full e a = elim (dec_lt (pool_len W) 512) [
-            | yes l ↦ absurd (full≢at (a.answer ∙ ap (λ o. memory.placed_at o (pool_len W)) n ∙ (if-true (ltb (pool_len W) 512) (placed.At (pool_len W)) placed.Full (lt-ltb (pool_len W) 512 l))))
+            | yes l ↦ absurd (full≢at (a.answer ∙ ap (λ o. memory.placed_at o (pool_len W)) n ∙ (if-true (ltb (pool_len W) 512) (Ok (pool_len W)) (Err memory.no_room) (lt-ltb (pool_len W) 512 l))))
             | no l ↦ subst (λ U. SteppedOnPool W g (lie x₀) s U) (sym (a.full (omega arith)))
                 (lie-refused refusal.Full e q b k (absent-in W x₀ n) (le-leb 512 (length (pool_of W)) (omega (arith, pool-length W))) (λ X. refl))
           ]
 
 module _ (W W' : List ℕ) (g : Setting) (st : Statement) (B : List ℕ) (d : Distinct W) (near : st.origin < 16) (short : st.history.len ≤ 16) (q : g.ready ≡ true) (b : bit g.faulty st.origin ≡ true)
-    (k : ltb st.notice (min g.notices 64) ≡ true) (n : ℕ) (z : memory.pool_number W (stmt_of st B) ≡ none) (a : memory.Appended W W' st B (placed.At n)) where
+    (k : ltb st.notice (min g.notices 64) ≡ true) (n : ℕ) (z : memory.pool_number W (stmt_of st B) ≡ none) (a : memory.Appended W W' st B (Ok n)) where
   room : pool_len W < 512
   room = elim (dec_lt (pool_len W) 512) [
     | yes l ↦ l
-    | no l ↦ absurd (full≢at (sym (a.answer ∙ ap (λ o. memory.placed_at o (pool_len W)) z ∙ (if-false (ltb (pool_len W) 512) (placed.At (pool_len W)) placed.Full (le-ltb (pool_len W) 512 (omega arith))))))
+    | no l ↦ absurd (full≢at (sym (a.answer ∙ ap (λ o. memory.placed_at o (pool_len W)) z ∙ (if-false (ltb (pool_len W) 512) (Ok (pool_len W)) (Err memory.no_room) (le-ltb (pool_len W) 512 (omega arith))))))
   ]
 
   placed-at : n ≡ pool_len W
-  placed-at = at-injective (a.answer ∙ ap (λ o. memory.placed_at o (pool_len W)) z ∙ (if-true (ltb (pool_len W) 512) (placed.At (pool_len W)) placed.Full (lt-ltb (pool_len W) 512 room)))
+  placed-at = at-injective (a.answer ∙ ap (λ o. memory.placed_at o (pool_len W)) z ∙ (if-true (ltb (pool_len W) 512) (Ok (pool_len W)) (Err memory.no_room) (lt-ltb (pool_len W) 512 room)))
 
   longer : pool_of W' ≡ pool_of W ++ (stmt_of st B ∷ [])
   longer = grown-pool W W' st B short (a.new z room) room
@@ -385,7 +380,7 @@ module _ (W W' : List ℕ) (g : Setting) (st : Statement) (B : List ℕ) (d : Di
         ∙ stepped refl refl (pool-length W ∙ sym placed-at) refl refl refl (sym (seat-same X 0 (x ∙ sym (record-kept (one_grows W W' (stmt_of st B) longer) R w)))) (sym longer));
   }
 
-pub appended : {W W' : List ℕ} {st : Statement} {B : List ℕ} {p q : Answered} → memory.Appended W W' st B p → p ≡ q → memory.Appended W W' st B q
+pub appended : {W W' : List ℕ} {st : Statement} {B : List ℕ} {p q : Result ℕ NoRoom} → memory.Appended W W' st B p → p ≡ q → memory.Appended W W' st B q
 appended {W} {W'} {st} {B} a e = subst (memory.Appended W W' st B) e a
 
 -- ---- an `all` that finds nothing missing
@@ -401,7 +396,7 @@ needless W g full k l e q b = subst (LacksNothing W g full) (sym e) (record {
 -- ---- what a line is that is none of the others
 
 pub last-call : (l : Held) → ((k : ℕ) → l ≡ is.Join k → ⊥) → ((k : ℕ) → l ≡ is.Leave k → ⊥) → ((k i m : ℕ) → l ≡ is.Send k i m → ⊥) → is_call l ≡ true
-    → l ≡ is.Turn (seat_of (Readable l)) (minute_in l)
+    → l ≡ is.Turn (seat_of l) (minute_in l)
 last-call is.Setup j v s e = absurd (true≢false (sym e))
 last-call (is.Join k) j v s e = absurd (j k refl)
 last-call (is.Leave k) j v s e = absurd (v k refl)
@@ -434,7 +429,7 @@ last-other is.Lie s g a e = refl
 -- ---- the line that was read
 
 module _ {T' : List ℕ} where
-  pub fit-seat : (l : Held) → ReadFrom l T' → seat_of (Readable l) < 16
+  pub fit-seat : (l : Held) → ReadFrom l T' → seat_of l < 16
   fit-seat is.Setup t = omega arith
   fit-seat (is.Join k) t = (t.tells 0).0
   fit-seat (is.Leave k) t = (t.tells 0).0
@@ -444,8 +439,8 @@ module _ {T' : List ℕ} where
   fit-seat (is.Turn k m) t = (t.tells 0).0
   fit-seat is.Lie t = omega arith
 
-  pub fit_at : {l m : Held} → ReadFrom l T' → l ≡ m → seat_of (Readable m) < 16
-  fit_at {l} {m} f e = subst (λ x. seat_of (Readable x) < 16) e (fit-seat l f)
+  pub fit_at : {l m : Held} → ReadFrom l T' → l ≡ m → seat_of m < 16
+  fit_at {l} {m} f e = subst (λ x. seat_of x < 16) e (fit-seat l f)
 
   pub fit-lie : {l : Held} → ReadFrom l T' → l ≡ is.Lie → Lying T'
   fit-lie f e = record { tells = subst (λ x. Tells (meant x) (ended T')) e f.tells }
@@ -454,30 +449,29 @@ module _ {T' : List ℕ} where
   fit-setup f e = record { tells = subst (λ x. Tells (meant x) (ended T')) e f.tells }
 
 module _ {W W' : List ℕ} {g : Setting} {s : Effect} (T' : List ℕ) where
-  at-line : {R R' S A : List ℕ} {l m : Held} {line : Line} → ReadFrom l T' → l ≡ m → meant m ≡ a_line line → SteppedAs W R g (seat_of (Readable m)) line s W' R' S A → SteppedBy W R g (seat_of (Readable l)) T' s W' R' S A
+  at-line : {R R' S A : List ℕ} {l m : Held} {line : Line} → ReadFrom l T' → l ≡ m → meant m ≡ a_line line → SteppedAs W R g (seat_of m) line s W' R' S A → SteppedBy W R g (seat_of l) T' s W' R' S A
   at-line {R} {R'} {S} {A} {l} {m} {line} f e q a = record {
     line = line;
     reads = subst (λ o. Tells o (ended T')) (ap meant e ∙ q) f.tells _;
-    stepped = subst (λ x. SteppedAs W R g (seat_of (Readable x)) line s W' R' S A) (sym e) a;
+    stepped = subst (λ x. SteppedAs W R g (seat_of x) line s W' R' S A) (sym e) a;
   }
 
-  pub at-setup : {S A : List ℕ} {l : Held} → l ≡ is.Setup → SetUpBy W g T' s W' S A → (R : List ℕ) → AllIn W R → SteppedBy W R g (seat_of (Readable l)) T' s W' R S A
-  at-setup {S} {A} e a R w = subst (λ x. SteppedBy W R g (seat_of (Readable x)) T' s W' R S A) (sym e) (a.over R w)
+  pub at-setup : {S A : List ℕ} {l : Held} → l ≡ is.Setup → SetUpBy W g T' s W' S A → (R : List ℕ) → AllIn W R → SteppedBy W R g (seat_of l) T' s W' R S A
+  at-setup {S} {A} e a R w = subst (λ x. SteppedBy W R g (seat_of x) T' s W' R S A) (sym e) (a.over R w)
 
-  pub at-lie : {l : Held} → l ≡ is.Lie → SteppedOnPoolBy W g T' s W' → (R S A : List ℕ) → AllIn W R → SteppedBy W R g (seat_of (Readable l)) T' s W' R S A
-  at-lie e a R S A w = subst (λ x. SteppedBy W R g (seat_of (Readable x)) T' s W' R S A) (sym e) (a.over R S A w)
+  pub at-lie : {l : Held} → l ≡ is.Lie → SteppedOnPoolBy W g T' s W' → (R S A : List ℕ) → AllIn W R → SteppedBy W R g (seat_of l) T' s W' R S A
+  at-lie e a R S A w = subst (λ x. SteppedBy W R g (seat_of x) T' s W' R S A) (sym e) (a.over R S A w)
 
-  module _ (B : List ℕ) (l : ReadStatement) (of : LiedOf T' g.notices B l) where
-    pub at_told : l.ok ≡ true → SteppedOnPool W g (lie (stmt_of l.statement B)) s W' → SteppedOnPoolBy W g T' s W'
-    at_told e a = record { over = λ R S A w. record { line = lie (stmt_of l.statement B); reads = of.told e; stepped = a.over R S A w } }
+  pub at_told : (B : List ℕ) (st : Statement) → LiedOf T' g.notices B (Some st) → SteppedOnPool W g (lie (stmt_of st B)) s W' → SteppedOnPoolBy W g T' s W'
+  at_told B st of a = record { over = λ R S A w. record { line = lie (stmt_of st B); reads = of.told; stepped = a.over R S A w } }
 
-    pub at-untold : Lying T' → l.ok ≡ false → SteppedOnPool W g no_statement s W' → SteppedOnPoolBy W g T' s W'
-    at-untold t e a = record { over = λ R S A w. record { line = no_statement; reads = lie-untold T' t (min g.notices 64) (of.untold e); stepped = a.over R S A w } }
+  pub at-untold : (B : List ℕ) → LiedOf T' g.notices B None → Lying T' → SteppedOnPool W g no_statement s W' → SteppedOnPoolBy W g T' s W'
+  at-untold B of t a = record { over = λ R S A w. record { line = no_statement; reads = lie-untold T' t (min g.notices 64) of.untold; stepped = a.over R S A w } }
 
 -- a gift, to one record
 module _ {W R R' : List ℕ} (S A : List ℕ) {g : Setting} {s : Effect} {r : Given} (T' : List ℕ) (d : Distinct W) {l : Held} {k : ℕ} (f : ReadFrom l T') where
-  pub at_give : {n : ℕ} → l ≡ is.Give k n → Gives W R g.ready n r R' → ToldAs g k r s → SteppedBy W R g (seat_of (Readable l)) T' s W R' S A
+  pub at_give : {n : ℕ} → l ≡ is.Give k n → Gives W R g.ready n r R' → ToldAs g k r s → SteppedBy W R g (seat_of l) T' s W R' S A
   at_give e m t = at-line T' f e refl (stepped-seated S A (fit_at f e) d (m.to k) t)
 
-  pub at_all : l ≡ is.All k → GivesAll W R g.ready r R' → ToldAs g k r s → SteppedBy W R g (seat_of (Readable l)) T' s W R' S A
+  pub at_all : l ≡ is.All k → GivesAll W R g.ready r R' → ToldAs g k r s → SteppedBy W R g (seat_of l) T' s W R' S A
   at_all e m t = at-line T' f e refl (stepped-seated S A (fit_at f e) d (m.to k) t)

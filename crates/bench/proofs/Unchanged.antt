@@ -1,6 +1,6 @@
 -- Which answers leave a controller as it was, that no request signs, and that a turn with nothing to do has nothing to do whatever room there is and, where it does not wait for a window, at any minute.
 -- Assumes nothing.
-use Rattle.std.specs.Prelude.{if◌then◌else◌}
+use Rattle.std.specs.Prelude.{if◌then◌else◌, Result, Ok, Err}
 use mathlib.Core.Path.{◌≡◌, refl, sym, ap, ◌∙◌}
 use mathlib.Core.Bool.{Bool, true, false, not, ◌&&◌, ◌||◌, true≢false}
 use mathlib.Core.List.{List, [], ◌∷◌, ◌++◌}
@@ -21,20 +21,21 @@ use Rattle.protocol.specs.Turn.{Action, sign, bind_and_sign, enter, deliver, rul
 use Rattle.protocol.proofs.Found.{either, none≢some}
 use Rattle.protocol.proofs.Unchanged.{Idle}
 use Rattle.engine.specs.declared.Answer.{Answer}
-use Rattle.engine.specs.declared.Answer.TheVariants.{Taken, Signed, Entered, Delivered, Left, Quiet, Refused}
+use Rattle.engine.specs.declared.Refusal.{Refusal}
+use Rattle.engine.specs.declared.Answer.TheVariants.{Taken, Signed, Entered, Delivered, Left, Quiet}
 use Rattle.engine.specs.Meaning.{answer_is}
 use Rattle.engine.specs.Promise.{unchanged, signed_of}
 use Rattle.bench.specs.Seats.{changes_is}
 
-pub idle-answer : (W : List ℕ) (x : Answer) → changes_is x ≡ false → Idle (answer_is W x)
+pub idle-answer : (W : List ℕ) (x : Result Answer Refusal) → changes_is x ≡ false → Idle (answer_is W x)
 unfolding answer_is
-idle-answer W Taken e = true≢false e
-idle-answer W (Signed n) e = true≢false e
-idle-answer W (Entered v) e = true≢false e
-idle-answer W (Delivered i m who) e = true≢false e
-idle-answer W Left e = tt
-idle-answer W Quiet e = tt
-idle-answer W (Refused r) e = tt
+idle-answer W (Ok Taken) e = true≢false e
+idle-answer W (Ok (Signed n)) e = true≢false e
+idle-answer W (Ok (Entered v)) e = true≢false e
+idle-answer W (Ok (Delivered i m who)) e = true≢false e
+idle-answer W (Ok Left) e = tt
+idle-answer W (Ok Quiet) e = tt
+idle-answer W (Err r) e = tt
 
 -- nothing was signed
 pub record Unsigned (o : Outcome) : Type 0 where

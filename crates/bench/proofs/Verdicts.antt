@@ -1,6 +1,6 @@
 -- Calls that are refused for what a few fields of their controller say.
 -- Assumes nothing.
-use Rattle.std.specs.Prelude.{if◌then◌else◌}
+use Rattle.std.specs.Prelude.{if◌then◌else◌, Some, None, Result, Ok, Err}
 use mathlib.Core.Path.{◌≡◌, refl, sym, ap, subst, ◌∙◌}
 use mathlib.Core.Bool.{Bool, true, false, not, true≢false, ◌||◌}
 use mathlib.Core.List.{List}
@@ -32,16 +32,14 @@ use Rattle.engine.specs.declared.Controller.{Controller}
 use Rattle.engine.specs.declared.Refusal.{Refusal}
 use Rattle.engine.specs.declared.Refusal.TheVariants.{BadRequest, OutOfPlace, UnknownNotice, BadMinute}
 use Rattle.engine.specs.declared.Answer.{Answer}
-use Rattle.engine.specs.declared.Answer.TheVariants.{Taken, Signed, Entered, Delivered, Left, Quiet, Refused}
+use Rattle.engine.specs.declared.Answer.TheVariants.{Taken, Signed, Entered, Delivered, Left, Quiet}
 use Rattle.engine.specs.Meaning.{controller_is, signed_number, answer_is, refusal_is}
 use Rattle.schedule.specs.Line.{Line, join, leave, send, turn}
 use Rattle.schedule.specs.declared.line.Line.{Line as Held}
 use Rattle.schedule.specs.declared.line.Line.TheVariants as is
-use Rattle.bench.specs.declared.state.Verdict.{Verdict}
-use Rattle.bench.specs.declared.state.Verdict.TheVariants.{Idle, Open}
 use Rattle.bench.specs.Bench as bench
 use Rattle.bench.specs.Bench.{Seat, Bench, Stepped, step}
-use Rattle.bench.specs.Seats.{seat_is, bench_of, Sound, is_call, changes_is, CalledAtSeat, IfIdle, Rests, turn_after, waits_at, turn_known, CalledByLine, denied, minute_in, turn_verdict, join_verdict, leave_verdict, send_verdict, Judged}
+use Rattle.bench.specs.Seats.{seat_is, bench_of, Sound, is_call, changes_is, CalledAtSeat, Known, IfIdle, Rests, turn_after, waits_at, turn_known, CalledByLine, denied, minute_in, turn_verdict, join_verdict, leave_verdict, send_verdict, Judged}
 use Rattle.bench.proofs.Records.{keeps_same}
 use Rattle.bench.proofs.Seats.{grows_same}
 
@@ -82,7 +80,7 @@ abbrev taking : ℕ → ℕ → Bench → Seat → Stepped
 taking k minute b u = bench.after_turn b k (turn_of u.controller u.statements (has_room b.pool) minute) (turn_of u.controller u.statements (has_room b.pool) minute).answer
 
 -- nothing is known after a refused turn
-known-refused : (P : Answer → Type 0) (c : Controller) (minute : ℕ) (q : Refusal) → IfIdle (turn_known c minute (Refused q)) P
+known-refused : (P : Result Answer Refusal → Type 0) (c : Controller) (minute : ℕ) (q : Refusal) → IfIdle (turn_known c minute (Err q)) P
 unfolding turn_known
 known-refused P c minute q = either (λ v. IfIdle v P) (waits_at c minute) (λ w. tt) (λ w. tt)
 
@@ -94,7 +92,7 @@ module _ (W R : List ℕ) (c : Controller) (s : Sound W R) where
   X₀ = record_in W R
 
   -- what the line l does to seat k is g
-  idles : (a : Answer) (k : ℕ) (l : Line) (g : Bench → Seat → Stepped) → ((b : Bench) → step b (some l) ≡ g b (bench.seat b k))
+  idles : (a : Result Answer Refusal) (k : ℕ) (l : Line) (g : Bench → Seat → Stepped) → ((b : Bench) → step b (some l) ≡ g b (bench.seat b k))
       → ((b : Bench) → g b (seat_is W c R) ≡ bench.at b k (record { answer = answer_is W a; controller = d₀; statements = X₀ }) b.pool (signed_number a)) → CalledAtSeat W R c k l (record { answer = a; controller = c }) W R
   idles a k l g h e = record {
     steps = λ ready terms X x. h (bench_of ready terms X W) ∙ ap (g (bench_of ready terms X W)) x ∙ e (bench_of ready terms X W);
@@ -105,16 +103,16 @@ module _ (W R : List ℕ) (c : Controller) (s : Sound W R) where
   }
 
   refuses : (q : Refusal) (k : ℕ) (l : Line) (g : Bench → Seat → Stepped) → ((b : Bench) → step b (some l) ≡ g b (bench.seat b k))
-      → ((b : Bench) → g b (seat_is W c R) ≡ bench.at b k (refuse d₀ X₀ (refusal_is q)) b.pool 0) → CalledAtSeat W R c k l (record { answer = Refused q; controller = c }) W R
+      → ((b : Bench) → g b (seat_is W c R) ≡ bench.at b k (refuse d₀ X₀ (refusal_is q)) b.pool 0) → CalledAtSeat W R c k l (record { answer = Err q; controller = c }) W R
   unfolding answer_is
-  refuses q k l g h e = idles (Refused q) k l g h e
+  refuses q k l g h e = idles (Err q) k l g h e
 
   -- a request f is refused
   asked : (q : Refusal) (k : ℕ) (l : Line) (f : controller.Controller → List Stmt → controller.Outcome) → ((b : Bench) → step b (some l) ≡ bench.at b k (f (bench.seat b k).controller (bench.seat b k).statements) b.pool 0)
-      → f d₀ X₀ ≡ refuse d₀ X₀ (refusal_is q) → CalledAtSeat W R c k l (record { answer = Refused q; controller = c }) W R
+      → f d₀ X₀ ≡ refuse d₀ X₀ (refusal_is q) → CalledAtSeat W R c k l (record { answer = Err q; controller = c }) W R
   asked q k l f h e = refuses q k l (λ b t. bench.at b k (f t.controller t.statements) b.pool 0) h (λ b. ap (λ (o : controller.Outcome). bench.at b k o b.pool 0) e)
 
-  early : (l : Held) → is_call l ≡ true → c.ready ≡ false → CalledByLine W R c l (record { answer = Refused OutOfPlace; controller = c }) W R
+  early : (l : Held) → is_call l ≡ true → c.ready ≡ false → CalledByLine W R c l (record { answer = Err OutOfPlace; controller = c }) W R
   unfolding step bench.turn_at bench.after_turn controller_is
   early is.Setup t e = absurd (true≢false (sym t))
   early (is.Join k) t e = record { line = join k; means = refl; called = asked OutOfPlace k (join k) request_join (λ b. refl) (join-early d₀ X₀ e); rests = tt }
@@ -135,10 +133,10 @@ module _ (W R : List ℕ) (c : Controller) (s : Sound W R) where
     unfolding join_verdict step controller_is
     join-denied k = go (member (view_is c.init) c.number) c.joining refl refl
       where
-        barred : (member (view_is c.init) c.number || c.joining) ≡ true → CalledByLine W R c (is.Join k) (record { answer = Refused BadRequest; controller = c }) W R
+        barred : (member (view_is c.init) c.number || c.joining) ≡ true → CalledByLine W R c (is.Join k) (record { answer = Err BadRequest; controller = c }) W R
         barred h = record { line = join k; means = refl; called = asked BadRequest k (join k) request_join (λ b. refl) (join-barred d₀ X₀ ready h); rests = tt }
 
-        go : (m j : Bool) → member (view_is c.init) c.number ≡ m → c.joining ≡ j → IfIdle (if m then denied BadRequest else if j then denied BadRequest else Open) (λ a. CalledByLine W R c (is.Join k) (record { answer = a; controller = c }) W R)
+        go : (m j : Bool) → member (view_is c.init) c.number ≡ m → c.joining ≡ j → IfIdle (if m then denied BadRequest else if j then denied BadRequest else None) (λ a. CalledByLine W R c (is.Join k) (record { answer = a; controller = c }) W R)
         go true j e f = barred (ap (λ t. t || c.joining) e)
         go false true e f = barred (ap (λ t. member (view_is c.init) c.number || t) f ∙ or-true (member (view_is c.init) c.number))
         go false false e f = tt
@@ -147,10 +145,10 @@ module _ (W R : List ℕ) (c : Controller) (s : Sound W R) where
     unfolding leave_verdict step controller_is
     leave-denied k = go (eqb c.entered.len 0) c.leaving refl refl
       where
-        barred : (eqb (length (views_is c.entered)) 0 || c.leaving) ≡ true → CalledByLine W R c (is.Leave k) (record { answer = Refused BadRequest; controller = c }) W R
+        barred : (eqb (length (views_is c.entered)) 0 || c.leaving) ≡ true → CalledByLine W R c (is.Leave k) (record { answer = Err BadRequest; controller = c }) W R
         barred h = record { line = leave k; means = refl; called = asked BadRequest k (leave k) request_leave (λ b. refl) (leave-barred d₀ X₀ ready h); rests = tt }
 
-        go : (m j : Bool) → eqb c.entered.len 0 ≡ m → c.leaving ≡ j → IfIdle (if m then denied BadRequest else if j then denied BadRequest else Open) (λ a. CalledByLine W R c (is.Leave k) (record { answer = a; controller = c }) W R)
+        go : (m j : Bool) → eqb c.entered.len 0 ≡ m → c.leaving ≡ j → IfIdle (if m then denied BadRequest else if j then denied BadRequest else None) (λ a. CalledByLine W R c (is.Leave k) (record { answer = a; controller = c }) W R)
         go true j e f = barred (ap (λ t. t || c.leaving) (eq-eqb (length (views_is c.entered)) 0 (ap length (none-held c.entered (eqb-true c.entered.len 0 e)))))
         go false true e f = barred (ap (λ t. eqb (length (views_is c.entered)) 0 || t) f ∙ or-true (eqb (length (views_is c.entered)) 0))
         go false false e f = tt
@@ -163,11 +161,11 @@ module _ (W R : List ℕ) (c : Controller) (s : Sound W R) where
         notice-is = ap (ltb i) (list_of-length (min c.notices 64) (λ j. get_or c.senders j 0))
 
         barred : ltb i (min c.notices 64) ≡ true → (not (eqb c.number (sender_of (list_of (min c.notices 64) (λ j. get_or c.senders j 0)) i)) || is_some (when (bit c.requested i) (get_or c.sends i 0))) ≡ true
-            → CalledByLine W R c (is.Send k i m) (record { answer = Refused BadRequest; controller = c }) W R
+            → CalledByLine W R c (is.Send k i m) (record { answer = Err BadRequest; controller = c }) W R
         barred l h = record { line = send k i m; means = refl; called = asked BadRequest k (send k i m) (λ d X. request_send d X i m) (λ b. refl) (send-barred d₀ X₀ i m ready (notice-is ∙ l) h); rests = tt }
 
         go : (n o j : Bool) → ltb i (min c.notices 64) ≡ n → eqb c.number (get_or c.senders i 0) ≡ o → bit c.requested i ≡ j
-            → IfIdle (if not n then denied UnknownNotice else if not o then denied BadRequest else if j then denied BadRequest else Open) (λ a. CalledByLine W R c (is.Send k i m) (record { answer = a; controller = c }) W R)
+            → IfIdle (if not n then denied UnknownNotice else if not o then denied BadRequest else if j then denied BadRequest else None) (λ a. CalledByLine W R c (is.Send k i m) (record { answer = a; controller = c }) W R)
         go false o j l e f = record { line = send k i m; means = refl; called = asked UnknownNotice k (send k i m) (λ d X. request_send d X i m) (λ b. refl) (send-unknown d₀ X₀ i m ready (notice-is ∙ l)); rests = tt }
         go true false j l e f = barred l (another c.number c.senders (min c.notices 64) i (is_some (when (bit c.requested i) (get_or c.sends i 0))) l e)
         go true true true l e f = barred l (repeated (not (eqb c.number (sender_of (list_of (min c.notices 64) (λ j. get_or c.senders j 0)) i))) (bit c.requested i) (get_or c.sends i 0) f)
@@ -175,38 +173,38 @@ module _ (W R : List ℕ) (c : Controller) (s : Sound W R) where
 
 -- ---- a turn that is known to do nothing
 
-after-idle : (W : List ℕ) (b : Bench) (k : ℕ) (o : controller.Outcome) (a : Answer) → changes_is a ≡ false → bench.after_turn b k o (answer_is W a) ≡ bench.at b k o b.pool (signed_number a)
+after-idle : (W : List ℕ) (b : Bench) (k : ℕ) (o : controller.Outcome) (a : Result Answer Refusal) → changes_is a ≡ false → bench.after_turn b k o (answer_is W a) ≡ bench.at b k o b.pool (signed_number a)
 unfolding answer_is bench.after_turn
-after-idle W b k o Taken e = absurd (true≢false e)
-after-idle W b k o (Signed n) e = absurd (true≢false e)
-after-idle W b k o (Entered v) e = absurd (true≢false e)
-after-idle W b k o (Delivered i m who) e = absurd (true≢false e)
-after-idle W b k o Left e = refl
-after-idle W b k o Quiet e = refl
-after-idle W b k o (Refused r) e = refl
+after-idle W b k o (Ok Taken) e = absurd (true≢false e)
+after-idle W b k o (Ok (Signed n)) e = absurd (true≢false e)
+after-idle W b k o (Ok (Entered v)) e = absurd (true≢false e)
+after-idle W b k o (Ok (Delivered i m who)) e = absurd (true≢false e)
+after-idle W b k o (Ok Left) e = refl
+after-idle W b k o (Ok Quiet) e = refl
+after-idle W b k o (Err r) e = refl
 
-still-rests : {W R : List ℕ} {c : Controller} (a : Answer) → Rests W R c a → IfIdle (turn_after a) (Rests W R c)
-still-rests Taken r = tt
-still-rests (Signed n) r = tt
-still-rests (Entered v) r = tt
-still-rests (Delivered i m who) r = tt
-still-rests Left r = r
-still-rests Quiet r = r
-still-rests (Refused q) r = tt
+still-rests : {W R : List ℕ} {c : Controller} (a : Result Answer Refusal) → Rests W R c a → IfIdle (turn_after a) (Rests W R c)
+still-rests (Ok Taken) r = tt
+still-rests (Ok (Signed n)) r = tt
+still-rests (Ok (Entered v)) r = tt
+still-rests (Ok (Delivered i m who)) r = tt
+still-rests (Ok Left) r = r
+still-rests (Ok Quiet) r = r
+still-rests (Err q) r = tt
 
-turn-rest : (W R : List ℕ) (c : Controller) (s : Sound W R) (k minute : ℕ) → minute ≤ last_minute → (t : Verdict) → IfIdle t (Rests W R c) → IfIdle t (λ a. CalledByLine W R c (is.Turn k minute) (record { answer = a; controller = c }) W R)
+turn-rest : (W R : List ℕ) (c : Controller) (s : Sound W R) (k minute : ℕ) → minute ≤ last_minute → (t : Known) → IfIdle t (Rests W R c) → IfIdle t (λ a. CalledByLine W R c (is.Turn k minute) (record { answer = a; controller = c }) W R)
 unfolding step bench.turn_at turn_known
-turn-rest W R c s k minute l (Idle a) r = record {
+turn-rest W R c s k minute l (Some a) r = record {
   line = turn k minute;
   means = refl;
   called = idles W R c s a k (turn k minute) (taking k minute) (λ b. refl)
       (λ b. ap (λ (o : controller.Outcome). bench.after_turn b k o o.answer) (r.turns (has_room b.pool) minute l) ∙ after-idle W b k _ a r.idle);
   rests = either (λ v. IfIdle v (Rests W R c)) (waits_at c minute) (λ w. tt) (λ w. still-rests a r);
 }
-turn-rest W R c s k minute l Open r = tt
+turn-rest W R c s k minute l None r = tt
 
 -- at a minute that no week has
-late : (W R : List ℕ) (c : Controller) (s : Sound W R) (k minute : ℕ) → c.ready ≡ true → ltb last_minute minute ≡ true → CalledByLine W R c (is.Turn k minute) (record { answer = Refused BadMinute; controller = c }) W R
+late : (W R : List ℕ) (c : Controller) (s : Sound W R) (k minute : ℕ) → c.ready ≡ true → ltb last_minute minute ≡ true → CalledByLine W R c (is.Turn k minute) (record { answer = Err BadMinute; controller = c }) W R
 unfolding step bench.turn_at bench.after_turn controller_is
 late W R c s k minute e f = record {
   line = turn k minute;
@@ -217,11 +215,11 @@ late W R c s k minute e f = record {
 
 -- ---- the verdict on a line
 
-module _ (c : Controller) (l : Held) (t : Verdict) where
-  pub judged-early : {v : Verdict} → is_call l ≡ true → c.ready ≡ false → v ≡ denied OutOfPlace → Judged c l t v
+module _ (c : Controller) (l : Held) (t : Known) where
+  pub judged-early : {v : Known} → is_call l ≡ true → c.ready ≡ false → v ≡ denied OutOfPlace → Judged c l t v
   judged-early call e f = subst (Judged c l t) (sym f) (record { answers = λ W R s r. early W R c s l call e })
 
-  module _ {v : Verdict} {k : ℕ} (ready : c.ready ≡ true) where
+  module _ {v : Known} {k : ℕ} (ready : c.ready ≡ true) where
     pub judged-join : l ≡ is.Join k → v ≡ join_verdict c → Judged c l t v
     judged-join e f = subst (λ x. Judged c x t v) (sym e) (subst (Judged c (is.Join k) t) (sym f) (record { answers = λ W R s r. join-denied W R c s ready k }))
 
@@ -242,7 +240,7 @@ module _ (c : Controller) (l : Held) (t : Verdict) where
 
 -- the tests of each
 
-module _ (minute : ℕ) (t : Verdict) where
+module _ (minute : ℕ) (t : Known) where
   pub turn-past : 10079 < minute → denied BadMinute ≡ turn_verdict minute t
   unfolding turn_verdict
   turn-past h = rw (lt-ltb 10079 minute h)
@@ -260,8 +258,8 @@ module _ (c : Controller) (minute : ℕ) where
   unfolding waits_at controller_is
   waits-outside b e f = ap not f ∙ rw e
 
-  module _ (b : Bool) (e : b ≡ waits_at c minute) (a : Answer) where
-    pub known-open : b ≡ true → Open ≡ turn_known c minute a
+  module _ (b : Bool) (e : b ≡ waits_at c minute) (a : Result Answer Refusal) where
+    pub known-open : b ≡ true → None ≡ turn_known c minute a
     unfolding turn_known
     known-open h = rw (sym e ∙ h)
 
@@ -279,7 +277,7 @@ module _ (c : Controller) where
     unfolding join_verdict
     join-again h j = rw (sym e ∙ h, j)
 
-    pub join-open : m ≡ false → c.joining ≡ false → Open ≡ join_verdict c
+    pub join-open : m ≡ false → c.joining ≡ false → None ≡ join_verdict c
     unfolding join_verdict
     join-open h j = rw (sym e ∙ h, j)
 
@@ -291,7 +289,7 @@ module _ (c : Controller) where
   unfolding leave_verdict
   leave-again h j = rw (ne_eqb c.entered.len 0 h, j)
 
-  pub leave-open : (c.entered.len ≡ 0 → ⊥) → c.leaving ≡ false → Open ≡ leave_verdict c
+  pub leave-open : (c.entered.len ≡ 0 → ⊥) → c.leaving ≡ false → None ≡ leave_verdict c
   unfolding leave_verdict
   leave-open h j = rw (ne_eqb c.entered.len 0 h, j)
 
@@ -313,6 +311,6 @@ module _ (c : Controller) where
         unfolding send_verdict
         send-again g = rw (sym e ∙ h, eq-eqb c.number (get_or c.senders i 0) own, sym f ∙ g)
 
-        pub send-open : j ≡ false → Open ≡ send_verdict c i
+        pub send-open : j ≡ false → None ≡ send_verdict c i
         unfolding send_verdict
         send-open g = rw (sym e ∙ h, eq-eqb c.number (get_or c.senders i 0) own, sym f ∙ g)

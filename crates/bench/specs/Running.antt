@@ -1,6 +1,7 @@
 -- A schedule's run: the sixteen controllers and their records in memory, and what was printed so far.
 -- Assumes nothing.
-use Rattle.std.specs.Prelude.{◌≡◌, Bool, true, false, List, [], ◌++◌, ℕ, ◌+◌, ◌*◌, ◌<◌, ◌≤◌, length, get_or, drop}
+use Rattle.schedule.specs.declared.line.Line.{Line as Held}
+use Rattle.std.specs.Prelude.{◌≡◌, ◌⊎◌, Bool, true, false, List, [], ◌++◌, ℕ, None, Result, ◌+◌, ◌*◌, ◌<◌, ◌≤◌, length, get_or, drop}
 use Rattle.std.proofs.Math.Option.{Option, some}
 use Rattle.protocol.specs.Lists.{list_of}
 use Rattle.protocol.specs.Controller.{not_set_up}
@@ -9,10 +10,9 @@ use Rattle.text.specs.Written.{Wrote}
 use Rattle.pool.specs.Pool.{record_len, record_in, AllIn}
 use Rattle.engine.specs.declared.Controller.{Controller}
 use Rattle.engine.specs.declared.Answer.{Answer}
-use Rattle.engine.specs.Meaning.{controller_is}
+use Rattle.engine.specs.declared.Refusal.{Refusal}
+use Rattle.engine.specs.Meaning.{controller_is, Came, signed_number}
 use Rattle.bench.specs.declared.state.Setting.{Setting}
-use Rattle.bench.specs.declared.state.Verdict.{Verdict}
-use Rattle.bench.specs.declared.state.Verdict.TheVariants.{Open}
 use Rattle.bench.specs.declared.lines.Place.{Place}
 use Rattle.bench.specs.declared.lines.Moved.{Moved}
 use Rattle.bench.specs.declared.lines.Ended.{Ended}
@@ -21,10 +21,10 @@ use Rattle.bench.specs.Bench.{Seat, Bench, Reply, new_bench, seat}
 use Rattle.bench.specs.Rows.{row_text, rows_from, ReadAll, refused_row, Printed}
 use Rattle.bench.specs.After.{bench_after, last_bench, SeatAfter}
 use Rattle.bench.specs.Writing.{row_of}
-use Rattle.bench.specs.Seats.{blank, seat_is, terms_of, bench_of, Distinct, Full, IfIdle, Rests, Advanced, word_of_answer, value_of_answer}
+use Rattle.bench.specs.Seats.{blank, seat_is, terms_of, bench_of, Distinct, Full, seat_of, changes_is, CalledByLine, Known, IfIdle, Rests, Advanced, word_of_answer, value_of_answer}
 
 -- The row of a line.
-unfoldable pub row_is : ℕ → ℕ → Answer → ℕ → List ℕ
+unfoldable pub row_is : ℕ → ℕ → Result Answer Refusal → ℕ → List ℕ
 row_is n who a number = row_of n who (word_of_answer a) (value_of_answer a number)
 
 -- The sixteen seats.
@@ -48,9 +48,9 @@ pub record Fulls (Rs : List (List ℕ)) (fs : List ℕ) : Type 0 where
   pub each : (k : ℕ) → k < 16 → Full (get_or Rs k []) (get_or fs k 0)
 
 -- What is known of the next turn of controller k is at k in vs.
-pub record Turnings (W : List ℕ) (cs : List Controller) (Rs : List (List ℕ)) (vs : List Verdict) : Type 0 where
+pub record Turnings (W : List ℕ) (cs : List Controller) (Rs : List (List ℕ)) (vs : List Known) : Type 0 where
   pub long : length vs ≡ 16
-  pub each : (k : ℕ) → k < 16 → IfIdle (get_or vs k Open) (Rests W (get_or Rs k []) (get_or cs k blank))
+  pub each : (k : ℕ) → k < 16 → IfIdle (get_or vs k None) (Rests W (get_or Rs k []) (get_or cs k blank))
 
 -- Every controller has just started, with an empty record.
 pub record Started (p : Setup) (cs : List Controller) (Rs : List (List ℕ)) : Type 0 where
@@ -105,6 +105,14 @@ pub record RowPut (R : List ℕ) (place : Place) (next : ℕ) (row : List ℕ) (
 abbrev pub full_after : Bool → ℕ → ℕ → ℕ
 full_after true n full = n
 full_after false n full = full
+
+-- The line l, which calls the controller c with the record R, was run. The controller is stored where the call may have changed it, and v' is known of its next turn.
+pub record CallRun (W R : List ℕ) (place : Place) (next : ℕ) (c : Controller) (l : Held) (rows : List ℕ) (on : Place) (W' R' : List ℕ) (c' : Controller) (v' : Known) (rows' : List ℕ) : Type 0 where
+  pub came : Came
+  pub called : CalledByLine W R c l came W' R'
+  pub stored : ((changes_is came.answer ≡ true) × (c' ≡ came.controller)) ⊎ ((changes_is came.answer ≡ false) × (c' ≡ c))
+  pub rests : IfIdle v' (Rests W' R' c')
+  pub passed : RowPut rows place next (row_is place.n (seat_of l) came.answer (signed_number came.answer)) on rows'
 
 -- The line in the text T, which calls no controller, was run on the record R at seat k; the senders and windows of a setup stand in the memory S and A after it.
 pub record LineRun (W R : List ℕ) (place : Place) (k : ℕ) (T : List ℕ) (rows : List ℕ) (s : Moved) (W' R' rows' S A : List ℕ) : Type 0 where

@@ -1,6 +1,6 @@
 -- The bench in memory: controllers and records over the pool's memory W, and what a line on one of them promises. R is the memory of a record.
 -- Assumes nothing.
-use Rattle.std.specs.Prelude.{◌≡◌, Bool, true, false, not, ◌&&◌, List, [], ◌++◌, ℕ, ◌+◌, ◌<◌, ◌≤◌, min, eqb, ltb, length, get_or, set, if◌then◌else◌}
+use Rattle.std.specs.Prelude.{◌≡◌, Bool, true, false, not, ◌&&◌, List, [], ◌++◌, ℕ, Option, Some, None, Result, Ok, Err, ◌+◌, ◌<◌, ◌≤◌, min, eqb, ltb, length, get_or, set, if◌then◌else◌}
 use Rattle.std.proofs.Math.Option.{some}
 use Rattle.protocol.specs.Lists.{any, filter, list_of}
 use Rattle.protocol.specs.Sets.{bit}
@@ -12,17 +12,14 @@ use Rattle.protocol.specs.Turn.{turn as turn_of}
 use Rattle.views.specs.Held.{view_is}
 use Rattle.pool.specs.Pool.{stmt_at, pool_len, record_len, record_in, pool_of, AllIn, Grows}
 use Rattle.engine.specs.declared.Controller.{Controller}
-use Rattle.engine.specs.declared.Outcome.{Outcome}
 use Rattle.engine.specs.declared.Answer.{Answer}
 use Rattle.engine.specs.declared.Refusal.{Refusal}
 use Rattle.engine.specs.declared.Refusal.TheVariants.{BadRequest, UnknownNotice, BadMinute}
-use Rattle.engine.specs.declared.Answer.TheVariants.{Taken, Signed, Entered, Delivered, Left, Quiet, Refused}
-use Rattle.engine.specs.Meaning.{setup_is, controller_is, signed_number, answer_is, refusal_is}
+use Rattle.engine.specs.declared.Answer.TheVariants.{Taken, Signed, Entered, Delivered, Left, Quiet}
+use Rattle.engine.specs.Meaning.{setup_is, controller_is, Came, signed_number, answer_is, refusal_is}
 use Rattle.protocol.specs.Controller.{refusal_number, taken}
 use Rattle.schedule.specs.declared.line.Line.{Line as Held}
 use Rattle.schedule.specs.declared.line.Line.TheVariants as is
-use Rattle.schedule.specs.declared.line.Parsed.{Parsed}
-use Rattle.schedule.specs.declared.line.Parsed.TheVariants.{Readable, Unreadable}
 use Rattle.bench.specs.declared.row.Word.{Word}
 use Rattle.bench.specs.declared.row.Word.TheVariants as word
 use Rattle.bench.specs.declared.row.Value.{Value}
@@ -30,8 +27,6 @@ use Rattle.bench.specs.declared.row.Value.TheVariants as value
 use Rattle.bench.specs.declared.seat.Given.{Given}
 use Rattle.bench.specs.declared.state.Setting.{Setting}
 use Rattle.bench.specs.declared.state.Effect.{Effect}
-use Rattle.bench.specs.declared.state.Verdict.{Verdict}
-use Rattle.bench.specs.declared.state.Verdict.TheVariants.{Idle, Open}
 use Rattle.schedule.specs.Line.{Line, ended, Reads}
 use Rattle.schedule.specs.Line as lines
 use Rattle.schedule.specs.Reading.{a_line, meant, Tells}
@@ -111,12 +106,12 @@ pub record NumberMarks (R : List ℕ) (marks : List Bool) : Type 0 where
 unfoldable pub Marked : List Bool → ℕ → ℕ → Type 0
 Marked marks i j = (k : ℕ) → i ≤ k → k < j → get_or marks k false ≡ true
 
--- r is the first number from i on, below n, that has no mark; n where all have.
+-- r is the first number from i on, below n, that has no mark.
 pub record FirstFree (marks : List Bool) (i n r : ℕ) : Type 0 where
   pub from : i ≤ r
-  pub most : r ≤ n
+  pub below : r < n
   pub passed : Marked marks i r
-  pub free : r < n → get_or marks r false ≡ false
+  pub free : get_or marks r false ≡ false
 
 -- The numbers below n that have no mark, rising.
 unfoldable pub unmarked : List Bool → ℕ → List ℕ
@@ -151,17 +146,17 @@ pub record GivesAll (W R : List ℕ) (ready : Bool) (r : Given) (R' : List ℕ) 
 -- ---- a call
 
 -- Whether a call that answers so may have changed its controller.
-abbrev pub changes_is : Answer → Bool
-changes_is Taken = true
-changes_is (Signed n) = true
-changes_is (Entered v) = true
-changes_is (Delivered i m who) = true
-changes_is Left = false
-changes_is Quiet = false
-changes_is (Refused r) = false
+abbrev pub changes_is : Result Answer Refusal → Bool
+changes_is (Ok Taken) = true
+changes_is (Ok (Signed n)) = true
+changes_is (Ok (Entered v)) = true
+changes_is (Ok (Delivered i m who)) = true
+changes_is (Ok Left) = false
+changes_is (Ok Quiet) = false
+changes_is (Err r) = false
 
 -- The line l calls controller c at seat k, which has the record R: what it does to every bench that has them there.
-pub record CalledAtSeat (W R : List ℕ) (c : Controller) (k : ℕ) (l : Line) (o : Outcome) (W' R' : List ℕ) : Type 0 where
+pub record CalledAtSeat (W R : List ℕ) (c : Controller) (k : ℕ) (l : Line) (o : Came) (W' R' : List ℕ) : Type 0 where
   pub steps : (ready : Bool) (terms : Terms) (X : List Seat) → get_or X k empty_seat ≡ seat_is W c R
       → step (bench_of ready terms X W) (some l)
       ≡ record {
@@ -177,16 +172,15 @@ pub record CalledAtSeat (W R : List ℕ) (c : Controller) (k : ℕ) (l : Line) (
 -- ---- any line
 
 -- The controller that a line names; 0 where it names none.
-abbrev pub seat_of : Parsed → ℕ
-seat_of (Readable is.Setup) = 0
-seat_of (Readable (is.Join k)) = k
-seat_of (Readable (is.Leave k)) = k
-seat_of (Readable (is.Send k i m)) = k
-seat_of (Readable (is.Give k n)) = k
-seat_of (Readable (is.All k)) = k
-seat_of (Readable (is.Turn k m)) = k
-seat_of (Readable is.Lie) = 0
-seat_of Unreadable = 0
+abbrev pub seat_of : Held → ℕ
+seat_of is.Setup = 0
+seat_of (is.Join k) = k
+seat_of (is.Leave k) = k
+seat_of (is.Send k i m) = k
+seat_of (is.Give k n) = k
+seat_of (is.All k) = k
+seat_of (is.Turn k m) = k
+seat_of is.Lie = 0
 
 -- Whether a line calls the controller that it names.
 abbrev pub is_call : Held → Bool
@@ -205,50 +199,54 @@ pub record ReadFrom (l : Held) (T : List ℕ) : Type 0 where
 
 -- ---- a call that changes nothing
 
+-- What a call answers that is known to change nothing; none of a call of which nothing is known.
+abbrev pub Known : Type 0
+Known = Option (Result Answer Refusal)
+
 -- P holds of the answer, if the call is known to change nothing.
-abbrev pub IfIdle : Verdict → (Answer → Type 0) → Type 0
-IfIdle (Idle a) P = P a
-IfIdle Open P = Unit {0}
+abbrev pub IfIdle : Known → (Result Answer Refusal → Type 0) → Type 0
+IfIdle (Some a) P = P a
+IfIdle None P = Unit {0}
 
 -- A turn of the controller c with the record R answers a and changes nothing, at every minute of the week and whatever room the pool has.
-pub record Rests (W R : List ℕ) (c : Controller) (a : Answer) : Type 0 where
+pub record Rests (W R : List ℕ) (c : Controller) (a : Result Answer Refusal) : Type 0 where
   pub idle : changes_is a ≡ false
   pub turns : (room : Stmt → Bool) (minute : ℕ) → minute ≤ last_minute → turn_of (controller_is c) (record_in W R) room minute ≡ record { answer = answer_is W a; controller = controller_is c; statements = record_in W R }
 
 -- What is known of the next turn of a controller whose turn answered so: it answers the same where nothing was to do.
-abbrev pub turn_after : Answer → Verdict
-turn_after Taken = Open
-turn_after (Signed n) = Open
-turn_after (Entered v) = Open
-turn_after (Delivered i m who) = Open
-turn_after Left = Idle Left
-turn_after Quiet = Idle Quiet
-turn_after (Refused r) = Open
+abbrev pub turn_after : Result Answer Refusal → Known
+turn_after (Ok Taken) = None
+turn_after (Ok (Signed n)) = None
+turn_after (Ok (Entered v)) = None
+turn_after (Ok (Delivered i m who)) = None
+turn_after (Ok Left) = Some (Ok Left)
+turn_after (Ok Quiet) = Some (Ok Quiet)
+turn_after (Err r) = None
 
 -- The controller c asked to leave, and the minute is outside its windows.
 unfoldable pub waits_at : Controller → ℕ → Bool
 waits_at c minute = c.leaving && not (is_open (controller_is c).windows minute)
 
 -- What is known of the next turn of c, which had a turn at this minute: nothing where it waits for a window, since a later turn may find that open.
-unfoldable pub turn_known : Controller → ℕ → Answer → Verdict
-turn_known c minute a = if waits_at c minute then Open else turn_after a
+unfoldable pub turn_known : Controller → ℕ → Result Answer Refusal → Known
+turn_known c minute a = if waits_at c minute then None else turn_after a
 
 -- The same after any line that calls c.
-abbrev pub next_turn : Controller → Held → Answer → Verdict
-next_turn c is.Setup a = Open
-next_turn c (is.Join k) a = Open
-next_turn c (is.Leave k) a = Open
-next_turn c (is.Send k i m) a = Open
-next_turn c (is.Give k n) a = Open
-next_turn c (is.All k) a = Open
+abbrev pub next_turn : Controller → Held → Result Answer Refusal → Known
+next_turn c is.Setup a = None
+next_turn c (is.Join k) a = None
+next_turn c (is.Leave k) a = None
+next_turn c (is.Send k i m) a = None
+next_turn c (is.Give k n) a = None
+next_turn c (is.All k) a = None
 next_turn c (is.Turn k minute) a = turn_known c minute a
-next_turn c is.Lie a = Open
+next_turn c is.Lie a = None
 
 -- The line l calls the controller c, which has the record R.
-pub record CalledByLine (W R : List ℕ) (c : Controller) (l : Held) (o : Outcome) (W' R' : List ℕ) : Type 0 where
+pub record CalledByLine (W R : List ℕ) (c : Controller) (l : Held) (o : Came) (W' R' : List ℕ) : Type 0 where
   pub line : Line
   pub means : meant l ≡ a_line line
-  pub called : CalledAtSeat W R c (seat_of (Readable l)) line o W' R'
+  pub called : CalledAtSeat W R c (seat_of l) line o W' R'
   pub rests : IfIdle (next_turn c l o.answer) (Rests W' R' o.controller)
 
 -- What a setup names, of which the senders and the windows were read into the memory S and A.
@@ -260,19 +258,19 @@ pub record MayStart (p : Setup) : Type 0 where
   pub allowed : setup_allowed 0 p.members p.senders ≡ true
   pub windows : windows_allowed p.windows ≡ true
 
-abbrev pub denied : Refusal → Verdict
-denied q = Idle (Refused q)
+abbrev pub denied : Refusal → Known
+denied q = Some (Err q)
 
-unfoldable pub join_verdict : Controller → Verdict
-join_verdict c = if member (view_is c.init) c.number then denied BadRequest else if c.joining then denied BadRequest else Open
+unfoldable pub join_verdict : Controller → Known
+join_verdict c = if member (view_is c.init) c.number then denied BadRequest else if c.joining then denied BadRequest else None
 
-unfoldable pub leave_verdict : Controller → Verdict
-leave_verdict c = if eqb c.entered.len 0 then denied BadRequest else if c.leaving then denied BadRequest else Open
+unfoldable pub leave_verdict : Controller → Known
+leave_verdict c = if eqb c.entered.len 0 then denied BadRequest else if c.leaving then denied BadRequest else None
 
-unfoldable pub send_verdict : Controller → ℕ → Verdict
+unfoldable pub send_verdict : Controller → ℕ → Known
 send_verdict c notice =
     if not (ltb notice (min c.notices 64)) then denied UnknownNotice
-    else if not (eqb c.number (get_or c.senders notice 0)) then denied BadRequest else if bit c.requested notice then denied BadRequest else Open
+    else if not (eqb c.number (get_or c.senders notice 0)) then denied BadRequest else if bit c.requested notice then denied BadRequest else None
 
 -- The minute of a turn; 0 in any other line.
 abbrev pub minute_in : Held → ℕ
@@ -285,11 +283,11 @@ minute_in (is.All k) = 0
 minute_in (is.Turn k minute) = minute
 minute_in is.Lie = 0
 
-unfoldable pub turn_verdict : ℕ → Verdict → Verdict
+unfoldable pub turn_verdict : ℕ → Known → Known
 turn_verdict minute turn = if ltb last_minute minute then denied BadMinute else turn
 
 -- The call of the line l on the controller c, of whose turn `turn` is known, answers so and changes nothing, if that is known of it.
-pub record Judged (c : Controller) (l : Held) (turn v : Verdict) : Type 0 where
+pub record Judged (c : Controller) (l : Held) (turn v : Known) : Type 0 where
   pub answers : (W R : List ℕ) → Sound W R → IfIdle turn (Rests W R c) → IfIdle v (λ a. CalledByLine W R c l (record { answer = a; controller = c }) W R)
 
 -- The seats after a line that calls no controller: a setup that is taken starts all of them, every other line changes at most one record.
@@ -298,7 +296,7 @@ seats_after fresh p W' R' k X =
     if fresh then list_of controllers (λ j. record { controller = started j p; statements = [] })
     else set X k (record { controller = (get_or X k empty_seat).controller; statements = record_in W' R' })
 
-abbrev pub reply_is : List ℕ → ℕ → Answer → ℕ → Reply
+abbrev pub reply_is : List ℕ → ℕ → Result Answer Refusal → ℕ → Reply
 reply_is W who a number = record { who = who; answer = answer_is W a; number = number }
 
 -- The line l, which calls no controller, on a bench that has the record R at seat k: its reply is y, and what the setup said is h after it. `fresh` tells that every controller is to start,
@@ -352,35 +350,35 @@ pub record ToldAs (g : Setting) (who : ℕ) (r : Given) (s : Effect) : Type 0 wh
   pub whole : s.whole ≡ r.whole
 
 abbrev pub refused_for : Refusal → Given
-refused_for q = record { answer = Refused q; number = 0; whole = false }
+refused_for q = record { answer = Err q; number = 0; whole = false }
 
 abbrev pub taken_as : ℕ → Bool → Given
-taken_as n whole = record { answer = Taken; number = n; whole = whole }
+taken_as n whole = record { answer = Ok Taken; number = n; whole = whole }
 
 -- The line leaves every bench as it is and answers taken with 0, where the record of the controller that it names has every number below full.
 pub record LacksNothing (W : List ℕ) (g : Setting) (full : ℕ) (l : Held) : Type 0 where
   pub line : Line
   pub means : meant l ≡ a_line line
-  pub steps : (R : List ℕ) → Sound W R → Full R full → (X : List Seat) → (get_or X (seat_of (Readable l)) empty_seat).statements ≡ record_in W R
+  pub steps : (R : List ℕ) → Sound W R → Full R full → (X : List Seat) → (get_or X (seat_of l) empty_seat).statements ≡ record_in W R
       → step (bench_of g.ready (terms_of g) X W) (some line)
-      ≡ record { reply = record { who = seat_of (Readable l); answer = taken; number = 0 }; bench = bench_of g.ready (terms_of g) X W }
+      ≡ record { reply = record { who = seat_of l; answer = taken; number = 0 }; bench = bench_of g.ready (terms_of g) X W }
 
 -- ---- rows
 
-abbrev pub word_of_answer : Answer → Word
-word_of_answer Taken = word.Taken
-word_of_answer (Signed n) = word.Signed
-word_of_answer (Entered v) = word.Entered
-word_of_answer (Delivered i m who) = word.Delivered
-word_of_answer Left = word.Left
-word_of_answer Quiet = word.Quiet
-word_of_answer (Refused r) = word.Refused
+abbrev pub word_of_answer : Result Answer Refusal → Word
+word_of_answer (Ok Taken) = word.Taken
+word_of_answer (Ok (Signed n)) = word.Signed
+word_of_answer (Ok (Entered v)) = word.Entered
+word_of_answer (Ok (Delivered i m who)) = word.Delivered
+word_of_answer (Ok Left) = word.Left
+word_of_answer (Ok Quiet) = word.Quiet
+word_of_answer (Err r) = word.Refused
 
-abbrev pub value_of_answer : Answer → ℕ → Value
-value_of_answer Taken n = value.Number n
-value_of_answer (Signed i) n = value.Number n
-value_of_answer (Entered v) n = value.View v
-value_of_answer (Delivered i m who) n = value.Number m
-value_of_answer Left n = value.Number 0
-value_of_answer Quiet n = value.Number 0
-value_of_answer (Refused r) n = value.Number (refusal_number (refusal_is r))
+abbrev pub value_of_answer : Result Answer Refusal → ℕ → Value
+value_of_answer (Ok Taken) n = value.Number n
+value_of_answer (Ok (Signed i)) n = value.Number n
+value_of_answer (Ok (Entered v)) n = value.View v
+value_of_answer (Ok (Delivered i m who)) n = value.Number m
+value_of_answer (Ok Left) n = value.Number 0
+value_of_answer (Ok Quiet) n = value.Number 0
+value_of_answer (Err r) n = value.Number (refusal_number (refusal_is r))

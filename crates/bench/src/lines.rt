@@ -1,22 +1,20 @@
 // A schedule to its rows.
 ghost use Rattle.std.specs.Prelude.{◌≡◌, true, false, ◌+◌, ◌<◌, ◌≤◌, length};
 ghost use Rattle.text.specs.Written.{Wrote};
-ghost use Rattle.engine.specs.Meaning.{setup_is};
-ghost use Rattle.schedule.specs.declared.line.Parsed.TheVariants.{Readable};
 ghost use Rattle.bench.specs.Rows.{refused_row, Answered};
 ghost use Rattle.bench.specs.After.{SeatAfter};
-ghost use Rattle.bench.specs.Seats.{Sound, Full, ReadFrom, seat_of, is_call, word_of_answer, value_of_answer, MayStart};
+ghost use Rattle.bench.specs.Seats.{Sound, Full, ReadFrom, seat_of, is_call, IfIdle, Rests, word_of_answer, value_of_answer, setup_in, MayStart};
 ghost use Rattle.bench.specs.Writing.{row_of};
-ghost use Rattle.bench.specs.Running.{row_is, Started, HasRoom, RowPut, full_after, LineRun, AtStart, Ran, NotRun, RanWith, PrintedInto, Long};
+ghost use Rattle.bench.specs.Running.{row_is, Started, HasRoom, RowPut, full_after, CallRun, LineRun, AtStart, Ran, NotRun, RanWith, PrintedInto, Long};
 ghost use Rattle.pool.specs.Pool.{pool_len};
 
 use crate::row::{Value, Word};
-use crate::state::{NOBODY, Setting, Verdict};
+use crate::state::{Known, NOBODY, Setting};
 use crate::{row, state};
-use engine::{Answer, Controller, Setup};
+use engine::{Answer, Controller, Refusal, Setup};
 use pool::{POOL_WORDS, RECORD};
 use schedule::line;
-use schedule::line::{Line, Parsed};
+use schedule::line::Line;
 use statements::NOTICES;
 use views::View;
 use windows::WINDOWS;
@@ -33,31 +31,31 @@ const UNREADABLE: u64 = 8;
 // Enough for the rows of any schedule.
 pub const ROWS_MAX: usize = 2621504;
 
-fn word_of(a: Answer) -> Word
+fn word_of(a: Result<Answer, Refusal>) -> Word
     ensures { result ≡ word_of_answer a }
 {
     match a {
-        Answer::Taken => Word::Taken,
-        Answer::Signed(_) => Word::Signed,
-        Answer::Entered(_) => Word::Entered,
-        Answer::Delivered(_, _, _) => Word::Delivered,
-        Answer::Left => Word::Left,
-        Answer::Quiet => Word::Quiet,
-        Answer::Refused(_) => Word::Refused,
+        Ok(Answer::Taken) => Word::Taken,
+        Ok(Answer::Signed(_)) => Word::Signed,
+        Ok(Answer::Entered(_)) => Word::Entered,
+        Ok(Answer::Delivered(_, _, _)) => Word::Delivered,
+        Ok(Answer::Left) => Word::Left,
+        Ok(Answer::Quiet) => Word::Quiet,
+        Err(_) => Word::Refused,
     }
 }
 
-fn value_of(a: Answer, n: u64) -> Value
+fn value_of(a: Result<Answer, Refusal>, n: u64) -> Value
     ensures { result ≡ value_of_answer a n }
 {
     match a {
-        Answer::Taken => Value::Number(n),
-        Answer::Signed(_) => Value::Number(n),
-        Answer::Entered(v) => Value::View(v),
-        Answer::Delivered(_, m, _) => Value::Number(m),
-        Answer::Left => Value::Number(0),
-        Answer::Quiet => Value::Number(0),
-        Answer::Refused(r) => Value::Number(engine::refusal_number(r)),
+        Ok(Answer::Taken) => Value::Number(n),
+        Ok(Answer::Signed(_)) => Value::Number(n),
+        Ok(Answer::Entered(v)) => Value::View(v),
+        Ok(Answer::Delivered(_, m, _)) => Value::Number(m),
+        Ok(Answer::Left) => Value::Number(0),
+        Ok(Answer::Quiet) => Value::Number(0),
+        Err(r) => Value::Number(engine::refusal_number(r)),
     }
 }
 
@@ -101,7 +99,14 @@ fn put_line(rows: &mut [u8], place: Place, next: usize, who: u64, word: Word, va
 }
 
 // The row of an answer.
-fn put_step(rows: &mut [u8], place: Place, next: usize, who: u64, a: Answer, number: u64) -> Place
+fn put_step(
+    rows: &mut [u8],
+    place: Place,
+    next: usize,
+    who: u64,
+    a: Result<Answer, Refusal>,
+    number: u64,
+) -> Place
     requires { HasRoom place next × (who ≤ 16) }
     ensures { RowPut rows.old place next (row_is place.n who a number) result rows.new }
 {
@@ -125,47 +130,41 @@ fn put_unreadable(rows: &mut [u8], place: Place, next: usize) -> Place
 
 // The seat of the controller that a line names; the first where it names none.
 fn seat_of(line: Line) -> usize
-    ensures { result ≡ seat_of (Readable line) }
+    ensures { result ≡ seat_of line }
 {
     match line {
-        Line::Setup => 0,
-        Line::Join(k) => k as usize,
-        Line::Leave(k) => k as usize,
-        Line::Send(k, _, _) => k as usize,
-        Line::Give(k, _) => k as usize,
-        Line::All(k) => k as usize,
-        Line::Turn(k, _) => k as usize,
-        Line::Lie => 0,
+        Line::Setup | Line::Lie => 0,
+        Line::Join(k)
+        | Line::Leave(k)
+        | Line::Send(k, _, _)
+        | Line::Give(k, _)
+        | Line::All(k)
+        | Line::Turn(k, _) => k as usize,
     }
-}
-
-// How many records there are. A proof that one was written asks for it.
-fn seats_of(records: &[[u16; RECORD]; SEATS]) -> usize
-    ensures { length records.now ≡ 16 }
-{
-    let s = &records[..];
-    s.len()
 }
 
 // Sixteen controllers that have just started, and their records emptied.
 fn start_all(
     records: &mut [[u16; RECORD]; SEATS],
-    s: Setup,
+    g: Setting,
     senders: &[u8; NOTICES],
     windows: &[u64; WINDOWS],
 ) -> [Controller; SEATS]
-    requires { MayStart (setup_is s senders.now windows.now) }
-    ensures { Started (setup_is s senders.now windows.now) result records.new }
+    requires { MayStart (setup_in g senders.now windows.now) }
+    ensures { Started (setup_in g senders.now windows.now) result records.new }
 {
-    seats_of(records);
+    let s = Setup {
+        members: g.members,
+        notices: g.notices,
+        windows: g.windows,
+    };
     let c = Controller::new();
     let mut seats = [c; SEATS];
-    let mut k = 0usize;
-    while k < SEATS {
-        let o = c.setup(&mut records[k], k as u8, s, senders, windows);
-        let d = o.controller;
-        seats[k] = d;
-        k += 1;
+    for k in 0..SEATS {
+        let Ok(o) = c.setup(&mut records[k], k as u8, s, senders, windows) else {
+            unreachable!();
+        };
+        seats[k] = o.controller;
     }
     seats
 }
@@ -174,10 +173,41 @@ fn start_all(
 fn known(words: &[u64; POOL_WORDS], whole: bool, full: usize) -> usize
     ensures { result ≡ full_after whole (pool_len words.now) full }
 {
-    if whole {
-        return pool::pool_len(words);
+    if whole { pool::pool_len(words) } else { full }
+}
+
+// A line that calls the controller c: what it does, and its row. The controller is lent, and stored only where the call may have changed it.
+fn run_call(
+    rows: &mut [u8],
+    place: Place,
+    next: usize,
+    c: &mut Controller,
+    turn: &mut Known,
+    ids: &mut [u16; RECORD],
+    words: &mut [u64; POOL_WORDS],
+    line: Line,
+) -> Place
+    requires { Sound words.old ids.old × (is_call line ≡ true) × HasRoom place next × (seat_of line < 16) × IfIdle turn.old (Rests words.old ids.old c.old) }
+    ensures { CallRun words.old ids.old place next c.old line rows.old result words.new ids.new c.new turn.new rows.new }
+{
+    let k = seat_of(line) as u64;
+    let judged = state::judge(*c, line, *turn);
+    if let Some(a) = judged {
+        return put_step(rows, place, next, k, a, state::number_of(a));
     }
-    full
+    let called = *c;
+    let came = state::call(called, ids, words, line);
+    let a = match came {
+        Ok(o) => {
+            if state::changes(o.answer) {
+                *c = o.controller;
+            }
+            Ok(o.answer)
+        }
+        Err(refusal) => Err(refusal),
+    };
+    *turn = state::next_turn(called, line, a);
+    put_step(rows, place, next, k, a, state::number_of(a))
 }
 
 // A line that calls no controller: what it does, and its row. The senders and windows of a setup go to the memory.
@@ -193,16 +223,17 @@ fn run_line(
     windows: &mut [u64; WINDOWS],
 ) -> Moved
     requires { Sound words.old ids.old × ReadFrom line text.now × (is_call line ≡ false) × HasRoom place (length text.now + 1) × Full ids.old full }
-    ensures { LineRun words.old ids.old place (seat_of (Readable line)) text.now rows.old result words.new ids.new rows.new senders.new windows.new }
+    ensures { LineRun words.old ids.old place (seat_of line) text.now rows.old result words.new ids.new rows.new senders.new windows.new }
 {
     let next = text.len() + 1;
     let g = place.setting;
     let s = state::step(ids, words, g, line, text, senders, windows);
-    let a = s.answer;
-    let h = s.setting;
-    let on = put_step(rows, place, next, s.who, a, s.number);
+    let on = put_step(rows, place, next, s.who, s.answer, s.number);
     Moved {
-        place: Place { setting: h, ..on },
+        place: Place {
+            setting: s.setting,
+            ..on
+        },
         fresh: s.fresh,
         full: known(words, s.whole, full),
     }
@@ -249,48 +280,35 @@ fn run_lines(schedule: &[u8], rows: &mut [u8], words: &mut [u64; POOL_WORDS], wh
     // The record of controller k is known to have every number below full[k].
     let mut full = [0usize; SEATS];
     // A turn that finds nothing to do, and waits for no window, finds nothing again until its controller or its record changes.
-    let mut turns = [Verdict::Open; SEATS];
+    let mut turns: [Known; SEATS] = [None; SEATS];
     pool::clear(words);
     let mut place = first();
     while place.at < schedule.len() {
         let at = place.at;
         let read = line::read_line(&schedule[at..]);
         let next = read.next;
-        let parsed = read.parsed;
-        let Parsed::Readable(line) = parsed else {
-            let on = put_unreadable(rows, place, next);
-            place = on;
+        let Some(line) = read.parsed else {
+            place = put_unreadable(rows, place, next);
             continue;
         };
         let k = seat_of(line);
         // No other line looks at a controller, so that none is copied.
         if state::is_call(line) {
-            let seen = seats[k];
-            let turn = turns[k];
-            let judged = state::judge(seen, line, turn);
-            if let Verdict::Idle(a) = judged {
-                let on = put_step(rows, place, next, k as u64, a, state::number_of(a));
-                place = on;
-                continue;
-            }
-            let named = seats[k];
-            let o = state::call(named, &mut records[k], words, line);
-            let a = o.answer;
-            if state::changes(a) {
-                let d = o.controller;
-                seats[k] = d;
-            }
-            turns[k] = state::next_turn(named, line, a);
-            let on = put_step(rows, place, next, k as u64, a, state::number_of(a));
-            place = on;
+            place = run_call(
+                rows,
+                place,
+                next,
+                &mut seats[k],
+                &mut turns[k],
+                &mut records[k],
+                words,
+                line,
+            );
             continue;
         }
-        let below = full[k];
-        let setting = place.setting;
         // Nothing changes, and most lines of a long honest schedule are such.
-        if state::lacks_nothing(line, setting, words, below) {
-            let on = put_line(rows, place, next, k as u64, Word::Taken, Value::Number(0));
-            place = on;
+        if state::lacks_nothing(line, place.setting, words, full[k]) {
+            place = put_line(rows, place, next, k as u64, Word::Taken, Value::Number(0));
             continue;
         }
         let text = &schedule[at..at + next - 1];
@@ -303,30 +321,20 @@ fn run_lines(schedule: &[u8], rows: &mut [u8], words: &mut [u64; POOL_WORDS], wh
             words,
             line,
             text,
-            below,
+            full[k],
             &mut senders,
             &mut windows,
         );
-        let on = s.place;
-        place = on;
+        place = s.place;
         full[k] = s.full;
-        turns[k] = Verdict::Open;
+        turns[k] = None;
         if s.fresh {
-            let g = on.setting;
-            let named = Setup {
-                members: g.members,
-                notices: g.notices,
-                windows: g.windows,
-            };
-            let all = start_all(&mut records, named, &senders, &windows);
-            seats = all;
+            seats = start_all(&mut records, place.setting, &senders, &windows);
             full = [0usize; SEATS];
-            turns = [Verdict::Open; SEATS];
+            turns = [None; SEATS];
         }
     }
-    let controller = seats[who];
-    let ids = records[who];
-    end_of(place.out, controller, ids)
+    end_of(place.out, seats[who], records[who])
 }
 
 // The only row of a schedule that is not run.
@@ -359,10 +367,7 @@ fn run_with(schedule: &[u8], rows: &mut [u8], words: &mut [u64; POOL_WORDS], who
     ensures { RanWith schedule.now rows.old who result rows.new words.new }
 {
     row::put_header(rows);
-    if schedule.len() == 0 {
-        return not_run(rows);
-    }
-    if schedule.len() > SCHEDULE_MAX {
+    if schedule.is_empty() || schedule.len() > SCHEDULE_MAX {
         return not_run(rows);
     }
     run_lines(schedule, rows, words, who)

@@ -1,11 +1,13 @@
 // The rows that the bench prints, written over lent memory.
-ghost use Rattle.std.specs.Prelude.{◌∷◌, ◌+◌, ◌<◌, ◌≤◌, length};
+ghost use Rattle.std.specs.Prelude.{◌≡◌, ◌∷◌, ◌+◌, ◌<◌, ◌≤◌, length};
 ghost use Rattle.text.specs.Written.{Wrote};
 ghost use Rattle.bench.specs.Rows.{header_text};
 ghost use Rattle.bench.specs.Writing.{word_is, value_shown, row_of};
 
 use text::NEWLINE;
 use views::View;
+
+const COMMA: u8 = b',';
 
 // How long the header is.
 pub const HEADER: usize = 22;
@@ -30,20 +32,32 @@ pub enum Value {
     View(View),
 }
 
+impl Word {
+    // As a row has it.
+    fn text(self) -> &'static [u8]
+        ensures { result.now ≡ word_is self }
+    {
+        match self {
+            Word::Taken => b"taken",
+            Word::Signed => b"signed",
+            Word::Entered => b"entered",
+            Word::Delivered => b"delivered",
+            Word::Left => b"left",
+            Word::Quiet => b"quiet",
+            Word::Refused => b"refused",
+        }
+    }
+}
+
 // Of a text that stands from `at` on, writes what has room; the answer is where it would end.
 fn put_within(out: &mut [u8], at: usize, t: &[u8]) -> usize
     requires { (at ≤ 2621504) × (length t.now ≤ 40) }
     ensures { Wrote out.old at t.now result out.new }
 {
-    let mut i = 0usize;
-    while i < t.len() {
-        if at + i >= out.len() {
-            return at + t.len();
-        }
-        out[at + i] = t[i];
-        i += 1;
-    }
-    at + i
+    let start = at.min(out.len());
+    let room = t.len().min(out.len() - start);
+    out[start..start + room].copy_from_slice(&t[..room]);
+    at + t.len()
 }
 
 // A comma and the word; the longest has nine letters.
@@ -51,15 +65,8 @@ fn put_word(out: &mut [u8], at: usize, word: Word) -> usize
     requires { at + 10 ≤ length out.old }
     ensures { Wrote out.old at (44 ∷ word_is word) result out.new }
 {
-    match word {
-        Word::Taken => text::write_text(out, at, b",taken"),
-        Word::Signed => text::write_text(out, at, b",signed"),
-        Word::Entered => text::write_text(out, at, b",entered"),
-        Word::Delivered => text::write_text(out, at, b",delivered"),
-        Word::Left => text::write_text(out, at, b",left"),
-        Word::Quiet => text::write_text(out, at, b",quiet"),
-        Word::Refused => text::write_text(out, at, b",refused"),
-    }
+    out[at] = COMMA;
+    text::write_text(out, at + 1, word.text())
 }
 
 // A comma and the value; the longest has twenty digits.

@@ -1,14 +1,14 @@
 // What a line does to the record of the controller that it names.
-ghost use Rattle.std.specs.Prelude.{◌≡◌, true, ◌+◌, ◌≤◌, length};
+ghost use Rattle.std.specs.Prelude.{◌≡◌, true, ◌+◌, ◌≤◌, length, MatchOption};
 ghost use Rattle.bench.specs.Seats.{Sound, has_number, NumbersBelow, NumberMarks, Marked, FirstFree, unmarked, RecordFilled, refused_for, taken_as, Gives, GivesAll};
 
 use engine::{Answer, Refusal};
 use pool::{CAPACITY, POOL_WORDS, RECORD};
 
-// The answer, the number that its row may need, and whether the record has all of the pool.
+// What was answered, the number that its row may need, and whether the record has all of the pool.
 #[derive(Clone, Copy)]
 pub struct Given {
-    pub answer: Answer,
+    pub answer: Result<Answer, Refusal>,
     pub number: u64,
     pub whole: bool,
 }
@@ -17,7 +17,7 @@ pub fn refused(r: Refusal) -> Given
     ensures { result ≡ refused_for r }
 {
     Given {
-        answer: Answer::Refused(r),
+        answer: Err(r),
         number: 0,
         whole: false,
     }
@@ -27,9 +27,9 @@ pub fn taken(n: u64, whole: bool) -> Given
     ensures { result ≡ taken_as n whole }
 {
     Given {
-        answer: Answer::Taken,
+        answer: Ok(Answer::Taken),
         number: n,
-        whole: whole,
+        whole,
     }
 }
 
@@ -38,20 +38,7 @@ fn has_number(ids: &[u16; RECORD], n: u16) -> bool
     ensures { result ≡ has_number ids.now n }
 {
     let end = pool::record_length(ids);
-    let mut i = 0usize;
-    while i < end {
-        if ids[i] == n {
-            return true;
-        }
-        i += 1;
-    }
-    false
-}
-
-fn index(id: u16) -> usize
-    ensures { result ≡ id }
-{
-    id as usize
+    ids[..end].contains(&n)
 }
 
 // Which numbers a record has.
@@ -61,11 +48,8 @@ fn marks_of(ids: &[u16; RECORD]) -> [bool; CAPACITY]
 {
     let end = pool::record_length(ids);
     let mut marks = [false; CAPACITY];
-    let mut i = 0usize;
-    while i < end {
-        let id = index(ids[i]);
-        marks[id] = true;
-        i += 1;
+    for id in &ids[..end] {
+        marks[usize::from(*id)] = true;
     }
     marks
 }
@@ -85,40 +69,36 @@ fn skip_eights(marks: &[bool; CAPACITY], from: usize, n: usize) -> usize
     ensures { (from ≤ result) × (result ≤ n) × Marked marks.now from result }
 {
     let mut i = from;
-    while i + 8 <= n {
-        if !has_eight(marks, i) {
-            return i;
-        }
+    while i + 8 <= n && has_eight(marks, i) {
         i += 8;
     }
     i
 }
 
-// The first number from `from` on that has no mark, or n.
-fn first_free(marks: &[bool; CAPACITY], from: usize, n: usize) -> usize
+// The first number from `from` on, below n, that has no mark.
+fn first_free(marks: &[bool; CAPACITY], from: usize, n: usize) -> Option<usize>
     requires { (from ≤ n) × (n ≤ 512) }
-    ensures { FirstFree marks.now from n result }
+    ensures { MatchOption result (Marked marks.now from n) (λ free. FirstFree marks.now from n free) }
 {
-    let mut i = skip_eights(marks, from, n);
-    while i < n {
+    for i in skip_eights(marks, from, n)..n {
         if !marks[i] {
-            return i;
+            return Some(i);
         }
-        i += 1;
     }
-    i
+    None
 }
 
 // How many numbers below n have no mark.
 fn count_free(marks: &[bool; CAPACITY], n: usize) -> usize
     requires { n ≤ 512 }
-    ensures { (result ≡ length (unmarked marks.now n)) × (result ≤ n) }
+    ensures count { result ≡ length (unmarked marks.now n) }
+    ensures most { result ≤ n }
 {
-    let mut count = 0usize;
-    let mut i = first_free(marks, 0, n);
-    while i < n {
+    let mut count = 0;
+    let mut from = 0;
+    while let Some(free) = first_free(marks, from, n) {
         count += 1;
-        i = first_free(marks, i + 1, n);
+        from = free + 1;
     }
     count
 }
@@ -128,10 +108,10 @@ fn fill(ids: &mut [u16; RECORD], marks: &[bool; CAPACITY], n: usize)
     requires { n ≤ 512 }
     ensures { RecordFilled ids.old marks.now n ids.new }
 {
-    let mut i = first_free(marks, 0, n);
-    while i < n {
-        pool::record_push(ids, i as u16);
-        i = first_free(marks, i + 1, n);
+    let mut from = 0;
+    while let Some(free) = first_free(marks, from, n) {
+        pool::record_push(ids, free as u16);
+        from = free + 1;
     }
 }
 
@@ -140,10 +120,7 @@ pub fn give(ids: &mut [u16; RECORD], words: &[u64; POOL_WORDS], ready: bool, n: 
     requires { Sound words.now ids.old }
     ensures { Gives words.now ids.old ready n result ids.new }
 {
-    if !ready {
-        return refused(Refusal::OutOfPlace);
-    }
-    if n >= pool::pool_len(words) as u64 {
+    if !ready || n >= pool::pool_len(words) as u64 {
         return refused(Refusal::OutOfPlace);
     }
     if has_number(ids, n as u16) {

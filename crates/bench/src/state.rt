@@ -2,16 +2,15 @@
 ghost use Rattle.std.specs.Prelude.{◌≡◌, true, false, ◌<◌, ◌≤◌};
 ghost use Rattle.protocol.specs.Sets.{bit};
 ghost use Rattle.statements.specs.Meaning.{stmt_of};
-ghost use Rattle.engine.specs.Meaning.{signed_number};
-ghost use Rattle.schedule.specs.declared.line.Parsed.TheVariants.{Readable};
+ghost use Rattle.engine.specs.Meaning.{came_to, signed_number};
 ghost use Rattle.schedule.specs.Line as lines;
 ghost use Rattle.schedule.specs.Reading.{Lying, SettingUp};
-ghost use Rattle.bench.specs.Seats.{Distinct, Sound, ReadFrom, seat_of, is_call, changes_is, refused_for, minute_in, turn_verdict, turn_after, waits_at, turn_known, next_turn, join_verdict, leave_verdict, send_verdict, Judged, CalledByLine, ToldAs, SteppedBy, SteppedOnPool, SteppedOnPoolBy, SetUpBy, shown_in, NoStatement, LacksNothing};
+ghost use Rattle.bench.specs.Seats.{Distinct, Sound, ReadFrom, seat_of, is_call, changes_is, denied, refused_for, minute_in, turn_verdict, turn_after, waits_at, turn_known, next_turn, join_verdict, leave_verdict, send_verdict, Judged, CalledByLine, ToldAs, SteppedBy, SteppedOnPool, SteppedOnPoolBy, SetUpBy, shown_in, NoStatement, LacksNothing};
 
 use crate::seat;
 use crate::seat::Given;
 use engine::{Answer, Controller, Outcome, Refusal, Setup};
-use pool::{Found, POOL_WORDS, Placed, RECORD};
+use pool::{POOL_WORDS, RECORD};
 use schedule::line;
 use schedule::line::Line;
 use statements::{BLOCK, NOTICES, Statement};
@@ -36,7 +35,7 @@ pub struct Setting {
 #[derive(Clone, Copy)]
 pub struct Effect {
     pub who: u64,
-    pub answer: Answer,
+    pub answer: Result<Answer, Refusal>,
     pub number: u64,
     pub setting: Setting,
     pub fresh: bool,
@@ -47,65 +46,50 @@ pub struct Effect {
 pub fn is_call(line: Line) -> bool
     ensures { result ≡ is_call line }
 {
-    match line {
-        Line::Setup => false,
-        Line::Join(_) => true,
-        Line::Leave(_) => true,
-        Line::Send(_, _, _) => true,
-        Line::Give(_, _) => false,
-        Line::All(_) => false,
-        Line::Turn(_, _) => true,
-        Line::Lie => false,
-    }
+    matches!(
+        line,
+        Line::Join(_) | Line::Leave(_) | Line::Send(_, _, _) | Line::Turn(_, _)
+    )
 }
 
-// What is known of a call before it is made: nothing; or that it changes nothing, and its answer.
-#[derive(Clone, Copy)]
-pub enum Verdict {
-    Open,
-    Idle(Answer),
+// What a call answers that is known to change nothing; none of a call of which nothing is known.
+pub type Known = Option<Result<Answer, Refusal>>;
+
+fn denied(r: Refusal) -> Known
+    ensures { result ≡ denied r }
+{
+    Some(Err(r))
 }
 
-fn join_verdict(c: Controller) -> Verdict
+fn join_verdict(c: Controller) -> Known
     ensures { result ≡ join_verdict c }
 {
-    let init = c.init;
-    if init.has_member(c.number) {
-        return Verdict::Idle(Answer::Refused(Refusal::BadRequest));
+    if c.init.has_member(c.number) || c.joining {
+        return denied(Refusal::BadRequest);
     }
-    if c.joining {
-        return Verdict::Idle(Answer::Refused(Refusal::BadRequest));
-    }
-    Verdict::Open
+    None
 }
 
-fn leave_verdict(c: Controller) -> Verdict
+fn leave_verdict(c: Controller) -> Known
     ensures { result ≡ leave_verdict c }
 {
-    let entered = c.entered;
-    if entered.len == 0 {
-        return Verdict::Idle(Answer::Refused(Refusal::BadRequest));
+    if c.entered.len == 0 || c.leaving {
+        return denied(Refusal::BadRequest);
     }
-    if c.leaving {
-        return Verdict::Idle(Answer::Refused(Refusal::BadRequest));
-    }
-    Verdict::Open
+    None
 }
 
-fn send_verdict(c: Controller, notice: u64) -> Verdict
+fn send_verdict(c: Controller, notice: u64) -> Known
     ensures { result ≡ send_verdict c notice }
 {
     if !engine::is_notice(notice, c.notices) {
-        return Verdict::Idle(Answer::Refused(Refusal::UnknownNotice));
+        return denied(Refusal::UnknownNotice);
     }
     let j = notice as usize;
-    if c.number != c.senders[j] {
-        return Verdict::Idle(Answer::Refused(Refusal::BadRequest));
+    if c.number != c.senders[j] || statements::has(c.requested, j) {
+        return denied(Refusal::BadRequest);
     }
-    if statements::has(c.requested, j) {
-        return Verdict::Idle(Answer::Refused(Refusal::BadRequest));
-    }
-    Verdict::Open
+    None
 }
 
 // The minute of a turn; 0 in any other line.
@@ -119,22 +103,22 @@ fn minute_of(line: Line) -> u16
 }
 
 // A turn at a minute that no week has, or one of which `turn` is known.
-fn turn_verdict(minute: u16, turn: Verdict) -> Verdict
+fn turn_verdict(minute: u16, turn: Known) -> Known
     ensures { result ≡ turn_verdict minute turn }
 {
     if minute > LAST_MINUTE {
-        return Verdict::Idle(Answer::Refused(Refusal::BadMinute));
+        return denied(Refusal::BadMinute);
     }
     turn
 }
 
 // Whether a request is refused, or a turn before a setup or at no minute of a week, or one of which `turn` is known. It looks at a few fields alone, so that a compiler copies no whole controller for it.
-pub fn judge(c: Controller, line: Line, turn: Verdict) -> Verdict
+pub fn judge(c: Controller, line: Line, turn: Known) -> Known
     requires { is_call line ≡ true }
     ensures { Judged c line turn result }
 {
     if !c.ready {
-        return Verdict::Idle(Answer::Refused(Refusal::OutOfPlace));
+        return denied(Refusal::OutOfPlace);
     }
     match line {
         Line::Join(_) => join_verdict(c),
@@ -145,17 +129,13 @@ pub fn judge(c: Controller, line: Line, turn: Verdict) -> Verdict
 }
 
 // What is known of the next turn after one that answered so.
-fn turn_after(a: Answer) -> Verdict
+fn turn_after(a: Result<Answer, Refusal>) -> Known
     ensures { result ≡ turn_after a }
 {
     match a {
-        Answer::Taken => Verdict::Open,
-        Answer::Signed(_) => Verdict::Open,
-        Answer::Entered(_) => Verdict::Open,
-        Answer::Delivered(_, _, _) => Verdict::Open,
-        Answer::Left => Verdict::Idle(Answer::Left),
-        Answer::Quiet => Verdict::Idle(Answer::Quiet),
-        Answer::Refused(_) => Verdict::Open,
+        Ok(Answer::Left) => Some(Ok(Answer::Left)),
+        Ok(Answer::Quiet) => Some(Ok(Answer::Quiet)),
+        _ => None,
     }
 }
 
@@ -166,34 +146,27 @@ fn waits(c: Controller, minute: u16) -> bool
     if !c.leaving {
         return false;
     }
-    let times = c.times;
-    !windows::is_open(&times, c.windows, minute)
+    !windows::is_open(&c.times, c.windows, minute)
 }
 
 // What is known of the next turn of the controller c after a turn at this minute that answered so.
-fn turn_known(c: Controller, minute: u16, a: Answer) -> Verdict
+fn turn_known(c: Controller, minute: u16, a: Result<Answer, Refusal>) -> Known
     ensures { result ≡ turn_known c minute a }
 {
     if waits(c, minute) {
-        return Verdict::Open;
+        return None;
     }
     turn_after(a)
 }
 
 // What is known of the next turn of the controller c after a call on it that answered so.
-pub fn next_turn(c: Controller, line: Line, a: Answer) -> Verdict
+pub fn next_turn(c: Controller, line: Line, a: Result<Answer, Refusal>) -> Known
     ensures { result ≡ next_turn c line a }
 {
-    match line {
-        Line::Setup => Verdict::Open,
-        Line::Join(_) => Verdict::Open,
-        Line::Leave(_) => Verdict::Open,
-        Line::Send(_, _, _) => Verdict::Open,
-        Line::Give(_, _) => Verdict::Open,
-        Line::All(_) => Verdict::Open,
-        Line::Turn(_, minute) => turn_known(c, minute, a),
-        Line::Lie => Verdict::Open,
-    }
+    let Line::Turn(_, minute) = line else {
+        return None;
+    };
+    turn_known(c, minute, a)
 }
 
 // The call of a line on its controller: a request, or else a turn.
@@ -202,9 +175,9 @@ pub fn call(
     ids: &mut [u16; RECORD],
     words: &mut [u64; POOL_WORDS],
     line: Line,
-) -> Outcome
+) -> Result<Outcome, Refusal>
     requires { Sound words.old ids.old × (is_call line ≡ true) }
-    ensures { CalledByLine words.old ids.old c line result words.new ids.new }
+    ensures { CalledByLine words.old ids.old c line (came_to c result) words.new ids.new }
 {
     match line {
         Line::Join(_) => c.join(),
@@ -216,31 +189,18 @@ pub fn call(
 
 // Whether a call that answers so may have changed its controller.
 pub fn changes(a: Answer) -> bool
-    ensures { result ≡ changes_is a }
+    ensures { result ≡ changes_is (Ok a) }
 {
-    match a {
-        Answer::Taken => true,
-        Answer::Signed(_) => true,
-        Answer::Entered(_) => true,
-        Answer::Delivered(_, _, _) => true,
-        Answer::Left => false,
-        Answer::Quiet => false,
-        Answer::Refused(_) => false,
-    }
+    !matches!(a, Answer::Left | Answer::Quiet)
 }
 
 // The number in the row of a call: of a turn that signs, the statement's.
-pub fn number_of(a: Answer) -> u64
+pub fn number_of(a: Result<Answer, Refusal>) -> u64
     ensures { result ≡ signed_number a }
 {
     match a {
-        Answer::Taken => 0,
-        Answer::Signed(n) => n as u64,
-        Answer::Entered(_) => 0,
-        Answer::Delivered(_, _, _) => 0,
-        Answer::Left => 0,
-        Answer::Quiet => 0,
-        Answer::Refused(_) => 0,
+        Ok(Answer::Signed(n)) => n as u64,
+        _ => 0,
     }
 }
 
@@ -248,10 +208,9 @@ pub fn number_of(a: Answer) -> u64
 fn told(g: Setting, who: u64, r: Given) -> Effect
     ensures { ToldAs g who r result }
 {
-    let a = r.answer;
     Effect {
-        who: who,
-        answer: a,
+        who,
+        answer: r.answer,
         number: r.number,
         setting: g,
         fresh: false,
@@ -272,9 +231,8 @@ fn shown_sender(senders: &[u8; NOTICES], count: usize) -> u64
     if count == 0 {
         return NOBODY;
     }
-    let first = senders[0];
-    if first < View::WIDTH {
-        return first as u64;
+    if senders[0] < View::WIDTH {
+        return senders[0] as u64;
     }
     NOBODY
 }
@@ -290,7 +248,9 @@ fn set_up(
     requires { Distinct words.old × SettingUp text.now }
     ensures { SetUpBy words.old g text.now result words.new senders.new windows.new }
 {
-    let said = line::read_setup(text, senders, windows);
+    let Some(said) = line::read_setup(text, senders, windows) else {
+        unreachable!();
+    };
     let who = shown_sender(senders, said.count);
     if g.ready {
         return refused(g, who, Refusal::BadSetup);
@@ -308,8 +268,8 @@ fn set_up(
     }
     pool::clear(words);
     Effect {
-        who: who,
-        answer: Answer::Taken,
+        who,
+        answer: Ok(Answer::Taken),
         number: 0,
         setting: Setting {
             ready: true,
@@ -349,12 +309,10 @@ fn lie(words: &mut [u64; POOL_WORDS], g: Setting, st: Statement, block: &[u64; B
     if !engine::is_notice(st.notice as u64, g.notices) {
         return refused(g, who, Refusal::UnknownNotice);
     }
-    let found = pool::find(words, st, block);
-    if let Found::At(_) = found {
+    if let Some(_) = pool::find(words, st, block) {
         return refused(g, who, Refusal::Repeated);
     }
-    let placed = pool::append(words, st, block);
-    let Placed::At(n) = placed else {
+    let Ok(n) = pool::append(words, st, block) else {
         return refused(g, who, Refusal::Full);
     };
     told(g, who, seat::taken(n as u64, false))
@@ -376,11 +334,9 @@ fn lie_line(words: &mut [u64; POOL_WORDS], g: Setting, text: &[u8]) -> Effect
     ensures { SteppedOnPoolBy words.old g text.now result words.new }
 {
     let mut block = [0u64; BLOCK];
-    let read = line::lied(text, g.notices, &mut block);
-    if !read.ok {
+    let Some(st) = line::lied(text, g.notices, &mut block) else {
         return no_statement(g);
-    }
-    let st = read.statement;
+    };
     lie(words, g, st, &block)
 }
 
@@ -412,7 +368,7 @@ pub fn step(
     windows: &mut [u64; WINDOWS],
 ) -> Effect
     requires { Sound words.old ids.old × ReadFrom line text.now × (is_call line ≡ false) }
-    ensures { SteppedBy words.old ids.old g (seat_of (Readable line)) text.now result words.new ids.new senders.new windows.new }
+    ensures { SteppedBy words.old ids.old g (seat_of line) text.now result words.new ids.new senders.new windows.new }
 {
     match line {
         Line::Setup => set_up(words, g, text, senders, windows),

@@ -1,5 +1,6 @@
 -- What keeping a statement comes to.
 -- Assumes nothing.
+use Rattle.std.specs.Prelude.{Result, Ok, Err, IsErrAnd}
 use mathlib.Core.Path.{◌≡◌, refl, sym, ap, ap₂, subst, ◌∙◌}
 use mathlib.Core.Logic.{◌⊎◌, inl, inr}
 use mathlib.Core.Bool.{Bool, true, false, not, ◌||◌}
@@ -17,8 +18,7 @@ use Rattle.protocol.specs.Call.{is_full}
 use Rattle.protocol.specs.Pool.{number_of, pooled, has_room}
 use Rattle.statements.specs.declared.Statement.{Statement}
 use Rattle.statements.specs.Meaning.{stmt_of}
-use Rattle.pool.specs.declared.Placed.{Placed as Answered}
-use Rattle.pool.specs.declared.Placed.TheVariants as placed
+use Rattle.pool.specs.declared.Full.{Full}
 use Rattle.pool.specs.Pool.{stmt_at, pool_len, record_up_to, record_len, record_in, pool_of, AllIn}
 use Rattle.pool.specs.Changes as memory
 use Rattle.protocol.proofs.Found.{if-true, if-false}
@@ -85,7 +85,7 @@ unfolding has_room
 room-new s P b e f = rw (e, f)
 
 -- the record is full
-pub record-full : {W R : List ℕ} {s : Stmt} → 512 ≤ record_len R → PlacedFor W R s placed.Full W
+pub record-full : {W R : List ℕ} {s : Stmt} → 512 ≤ record_len R → PlacedFor W R s (Err memory.no_room) W
 record-full l = record { full = λ e. (inl l, refl); at = λ n e. absurd (full≢at e) }
 
 module _ (W W' R : List ℕ) (st : Statement) (B : List ℕ) (short : st.history.len ≤ 16) (l : record_len R < 512) where
@@ -114,15 +114,15 @@ module _ (W W' R : List ℕ) (st : Statement) (B : List ℕ) (short : st.history
     within = omega (arith, g.len);
   }
 
-  module _ (r : Answered) (a : memory.Appended W W' st B r) where
+  module _ (r : Result ℕ Full) (a : memory.Appended W W' st B r) where
     answer-is : {o : Option ℕ} → memory.pool_number W (stmt_of st B) ≡ o → r ≡ memory.placed_at o (pool_len W)
     answer-is q = a.answer ∙ ap (λ o. memory.placed_at o (pool_len W)) q
 
-    at-end : memory.pool_number W (stmt_of st B) ≡ none → pool_len W < 512 → r ≡ placed.At (pool_len W)
-    at-end q b = answer-is q ∙ if-true (ltb (pool_len W) 512) (placed.At (pool_len W)) placed.Full (lt-ltb (pool_len W) 512 b)
+    at-end : memory.pool_number W (stmt_of st B) ≡ none → pool_len W < 512 → r ≡ Ok (pool_len W)
+    at-end q b = answer-is q ∙ if-true (ltb (pool_len W) 512) (Ok (pool_len W)) (Err memory.no_room) (lt-ltb (pool_len W) 512 b)
 
-    no_end : memory.pool_number W (stmt_of st B) ≡ none → 512 ≤ pool_len W → r ≡ placed.Full
-    no_end q b = answer-is q ∙ if-false (ltb (pool_len W) 512) (placed.At (pool_len W)) placed.Full (le-ltb (pool_len W) 512 b)
+    no_end : memory.pool_number W (stmt_of st B) ≡ none → 512 ≤ pool_len W → r ≡ Err memory.no_room
+    no_end q b = answer-is q ∙ if-false (ltb (pool_len W) 512) (Ok (pool_len W)) (Err memory.no_room) (le-ltb (pool_len W) 512 b)
 
     -- what the pool answered, for a record that has room
     pub pool-placed : PlacedFor W R (stmt_of st B) r W'
@@ -147,10 +147,15 @@ module _ (W W' R : List ℕ) (st : Statement) (B : List ℕ) (short : st.history
 
 -- ---- and its number went to the end of the record
 
-pub kept-none : {W R : List ℕ} {s : Stmt} {x : Answered} {W' : List ℕ} → PlacedFor W R s x W' → x ≡ placed.Full → KeptFor W R s placed.Full W' R
-kept-none {W} {R} {s} p e = record { full = λ _. (is-full W R s (p.full e).0, (p.full e).1, refl); at = λ n q. absurd (full≢at q) }
+-- what a `?` answers for an error
+pub err-is : {A E : Type 0} (r : Result A E) (e : E) → IsErrAnd r (λ x. x ≡ e) → r ≡ Err e
+err-is (Ok a) e h = absurd h
+err-is (Err x) e h = ap Err h
 
-pub kept_at : {W R : List ℕ} {s : Stmt} {x : Answered} {W' : List ℕ} {n : ℕ} {R' : List ℕ} → PlacedFor W R s x W' → x ≡ placed.At n → memory.PushedTo R n R' → KeptFor W R s (placed.At n) W' R'
+pub kept-none : {W R : List ℕ} {s : Stmt} {x r : Result ℕ Full} {W' : List ℕ} → PlacedFor W R s x W' → x ≡ Err memory.no_room → r ≡ Err memory.no_room → KeptFor W R s r W' R
+kept-none {W} {R} {s} p e f = record { full = λ _. (is-full W R s (p.full e).0, (p.full e).1, refl); at = λ n q. absurd (full≢at (sym f ∙ q)) }
+
+pub kept_at : {W R : List ℕ} {s : Stmt} {x : Result ℕ Full} {W' : List ℕ} {n : ℕ} {R' : List ℕ} → PlacedFor W R s x W' → x ≡ Ok n → memory.PushedTo R n R' → KeptFor W R s (Ok n) W' R'
 kept_at {W} {R} {s} {x} {W'} {n} {R'} p e q = record {
   full = λ z. absurd (full≢at (sym z));
   at = λ m z. subst (λ i. PlacedAs W R s i W' × memory.PushedTo R i R') (at-injective z) (p.at n e, q);

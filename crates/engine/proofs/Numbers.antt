@@ -2,24 +2,21 @@
 -- Assumes nothing.
 use Rattle.std.specs.Prelude.{if◌then◌else◌}
 use mathlib.Core.Path.{◌≡◌, refl, sym, ap, ap₂, subst, ◌∙◌}
-use mathlib.Core.Bool.{Bool, true, false, ◌&&◌, and-true, and-false}
-use mathlib.Core.List.{List, [], ◌∷◌}
+use mathlib.Core.Bool.{Bool, true, false}
+use mathlib.Core.List.{List}
 use mathlib.Core.Option.{Option, some, none}
-use Prim.Native.Nat.{ℕ, zero, suc, ◌+◌, ◌≤◌, ◌<◌, min}
+use Prim.Native.Nat.{ℕ, ◌+◌, ◌≤◌, ◌<◌, min}
 use native.Mathlib.Decide.{dec_lt}
-use native.Mathlib.Numerals.{add-one}
 use native.Mathlib.Omega.{arith}
 use lib.Dec.{eqb, ltb}
 use lib.ListN.{length, get_or, set, replicate, get_or-replicate, length-replicate, get_or-eq_default}
-use borrow.Author.Tests.{lt-ltb, le-ltb, ltb-true}
 use Rattle.protocol.specs.Sets.{bit}
-use Rattle.protocol.specs.Lists.{all, when, is_some, list_of, put}
+use Rattle.protocol.specs.Lists.{when, is_some, put}
 use Rattle.protocol.specs.Statement.{Binding, unbound, bound, tells}
 use Rattle.protocol.specs.Evidence.{sender_of}
 use Rattle.protocol.proofs.Bits.{bit-zero}
 use Rattle.protocol.proofs.Numbered.{list_of-length, list_of-at, from_parts, set-put, put-at}
 use Rattle.views.proofs.Sets.{bit-far}
-use Rattle.views.proofs.Tables.{all_append}
 use Rattle.statements.specs.declared.Binding as held
 use Rattle.statements.specs.declared.Binding.TheVariants.{Unbound, Bound}
 use Rattle.statements.specs.Block.{binding_is, told_is, group_at, TellsGroup}
@@ -29,8 +26,6 @@ use Rattle.evidence.specs.declared.Evidence.{Evidence}
 use Rattle.evidence.specs.declared.Notice.{Notice}
 use Rattle.evidence.specs.Evidence.{certificate_at}
 use Rattle.evidence.specs.Notices.{senders_of, binding_held}
-use Rattle.engine.specs.Meaning.{first_senders}
-use Rattle.engine.specs.Steps.{are_numbers}
 use Rattle.engine.specs.Situation.{notice_told, ToldTo}
 
 -- ---- senders
@@ -49,36 +44,6 @@ module _ (S : List ℕ) (n : ℕ) where
   sender-at i l = list_of-at (min n 64) (λ i. get_or S i 0) i 0 l
 
 -- the test of a number that is one of a notice, in two parts
-pub far-notice : (i n : ℕ) → 64 ≤ i → false ≡ ltb i (min n 64)
-far-notice i n h = sym (le-ltb i (min n 64) (omega arith))
-
-pub near-notice : (i n : ℕ) → i < 64 → ltb i n ≡ ltb i (min n 64)
-near-notice i n h = elim (dec_lt i n) [ yes l ↦ lt-ltb i n l ∙ sym (lt-ltb i (min n 64) (omega arith)) | no l ↦ le-ltb i n (omega arith) ∙ sym (le-ltb i (min n 64) (omega arith)) ]
-
-pub notice-known : (i n : ℕ) (b : Bool) → b ≡ ltb i (min n 64) → b ≡ true → i < min n 64
-notice-known i n b e f = ltb-true i (min n 64) (sym e ∙ f)
-
--- the first n senders are numbers of controllers
-module _ (S : List ℕ) where
-  numbers-suc : (n : ℕ) → are_numbers (first_senders S (suc n)) ≡ (are_numbers (first_senders S n) && ltb (get_or S n 0) 16)
-  unfolding are_numbers first_senders list_of all
-  numbers-suc n =
-      all_append (λ k. ltb k 16) (first_senders S n) (get_or S n 0 ∷ []) ∙ ap (λ b. are_numbers (first_senders S n) && b) (and-true (ltb (get_or S n 0) 16))
-
-  pub numbers-first : are_numbers (first_senders S 0) ≡ true
-  unfolding are_numbers first_senders list_of all
-  numbers-first = refl
-
-  pub numbers-next : (n : ℕ) → are_numbers (first_senders S n) ≡ true → get_or S n 0 < 16 → are_numbers (first_senders S (n + 1)) ≡ true
-  numbers-next n e l = rw add-one (numbers-suc n ∙ ap₂ ◌&&◌ e (lt-ltb (get_or S n 0) 16 l))
-
-  pub numbers-miss : (n i : ℕ) → i < n → 16 ≤ get_or S i 0 → are_numbers (first_senders S n) ≡ false
-  numbers-miss zero i l h = absurd (omega arith)
-  numbers-miss (suc n) i l h = numbers-suc n ∙ elim (dec_lt i n) [
-    | yes m ↦ ap (λ b. b && ltb (get_or S n 0) 16) (numbers-miss n i m h)
-    | no m ↦ (let q : i ≡ n = omega arith in ap (λ b. are_numbers (first_senders S n) && b) (le-ltb (get_or S n 0) 16 (rw q at h)) ∙ and-false (are_numbers (first_senders S n)))
-  ]
-
 -- ---- sets
 
 -- one notice more

@@ -1,14 +1,13 @@
 -- What the ways in which a turn or an addition ends come to.
 -- Assumes nothing.
-use Rattle.std.specs.Prelude.{if◌then◌else◌}
+use Rattle.std.specs.Prelude.{if◌then◌else◌, Result, Ok, Err}
 use mathlib.Core.Path.{◌≡◌, refl, sym, ap, ap₂, subst, fun_ext, ◌∙◌}
 use mathlib.Core.Bool.{Bool, true, false}
 use mathlib.Core.List.{List, [], ◌∷◌, ◌++◌}
-use mathlib.Core.Option.{some}
+use mathlib.Core.Option.{some, none}
 use Prim.Native.Nat.{ℕ, ◌≤◌, ◌<◌, min}
 use native.Mathlib.Omega.{arith}
 use lib.Dec.{T, ltb}
-use denote.Enum.Declared.{tag_of}
 use lib.ListN.{length, set}
 use Rattle.protocol.specs.Lists.{any, put}
 use Rattle.protocol.specs.View.{View}
@@ -29,28 +28,27 @@ use Rattle.statements.specs.Promise.{keeps_rules}
 use Rattle.statements.specs.Sets.{PutBit}
 use Rattle.statements.proofs.FieldLaws.{views-length}
 use Rattle.statements.proofs.Fits.{keeps-fits}
-use Rattle.pool.specs.declared.Placed.{Placed as Answered}
-use Rattle.pool.specs.declared.Placed.TheVariants.{At, Full}
+use Rattle.pool.specs.declared.Full.{Full}
 use Rattle.pool.specs.Pool.{record_in, pool_of}
-use Rattle.pool.specs.Changes.{PushedTo}
+use Rattle.pool.specs.Changes.{PushedTo, no_room}
 use Rattle.evidence.specs.declared.Notice.{Notice}
 use Rattle.evidence.specs.Evidence.{ring_is, reports_there, MergedAll}
 use Rattle.evidence.specs.Notices.{senders_of, binding_held}
 use Rattle.evidence.proofs.Turns.{counted-turn}
 use Rattle.engine.specs.declared.Controller.{Controller}
-use Rattle.engine.specs.declared.Outcome.{Outcome}
 use Rattle.rules.specs.declared.Situation.{Situation}
 use Rattle.rules.specs.declared.Action.{Action}
-use Rattle.rules.specs.contracts.Action as action
-use Rattle.rules.specs.declared.Action.TheVariants.{Rest, Report, Enter, AgreeView, AgreeHistory, Ack, Store, Deliver, Join, Leave, Prepare}
-use Rattle.engine.specs.declared.Answer.TheVariants.{Taken, Signed, Entered, Delivered, Refused}
+use Rattle.rules.specs.declared.Action.TheVariants.{Report, Enter, AgreeView, AgreeHistory, Ack, Store, Deliver, Join, Leave, Prepare}
+use Rattle.engine.specs.declared.Answer.{Answer}
+use Rattle.engine.specs.declared.Answer.TheVariants.{Taken, Signed, Entered, Delivered}
+use Rattle.engine.specs.declared.Outcome.{Outcome}
 use Rattle.engine.specs.declared.Refusal.{Refusal}
 use Rattle.engine.specs.declared.Refusal.TheVariants as refused
-use Rattle.engine.specs.Meaning.{controller_is, answer_is, refusal_is}
+use Rattle.engine.specs.Meaning.{controller_is, Came, came_to, answer_is, refusal_is}
 use Rattle.rules.specs.Actions.{statement_of, action_is, Makes}
 use Rattle.rules.specs.Rules.{SituationOf}
 use Rattle.engine.specs.Steps.{PlacedAs, KeptFor, rest_is}
-use Rattle.engine.specs.Situation.{RingOf, Doing, Known, EntersMerged}
+use Rattle.engine.specs.Situation.{RingOf, Doing, EntersMerged}
 use Rattle.engine.specs.Promise.{unchanged, grown, Meets, Turns, Adds, AddsFor}
 use Rattle.engine.proofs.Requests.{settled, refused-so}
 use Rattle.engine.proofs.Keeps.{not_full, all_in, record-more}
@@ -59,15 +57,15 @@ use Rattle.engine.proofs.Numbers.{senders-count, is-notice, put-bits, bound-put}
 -- ---- a statement is signed
 
 -- the record or the pool is full
-pub sign-full : (W R W' R' : List ℕ) (c : Controller) (s : Stmt) (x : Answered) → KeptFor W R s x W' R' → x ≡ Full → (after : controller.Controller) (r : Outcome) → r.answer ≡ Refused refused.Full → r.controller ≡ c
-    → Turns W R c (turn.signing (controller_is c) (record_in W R) (has_room (pool_of W)) after s) r W' R'
+pub sign-full : (W R W' R' : List ℕ) (c : Controller) (s : Stmt) (x : Result ℕ Full) → KeptFor W R s x W' R' → x ≡ Err no_room → (after : controller.Controller) (r : Result Outcome Refusal) → r ≡ Err refused.Full
+    → Turns W R c (turn.signing (controller_is c) (record_in W R) (has_room (pool_of W)) after s) (came_to c r) W' R'
 unfolding turn.signing
-sign-full W R W' R' c s x p e after r a h =
+sign-full W R W' R' c s x p e after r a =
     let (f, w, v) = p.full e in
-    rw f (subst (λ (Q : List ℕ). Meets W R c (call.refuse (controller_is c) (record_in W R) controller.full) unchanged r W' Q) (sym v)
-    (subst (λ (U : List ℕ). Meets W R c (call.refuse (controller_is c) (record_in W R) controller.full) unchanged r U R) (sym w) (refused-so W R c r refused.Full a h)))
+    rw f (subst (λ (Q : List ℕ). Meets W R c (call.refuse (controller_is c) (record_in W R) controller.full) unchanged (came_to c r) W' Q) (sym v)
+    (subst (λ (U : List ℕ). Meets W R c (call.refuse (controller_is c) (record_in W R) controller.full) unchanged (came_to c r) U R) (sym w) (refused-so W R c (came_to c r) refused.Full (ap (λ x. (came_to c x).answer) a) (ap (λ x. (came_to c x).controller) a))))
 
-module _ (W R W' R' : List ℕ) (s : Stmt) (x : Answered) (n : ℕ) (p : KeptFor W R s x W' R') (e : x ≡ At n) where
+module _ (W R W' R' : List ℕ) (s : Stmt) (x : Result ℕ Full) (n : ℕ) (p : KeptFor W R s x W' R') (e : x ≡ Ok n) where
   numbered : PlacedAs W R s n W'
   numbered = (p.at n e).0
 
@@ -79,11 +77,11 @@ module _ (W R W' R' : List ℕ) (s : Stmt) (x : Answered) (n : ℕ) (p : KeptFor
 
   -- the controller is d then
   pub sign_kept : (c d : Controller) (after : controller.Controller) → controller_is d ≡ after
-      → Turns W R c (turn.signing (controller_is c) (record_in W R) (has_room (pool_of W)) after s) (record { answer = Signed n; controller = d }) W' R'
+      → Turns W R c (turn.signing (controller_is c) (record_in W R) (has_room (pool_of W)) after s) (record { answer = Ok (Signed n); controller = d }) W' R'
   unfolding turn.signing answer_is
   sign_kept c d after f = rw room-is (record {
     answer = ap controller.signed numbered.is;
-    number = λ z h. let y : s ≡ z = cc in ap Signed (numbered.number ∙ ap (λ t. number_of t (pool_of W)) y);
+    number = λ z h. let y : s ≡ z = cc in ap (λ i. Ok (Signed i)) (numbered.number ∙ ap (λ t. number_of t (pool_of W)) y);
     controller = f;
     numbers = subst (λ i. PushedTo R i R') numbered.number pushed;
     statements = λ w. (record-more numbered pushed w, all_in numbered pushed w);
@@ -141,31 +139,33 @@ module _ (c : Controller) (X : List Stmt) (C G P : List ℕ) (s : Situation) (k 
 
 -- ---- each action
 
-module _ (W R : List ℕ) (c : Controller) (s : Situation) (H : List View) (B : List ℕ) (b : ℕ → Binding) (a : Action) (r : Outcome) where
-  abbrev Performed : List ℕ → List ℕ → Type 0
-  Performed W' R' = Turns W R c (turn.perform (controller_is c) (record_in W R) (has_room (pool_of W)) (action_is s H B b a)) r W' R'
-
-  pub rest-is : SituationOf (controller_is c) (record_in W R) s → a ≡ Rest → r.answer ≡ rest_is s.left → r.controller ≡ c → Performed W R
-  unfolding turn.perform action_is answer_is
-  rest-is k d e h = rw (d, k.left) (go s.left e)
+-- nothing is done
+module _ (W R : List ℕ) (c : Controller) (s : Situation) (r : Came) where
+  pub rest-is : SituationOf (controller_is c) (record_in W R) s → r.answer ≡ Ok (rest_is s.left) → r.controller ≡ c → Turns W R c (turn.perform (controller_is c) (record_in W R) (has_room (pool_of W)) none) r W R
+  unfolding turn.perform answer_is
+  rest-is k e h = rw k.left (go s.left e)
     where
-      go : (b : Bool) → r.answer ≡ rest_is b → Turns W R c (record { answer = if b then controller.left else controller.quiet; controller = controller_is c; statements = record_in W R }) r W R
+      go : (b : Bool) → r.answer ≡ Ok (rest_is b) → Turns W R c (record { answer = if b then controller.left else controller.quiet; controller = controller_is c; statements = record_in W R }) r W R
       go true e = settled W R c r (controller_is c) controller.left (ap (answer_is W) e) (ap controller_is h) (λ s p. let z : ◌≡◌ {A = ℕ} 0 1 = cc in omega arith) (λ t. absurd t)
       go false e = settled W R c r (controller_is c) controller.quiet (ap (answer_is W) e) (ap controller_is h) (λ s p. let z : ◌≡◌ {A = ℕ} 0 1 = cc in omega arith) (λ t. absurd t)
 
-  pub enter-is : (v : held.View) → a ≡ Enter v → r.answer ≡ Entered v
+module _ (W R : List ℕ) (c : Controller) (s : Situation) (H : List View) (B : List ℕ) (b : ℕ → Binding) (a : Action) (r : Came) where
+  abbrev Performed : List ℕ → List ℕ → Type 0
+  Performed W' R' = Turns W R c (turn.perform (controller_is c) (record_in W R) (has_room (pool_of W)) (some (action_is s H B b a))) r W' R'
+
+  pub enter-is : (v : held.View) → a ≡ Enter v → r.answer ≡ Ok (Entered v)
       → controller_is r.controller ≡ controller.with_entered (turn.entered_after (view_is v) (views_is c.entered)) (controller.with_binding b (controller_is c)) → Performed W R
   unfolding turn.perform action_is answer_is controller_is
   enter-is v d e f = rw d (settled W R c r _ (controller.entered (view_is v)) (ap (answer_is W) e) f (λ s p. let z : ◌≡◌ {A = ℕ} 0 1 = cc in omega arith) (λ t. absurd t))
 
-  pub deliver-is : (j m set : ℕ) → a ≡ Deliver j m → r.answer ≡ Delivered j m set → controller_is r.controller ≡ controller.with_delivered (put j true (controller_is c).delivered) (controller_is c)
+  pub deliver-is : (j m set : ℕ) → a ≡ Deliver j m → r.answer ≡ Ok (Delivered j m set) → controller_is r.controller ≡ controller.with_delivered (put j true (controller_is c).delivered) (controller_is c)
       → RingOf c s.ring → set ≡ store_set (ring_is s.ring) (record_in W R) j m → Performed W R
   unfolding turn.perform action_is answer_is
   deliver-is j m set d e f k q =
       rw d (settled W R c r _ (controller.delivered j m (store_set (controller_is c).ring (record_in W R) j m))
       (ap (answer_is W) e ∙ ap (controller.delivered j m) (q ∙ ap (λ R'. store_set R' (record_in W R) j m) k.is)) f (λ s p. let z : ◌≡◌ {A = ℕ} 0 1 = cc in omega arith) (λ t. absurd t))
 
-  ack-signs : (j m : ℕ) → a ≡ Ack j m → action_is s H B b a ≡ some (turn.bind_and_sign j m (statement_of s H B a))
+  ack-signs : (j m : ℕ) → a ≡ Ack j m → action_is s H B b a ≡ turn.bind_and_sign j m (statement_of s H B a)
   unfolding action_is
   ack-signs j m d = rw d
 
@@ -175,7 +175,7 @@ module _ (W R : List ℕ) (c : Controller) (s : Situation) (H : List View) (B : 
         → Turns W R c (turn.signing (controller_is c) (record_in W R) (has_room (pool_of W)) after (statement_of s H B a)) r W' R'
     signing-is after t = subst (λ x. Turns W R c (turn.signing (controller_is c) (record_in W R) (has_room (pool_of W)) after x) r W' R') (made.means B) t
 
-    pub sign-is : action_is s H B b a ≡ some (turn.sign (statement_of s H B a)) → Turns W R c (turn.signing (controller_is c) (record_in W R) (has_room (pool_of W)) (controller_is c) (stmt_of st B)) r W' R' → Performed W' R'
+    pub sign-is : action_is s H B b a ≡ turn.sign (statement_of s H B a) → Turns W R c (turn.signing (controller_is c) (record_in W R) (has_room (pool_of W)) (controller_is c) (stmt_of st B)) r W' R' → Performed W' R'
     unfolding turn.perform
     sign-is d t = rw d (signing-is (controller_is c) t)
 
@@ -187,21 +187,20 @@ module _ (W R : List ℕ) (c : Controller) (s : Situation) (H : List View) (B : 
       rw (ack-signs j m d)
       (signing-is W' R' st (subst (λ x. Makes s H x st) (sym d) made) (controller.with_binding (put j (bound m) (controller_is c).binding) (controller_is c)) t)
 
--- all but four sign, and do nothing else
-pub signs-else : (s : Situation) (H : List View) (B : List ℕ) (b : ℕ → Binding) (a : Action) → Known a → ((v : held.View) → a ≡ Enter v → ⊥) → ((j m : ℕ) → a ≡ Ack j m → ⊥)
-    → ((j m : ℕ) → a ≡ Deliver j m → ⊥) → action_is s H B b a ≡ some (turn.sign (statement_of s H B a))
+-- all but three sign, and do nothing else
+pub signs-else : (s : Situation) (H : List View) (B : List ℕ) (b : ℕ → Binding) (a : Action) → ((v : held.View) → a ≡ Enter v → ⊥) → ((j m : ℕ) → a ≡ Ack j m → ⊥)
+    → ((j m : ℕ) → a ≡ Deliver j m → ⊥) → action_is s H B b a ≡ turn.sign (statement_of s H B a)
 unfolding action_is
-signs-else s H B b Rest n e k d = absurd n
-signs-else s H B b (Report u) n e k d = refl
-signs-else s H B b (Enter v) n e k d = absurd (e v refl)
-signs-else s H B b AgreeView n e k d = refl
-signs-else s H B b AgreeHistory n e k d = refl
-signs-else s H B b (Ack j m) n e k d = absurd (k j m refl)
-signs-else s H B b (Store j m) n e k d = refl
-signs-else s H B b (Deliver j m) n e k d = absurd (d j m refl)
-signs-else s H B b Join n e k d = refl
-signs-else s H B b Leave n e k d = refl
-signs-else s H B b (Prepare j m) n e k d = refl
+signs-else s H B b (Report u) e k d = refl
+signs-else s H B b (Enter v) e k d = absurd (e v refl)
+signs-else s H B b AgreeView e k d = refl
+signs-else s H B b AgreeHistory e k d = refl
+signs-else s H B b (Ack j m) e k d = absurd (k j m refl)
+signs-else s H B b (Store j m) e k d = refl
+signs-else s H B b (Deliver j m) e k d = absurd (d j m refl)
+signs-else s H B b Join e k d = refl
+signs-else s H B b Leave e k d = refl
+signs-else s H B b (Prepare j m) e k d = refl
 
 -- ---- additions
 
@@ -211,16 +210,16 @@ module _ (ready : Bool) (notices : ℕ) (W R : List ℕ) (s : Stmt) where
   Refuses q = (c : Controller) → c.ready ≡ ready → c.notices ≡ notices → call.add (controller_is c) (record_in W R) (has_room (pool_of W)) s ≡ call.refuse (controller_is c) (record_in W R) (refusal_is q)
 
   -- it is refused for q
-  adds-refused : (q : Refusal) (W' R' : List ℕ) → W' ≡ W → R' ≡ R → Refuses q → AddsFor ready notices W R s (Refused q) W' R'
+  adds-refused : (q : Refusal) (W' R' : List ℕ) → W' ≡ W → R' ≡ R → Refuses q → AddsFor ready notices W R s (Err q) W' R'
   adds-refused q W' R' w v f = record {
     each = λ c e n.
-        subst (λ o. Adds W R c s o (record { answer = Refused q; controller = c }) W' R') (sym (f c e n))
-        (subst (λ (Q : List ℕ). Meets W R c (call.refuse (controller_is c) (record_in W R) (refusal_is q)) unchanged (record { answer = Refused q; controller = c }) W' Q) (sym v)
-        (subst (λ (U : List ℕ). Meets W R c (call.refuse (controller_is c) (record_in W R) (refusal_is q)) unchanged (record { answer = Refused q; controller = c }) U R) (sym w)
-        (refused-so W R c (record { answer = Refused q; controller = c }) q refl refl)));
+        subst (λ o. Adds W R c s o (record { answer = Err q; controller = c }) W' R') (sym (f c e n))
+        (subst (λ (Q : List ℕ). Meets W R c (call.refuse (controller_is c) (record_in W R) (refusal_is q)) unchanged (record { answer = Err q; controller = c }) W' Q) (sym v)
+        (subst (λ (U : List ℕ). Meets W R c (call.refuse (controller_is c) (record_in W R) (refusal_is q)) unchanged (record { answer = Err q; controller = c }) U R) (sym w)
+        (refused-so W R c (record { answer = Err q; controller = c }) q refl refl)));
   }
 
-  pub adds-unready : ready ≡ false → AddsFor ready notices W R s (Refused refused.OutOfPlace) W R
+  pub adds-unready : ready ≡ false → AddsFor ready notices W R s (Err refused.OutOfPlace) W R
   unfolding controller_is
   adds-unready h = adds-refused refused.OutOfPlace W R refl refl (λ c e n. add-unready (controller_is c) (record_in W R) (has_room (pool_of W)) s (e ∙ h))
 
@@ -234,32 +233,32 @@ module _ (ready : Bool) (notices : ℕ) (W R : List ℕ) (s : Stmt) where
     unfolding controller_is
     notice-of b k c n = is-notice c.senders c.notices s.notice ∙ ap (λ m. ltb s.notice (min m 64)) n ∙ k
 
-    pub adds-bad : keeps_rules notices s ≡ false → AddsFor ready notices W R s (Refused refused.BadStatement) W R
+    pub adds-bad : keeps_rules notices s ≡ false → AddsFor ready notices W R s (Err refused.BadStatement) W R
     unfolding controller_is
     adds-bad k = adds-refused refused.BadStatement W R refl refl (λ c e n. add-bad (controller_is c) (record_in W R) (has_room (pool_of W)) s (e ∙ h) (rules-of false k c n))
 
     module _ (k : keeps_rules notices s ≡ true) where
-      pub adds-unknown : ltb s.notice (min notices 64) ≡ false → AddsFor ready notices W R s (Refused refused.UnknownNotice) W R
+      pub adds-unknown : ltb s.notice (min notices 64) ≡ false → AddsFor ready notices W R s (Err refused.UnknownNotice) W R
       unfolding controller_is
       adds-unknown i = adds-refused refused.UnknownNotice W R refl refl (λ c e n. add-unknown (controller_is c) (record_in W R) (has_room (pool_of W)) s (e ∙ h) (rules-of true k c n) (notice-of false i c n))
 
       module _ (i : ltb s.notice (min notices 64) ≡ true) where
-        pub adds_again : any (same_stmt s) (record_in W R) ≡ true → AddsFor ready notices W R s (Refused refused.Repeated) W R
+        pub adds_again : any (same_stmt s) (record_in W R) ≡ true → AddsFor ready notices W R s (Err refused.Repeated) W R
         unfolding controller_is
         adds_again x =
             adds-refused refused.Repeated W R refl refl
             (λ c e n. add-repeated (controller_is c) (record_in W R) (has_room (pool_of W)) s (e ∙ h) (rules-of true k c n) (notice-of true i c n) x)
 
-        module _ (x : any (same_stmt s) (record_in W R) ≡ false) (W' R' : List ℕ) (y : Answered) (p : KeptFor W R s y W' R') where
-          pub adds-full : y ≡ Full → AddsFor ready notices W R s (Refused refused.Full) W' R'
+        module _ (x : any (same_stmt s) (record_in W R) ≡ false) (W' R' : List ℕ) (y : Result ℕ Full) (p : KeptFor W R s y W' R') where
+          pub adds-full : y ≡ Err no_room → (r : Result Answer Refusal) → r ≡ Err refused.Full → AddsFor ready notices W R s r W' R'
           unfolding controller_is
-          adds-full z =
+          adds-full z r g =
               let (f, w, v) = p.full z in
-              adds-refused refused.Full W' R' w v
-              (λ c e n. add-full (controller_is c) (record_in W R) (has_room (pool_of W)) s (e ∙ h) (rules-of true k c n) (notice-of true i c n) x f)
+              subst (λ a. AddsFor ready notices W R s a W' R') (sym g) (adds-refused refused.Full W' R' w v
+              (λ c e n. add-full (controller_is c) (record_in W R) (has_room (pool_of W)) s (e ∙ h) (rules-of true k c n) (notice-of true i c n) x f))
 
-          taken-meets : (n : ℕ) (z : y ≡ At n) (c : Controller)
-              → Meets W R c (record { answer = controller.taken; controller = controller_is c; statements = record_in W R ++ (s ∷ []) }) (grown s) (record { answer = Taken; controller = c }) W' R'
+          taken-meets : (n : ℕ) (z : y ≡ Ok n) (c : Controller)
+              → Meets W R c (record { answer = controller.taken; controller = controller_is c; statements = record_in W R ++ (s ∷ []) }) (grown s) (record { answer = Ok Taken; controller = c }) W' R'
           unfolding answer_is
           taken-meets n z c =
               let (l, q) = p.at n z in
@@ -273,11 +272,11 @@ module _ (ready : Bool) (notices : ℕ) (W R : List ℕ) (s : Stmt) where
                 refused = λ t. absurd t;
               }
 
-          pub adds-taken : (n : ℕ) → y ≡ At n → AddsFor ready notices W R s Taken W' R'
+          pub adds-taken : (n : ℕ) → y ≡ Ok n → AddsFor ready notices W R s (Ok Taken) W' R'
           unfolding controller_is
           adds-taken n z = record {
             each = λ c e m.
-                subst (λ o. Adds W R c s o (record { answer = Taken; controller = c }) W' R')
+                subst (λ o. Adds W R c s o (record { answer = Ok Taken; controller = c }) W' R')
                 (sym (add-taken (controller_is c) (record_in W R) (has_room (pool_of W)) s (e ∙ h) (rules-of true k c m) (notice-of true i c m) x (room-is W R W' R' s y n p z)))
                 (taken-meets n z c);
           }

@@ -1,6 +1,6 @@
 -- What the calls that do not touch the pool come to.
 -- Assumes nothing.
-use Rattle.std.specs.Prelude.{if◌then◌else◌}
+use Rattle.std.specs.Prelude.{if◌then◌else◌, Ok, Err}
 use mathlib.Core.Path.{◌≡◌, refl, sym, ap, ap₂, subst, ◌∙◌}
 use mathlib.Core.Bool.{Bool, true, false, not, ◌&&◌, ◌||◌, true≢false}
 use mathlib.Core.List.{List, [], ◌∷◌}
@@ -12,7 +12,7 @@ use lib.ListN.{length, get_or, set, replicate}
 use borrow.Author.Tests.{eq-eqb, ne_eqb, lt-ltb, le-ltb, le-leb, lt-leb, ltb-true}
 use Rattle.protocol.specs.Sets.{bit}
 use Rattle.protocol.specs.Lists.{list_of}
-use Rattle.protocol.specs.View.{View, member}
+use Rattle.protocol.specs.View.{member}
 use Rattle.protocol.specs.Statement.{Stmt}
 use Rattle.protocol.specs.Window.{windows_allowed}
 use Rattle.protocol.specs.Controller as controller
@@ -33,19 +33,17 @@ use Rattle.evidence.specs.Notices.{senders_of}
 use Rattle.windows.specs.Windows.{windows_in}
 use Rattle.engine.specs.declared.Controller.{Controller}
 use Rattle.engine.specs.declared.Setup.{Setup}
-use Rattle.engine.specs.declared.Outcome.{Outcome}
 use Rattle.engine.specs.declared.Refusal.{Refusal}
 use Rattle.engine.specs.declared.Refusal.TheVariants.{BadRequest, OutOfPlace, UnknownNotice}
-use Rattle.engine.specs.declared.Answer.{Answer}
-use Rattle.engine.specs.declared.Answer.TheVariants.{Taken, Refused}
-use Rattle.engine.specs.Meaning.{initial_is, first_senders, setup_is, controller_is, refusal_is, answer_is}
+use Rattle.engine.specs.declared.Answer.TheVariants.{Taken}
+use Rattle.engine.specs.Meaning.{initial_is, first_senders, setup_is, controller_is, Came, refusal_is, answer_is}
 use Rattle.engine.specs.Promise.{unchanged, Meets, IsRefused, Calls, started_of, Starts}
 use Rattle.engine.specs.Steps.{are_numbers}
 use Rattle.engine.proofs.Numbers.{is-notice, sender-at, some-when, requested-put, none-bound, none-delivered, none-asked}
 
 -- ---- pool and record stay as they were
 
-module _ (W R : List ℕ) (c : Controller) (r : Outcome) (d : controller.Controller) (a : controller.Answer) (e : answer_is W r.answer ≡ a) (f : controller_is r.controller ≡ d)
+module _ (W R : List ℕ) (c : Controller) (r : Came) (d : controller.Controller) (a : controller.Answer) (e : answer_is W r.answer ≡ a) (f : controller_is r.controller ≡ d)
     (unsigned : (s : Stmt) → a ≡ controller.signed s → ⊥) (same : IsRefused a → r.controller ≡ c) where
   pub settled : Meets W R c (record { answer = a; controller = d; statements = record_in W R }) unchanged r W R
   settled = record {
@@ -58,7 +56,7 @@ module _ (W R : List ℕ) (c : Controller) (r : Outcome) (d : controller.Control
     refused = λ t. (same t, refl, refl);
   }
 
-pub refused-so : (W R : List ℕ) (c : Controller) (r : Outcome) (q : Refusal) → r.answer ≡ Refused q → r.controller ≡ c
+pub refused-so : (W R : List ℕ) (c : Controller) (r : Came) (q : Refusal) → r.answer ≡ Err q → r.controller ≡ c
     → Meets W R c (call.refuse (controller_is c) (record_in W R) (refusal_is q)) unchanged r W R
 unfolding answer_is
 refused-so W R c r q e h =
@@ -66,12 +64,12 @@ refused-so W R c r q e h =
 
 -- ---- the two ways in which a request ends
 
-pub refused : {f : List Stmt → controller.Outcome} (c : Controller) (q : Refusal) {r : Outcome} → r.answer ≡ Refused q → r.controller ≡ c
+pub refused : {f : List Stmt → controller.Outcome} (c : Controller) (q : Refusal) {r : Came} → r.answer ≡ Err q → r.controller ≡ c
     → ((X : List Stmt) → f X ≡ call.refuse (controller_is c) X (refusal_is q)) → Calls f c r
 unfolding Calls
 refused {f} c q {r} e h g W R = subst (λ o. Meets W R c o unchanged r W R) (sym (g (record_in W R))) (refused-so W R c r q e h)
 
-pub noted : {f : List Stmt → controller.Outcome} (c d : Controller) {r : Outcome} → r.answer ≡ Taken → r.controller ≡ d
+pub noted : {f : List Stmt → controller.Outcome} (c d : Controller) {r : Came} → r.answer ≡ Ok Taken → r.controller ≡ d
     → ((X : List Stmt) → f X ≡ record { answer = controller.taken; controller = controller_is d; statements = X }) → Calls f c r
 unfolding Calls answer_is
 noted {f} c d {r} e h g W R =
@@ -80,7 +78,7 @@ noted {f} c d {r} e h g W R =
 
 -- ---- the two ways in which a setup ends
 
-pub barred : {f : List Stmt → controller.Outcome} (R : List ℕ) (c : Controller) (q : Refusal) {r : Outcome} → r.answer ≡ Refused q → r.controller ≡ c
+pub barred : {f : List Stmt → controller.Outcome} (R : List ℕ) (c : Controller) (q : Refusal) {r : Came} → r.answer ≡ Err q → r.controller ≡ c
     → ((X : List Stmt) → f X ≡ call.refuse (controller_is c) X (refusal_is q)) → Starts f R c r R
 unfolding Starts
 barred {f} R c q {r} e h g W = subst (λ o. Meets W R c o (started_of o.answer) r W R) (sym (g (record_in W R))) (refused-so W R c r q e h)
@@ -91,7 +89,7 @@ unfolding AllIn
 none_in W k i l = absurd (omega (arith, k.len))
 
 -- a controller that starts has an empty record
-pub began : {f : List Stmt → controller.Outcome} {R R' : List ℕ} (c d : Controller) {e : controller.Controller} {r : Outcome} → r.answer ≡ Taken → r.controller ≡ d → controller_is d ≡ e → Emptied R R'
+pub began : {f : List Stmt → controller.Outcome} {R R' : List ℕ} (c d : Controller) {e : controller.Controller} {r : Came} → r.answer ≡ Ok Taken → r.controller ≡ d → controller_is d ≡ e → Emptied R R'
     → ((X : List Stmt) → f X ≡ record { answer = controller.taken; controller = e; statements = [] }) → Starts f R c r R'
 unfolding Starts answer_is
 began {f} {R} {R'} c d {e} {r} a h k n g W = subst (λ o. Meets W R c o (started_of o.answer) r W R') (sym (g (record_in W R))) (record {
@@ -110,20 +108,20 @@ began {f} {R} {R'} c d {e} {r} a h k n g W = subst (λ o. Meets W R c o (started
 unfoldable pub request : Controller → Bool → Bool → Controller → List Stmt → controller.Outcome
 request c p q d X = call.after_setup (controller_is c) X (if p || q then call.refuse (controller_is c) X controller.bad_request else call.note (controller_is c) X (controller_is d))
 
-module _ (c : Controller) (p q : Bool) (d : Controller) (r : Outcome) where
-  pub request-unready : (r.answer ≡ Refused OutOfPlace) × (r.controller ≡ c) → c.ready ≡ false → Calls (request c p q d) c r
+module _ (c : Controller) (p q : Bool) (d : Controller) (r : Came) where
+  pub request-unready : (r.answer ≡ Err OutOfPlace) × (r.controller ≡ c) → c.ready ≡ false → Calls (request c p q d) c r
   unfolding request controller_is
   request-unready a e = refused c OutOfPlace a.0 a.1 (λ X. rw e)
 
-  pub request-barred : (r.answer ≡ Refused BadRequest) × (r.controller ≡ c) → c.ready ≡ true → p ≡ true → Calls (request c p q d) c r
+  pub request-barred : (r.answer ≡ Err BadRequest) × (r.controller ≡ c) → c.ready ≡ true → p ≡ true → Calls (request c p q d) c r
   unfolding request controller_is
   request-barred a e f = refused c BadRequest a.0 a.1 (λ X. rw (e, f))
 
-  pub request-again : (r.answer ≡ Refused BadRequest) × (r.controller ≡ c) → c.ready ≡ true → p ≡ false → q ≡ true → Calls (request c p q d) c r
+  pub request-again : (r.answer ≡ Err BadRequest) × (r.controller ≡ c) → c.ready ≡ true → p ≡ false → q ≡ true → Calls (request c p q d) c r
   unfolding request controller_is
   request-again a e f g = refused c BadRequest a.0 a.1 (λ X. rw (e, f, g))
 
-  pub request-taken : (r.answer ≡ Taken) × (r.controller ≡ d) → c.ready ≡ true → p ≡ false → q ≡ false → Calls (request c p q d) c r
+  pub request-taken : (r.answer ≡ Ok Taken) × (r.controller ≡ d) → c.ready ≡ true → p ≡ false → q ≡ false → Calls (request c p q d) c r
   unfolding request controller_is
   request-taken a e f g = noted c d a.0 a.1 (λ X. rw (e, f, g))
 
@@ -150,29 +148,29 @@ module _ (c : Controller) where
   abbrev pub joining : Controller
   joining = asking true c.leaving c.sends c.requested
 
-  pub joins : (r : Outcome) → Calls (request c (member (view_is c.init) c.number) c.joining joining) c r → Calls (call.request_join (controller_is c)) c r
+  pub joins : (r : Came) → Calls (request c (member (view_is c.init) c.number) c.joining joining) c r → Calls (call.request_join (controller_is c)) c r
   unfolding request call.request_join controller_is
   joins r m = m
 
   abbrev pub leaving : Controller
   leaving = asking c.joining true c.sends c.requested
 
-  pub leaves : (r : Outcome) → Calls (request c (eqb (length (views_is c.entered)) 0) c.leaving leaving) c r → Calls (call.request_leave (controller_is c)) c r
+  pub leaves : (r : Came) → Calls (request c (eqb (length (views_is c.entered)) 0) c.leaving leaving) c r → Calls (call.request_leave (controller_is c)) c r
   unfolding request call.request_leave controller_is
   leaves r m = m
 
   -- ---- a send of the payload m of notice i
 
-  module _ (i m : ℕ) (r : Outcome) where
+  module _ (i m : ℕ) (r : Came) where
     abbrev Sent : Type 0
     Sent = Calls (λ X. call.request_send (controller_is c) X i m) c r
 
-    pub sends-unready : (r.answer ≡ Refused OutOfPlace) × (r.controller ≡ c) → c.ready ≡ false → Sent
+    pub sends-unready : (r.answer ≡ Err OutOfPlace) × (r.controller ≡ c) → c.ready ≡ false → Sent
     unfolding controller_is
     sends-unready a e = refused c OutOfPlace a.0 a.1 (λ X. send-unready (controller_is c) X i m e)
 
     module _ (e : c.ready ≡ true) where
-      pub sends-unknown : (r.answer ≡ Refused UnknownNotice) × (r.controller ≡ c) → ltb i (min c.notices 64) ≡ false → Sent
+      pub sends-unknown : (r.answer ≡ Err UnknownNotice) × (r.controller ≡ c) → ltb i (min c.notices 64) ≡ false → Sent
       unfolding controller_is
       sends-unknown a f = refused c UnknownNotice a.0 a.1 (λ X. send-unknown (controller_is c) X i m e (is-notice c.senders c.notices i ∙ f))
 
@@ -184,20 +182,20 @@ module _ (c : Controller) where
         unfolding controller_is
         barred-so p q g h = ap₂ ◌||◌ (ap (λ k. not (eqb c.number k)) (sender-at c.senders c.notices i known) ∙ g) (some-when (bit c.requested i) (get_or c.sends i 0) ∙ h)
 
-        pub sends-other : (r.answer ≡ Refused BadRequest) × (r.controller ≡ c) → (c.number ≡ get_or c.senders i 0 → ⊥) → Sent
+        pub sends-other : (r.answer ≡ Err BadRequest) × (r.controller ≡ c) → (c.number ≡ get_or c.senders i 0 → ⊥) → Sent
         unfolding controller_is
         sends-other a g =
             refused c BadRequest a.0 a.1
             (λ X. send-barred (controller_is c) X i m e (is-notice c.senders c.notices i ∙ f) (barred-so true (bit c.requested i) (ap not (ne_eqb c.number (get_or c.senders i 0) g)) refl))
 
         module _ (g : c.number ≡ get_or c.senders i 0) where
-          pub sends-again : (r.answer ≡ Refused BadRequest) × (r.controller ≡ c) → bit c.requested i ≡ true → Sent
+          pub sends-again : (r.answer ≡ Err BadRequest) × (r.controller ≡ c) → bit c.requested i ≡ true → Sent
           unfolding controller_is
           sends-again a h =
               refused c BadRequest a.0 a.1
               (λ X. send-barred (controller_is c) X i m e (is-notice c.senders c.notices i ∙ f) (barred-so false true (ap not (eq-eqb c.number (get_or c.senders i 0) g)) h))
 
-          pub sends-taken : (q : ℕ) → (r.answer ≡ Taken) × (r.controller ≡ asking c.joining c.leaving (set c.sends i m) q) → bit c.requested i ≡ false
+          pub sends-taken : (q : ℕ) → (r.answer ≡ Ok Taken) × (r.controller ≡ asking c.joining c.leaving (set c.sends i m) q) → bit c.requested i ≡ false
               → PutBit c.requested i true q → c.requested < 18446744073709551616 → q < 18446744073709551616 → length c.sends ≡ 64 → Sent
           unfolding controller_is
           sends-taken q a h p l k n =

@@ -161,8 +161,3 @@ module _ (X : List Stmt) (C G P : List ℕ) (c : Controller) (r : declared.Ring)
       certificate = has-certificate;
       stored = is-stored;
     }
-
--- whether t is below a view
-pub above : (t u : View) (b : Bool) {r : Bool} → b ≡ below 16 t u → b ≡ r → not_above t u ≡ not r
-unfolding not_above
-above t u b e f = ap not (sym e ∙ f)

@@ -1,14 +1,15 @@
 -- What a turn comes to, from the evidence of the record.
 -- Assumes nothing.
+use Rattle.std.specs.Prelude.{Ok, Err}
 use mathlib.Core.Path.{◌≡◌, refl, sym, ap, subst, ◌∙◌}
 use mathlib.Core.Bool.{Bool, true, false, not}
 use mathlib.Core.List.{List, [], ◌∷◌}
+use Rattle.std.specs.Prelude as code
+use Rattle.std.specs.Prelude.{Some, None}
 use mathlib.Core.Option.{some}
 use Prim.Native.Nat.{ℕ, ◌≤◌, ◌<◌, min}
 use native.Mathlib.Omega.{arith}
 use lib.Dec.{T, ltb}
-use denote.Enum.Declared.{tag_of}
-use types.Run.{OneOf, miss}
 use lib.ListN.{length, get_or}
 use borrow.Author.Tests.{le-ltb}
 use Rattle.protocol.specs.Sets.{bit}
@@ -33,18 +34,15 @@ use Rattle.evidence.specs.Notices.{senders_of, binding_held}
 use Rattle.evidence.proofs.Reporting.{count_most}
 use Rattle.evidence.proofs.Fitting.{some-view, length_most, wished-narrow, candidates-narrow, greatest-narrow}
 use Rattle.rules.specs.declared.Action.{Action}
-use Rattle.rules.specs.contracts.Action as action
-use Rattle.rules.specs.declared.Action.TheVariants.{Rest, Report, Enter, AgreeView, AgreeHistory, Ack, Store, Deliver, Join, Leave, Prepare}
+use Rattle.rules.specs.declared.Action.TheVariants.{Report, Enter, AgreeView, AgreeHistory, Ack, Store, Deliver, Join, Leave, Prepare}
 use Rattle.rules.specs.declared.Situation.{Situation}
-use Rattle.rules.specs.Actions.{statement_of, action_is}
+use Rattle.rules.specs.Actions.{statement_of, action_is, answer_is}
 use Rattle.rules.specs.Rules.{SituationOf, ToldOf, SendsOf, statements, candidate_views, greatest_views, merged_by, first_rule_at, Does}
 use Rattle.rules.specs.Rules as lent
 use Rattle.engine.specs.declared.Controller.{Controller}
-use Rattle.engine.specs.declared.Outcome.{Outcome}
 use Rattle.engine.specs.declared.Refusal.{Refusal}
 use Rattle.engine.specs.declared.Refusal.TheVariants.{ManyCandidates, Conflict}
-use Rattle.engine.specs.declared.Answer.TheVariants.{Refused}
-use Rattle.engine.specs.Meaning.{controller_is, refusal_is}
+use Rattle.engine.specs.Meaning.{controller_is, Came, refusal_is}
 use Rattle.engine.specs.Promise.{Turns}
 use Rattle.engine.specs.Situation.{RingOf, Situated, ToldTo, Doing, Known, done_by}
 use Rattle.engine.specs.Steps.{rest_is}
@@ -86,8 +84,8 @@ unfolding controller_is
 ring-is c w e = record { is = ap (λ v. record { width = 16; init = v }) e; notices = refl }
 
 -- a turn that is refused for q
-pub turn-refused : (W R : List ℕ) (c : Controller) (minute : ℕ) (r : Outcome) (q : Refusal) → turn.turn (controller_is c) (record_in W R) (has_room (pool_of W)) minute ≡ call.refuse (controller_is c) (record_in W R) (refusal_is q)
-    → r.answer ≡ Refused q → r.controller ≡ c → Turns W R c (turn.turn (controller_is c) (record_in W R) (has_room (pool_of W)) minute) r W R
+pub turn-refused : (W R : List ℕ) (c : Controller) (minute : ℕ) (r : Came) (q : Refusal) → turn.turn (controller_is c) (record_in W R) (has_room (pool_of W)) minute ≡ call.refuse (controller_is c) (record_in W R) (refusal_is q)
+    → r.answer ≡ Err q → r.controller ≡ c → Turns W R c (turn.turn (controller_is c) (record_in W R) (has_room (pool_of W)) minute) r W R
 turn-refused W R c minute r q e a h = subst (λ o. Turns W R c o r W R) (sym e) (refused-so W R c r q a h)
 
 -- ---- from the evidence of the record
@@ -105,11 +103,11 @@ module _ (W R : List ℕ) (c : Controller) (r : Ring) (q : RingOf c r) (C G P : 
   many_is : (b : Bool) → e.conflict ≡ false → e.many ≡ b → ltb 16 (length (candidates d.ring X)) ≡ b
   many_is b h k = sym ((of-controller q o).many h) ∙ k
 
-  module _ (x : Outcome) where
-    pub turn-split : e.conflict ≡ true → x.answer ≡ Refused Conflict → x.controller ≡ c → Turns W R c (turn.turn d X (has_room (pool_of W)) minute) x W R
+  module _ (x : Came) where
+    pub turn-split : e.conflict ≡ true → x.answer ≡ Err Conflict → x.controller ≡ c → Turns W R c (turn.turn d X (has_room (pool_of W)) minute) x W R
     turn-split h a b = turn-refused W R c minute x Conflict (turn-conflict c X (has_room (pool_of W)) minute y (conflict-is true h)) a b
 
-    pub turn-crowded : e.conflict ≡ false → e.many ≡ true → x.answer ≡ Refused ManyCandidates → x.controller ≡ c → Turns W R c (turn.turn d X (has_room (pool_of W)) minute) x W R
+    pub turn-crowded : e.conflict ≡ false → e.many ≡ true → x.answer ≡ Err ManyCandidates → x.controller ≡ c → Turns W R c (turn.turn d X (has_room (pool_of W)) minute) x W R
     turn-crowded h k a b = turn-refused W R c minute x ManyCandidates (turn_many c X (has_room (pool_of W)) minute y (conflict-is false h) (many_is true h k)) a b
 
   module _ (h : e.conflict ≡ false) (k : e.many ≡ false) where
@@ -117,14 +115,10 @@ module _ (W R : List ℕ) (c : Controller) (r : Ring) (q : RingOf c r) (C G P : 
     pub acts-on : RingOf c r × Settled (ring_is r) (senders_of c.senders r.notices) X C G P e
     acts-on = (q, record { of = o; agree = h; few = k })
 
-    pub turn-acts : (W' R' : List ℕ) (x : Outcome) → Turns W R c (turn.perform d X (has_room (pool_of W)) (turn.first_rule d X minute)) x W' R' → Turns W R c (turn.turn d X (has_room (pool_of W)) minute) x W' R'
+    pub turn-acts : (W' R' : List ℕ) (x : Came) → Turns W R c (turn.perform d X (has_room (pool_of W)) (turn.first_rule d X minute)) x W' R' → Turns W R c (turn.turn d X (has_room (pool_of W)) minute) x W' R'
     turn-acts W' R' x t = subst (λ o. Turns W R c o x W' R') (sym (turn-goes c X (has_room (pool_of W)) minute y (conflict-is false h) (many_is false h k))) t
 
 -- ---- the first rule that applies
-
--- any other action than none
-pub not-rest : (a : Action) → OneOf (1 ∷ 2 ∷ 3 ∷ 4 ∷ 5 ∷ 6 ∷ 7 ∷ 8 ∷ 9 ∷ 10 ∷ []) (tag_of action.the_type a) → a ≡ Rest → ⊥
-not-rest a k e = miss (1 ∷ 2 ∷ 3 ∷ 4 ∷ 5 ∷ 6 ∷ 7 ∷ 8 ∷ 9 ∷ 10 ∷ []) 0 tt (subst (λ a. OneOf (1 ∷ 2 ∷ 3 ∷ 4 ∷ 5 ∷ 6 ∷ 7 ∷ 8 ∷ 9 ∷ 10 ∷ []) (tag_of action.the_type a)) e k)
 
 -- who acks a notice has it in the setup
 ack-known : (d : controller.Controller) (X : List Stmt) (k : ℕ) (t : View) (j m : ℕ) {b : ℕ → Binding} → Signs d X (ack k t j m) b → j < length d.senders
@@ -183,11 +177,11 @@ module _ (W R : List ℕ) (c : Controller) (r : Ring) (q : RingOf c r) (C G P : 
       unfolding controller_is
       sends-of = record { at = λ i h. ap (λ q. when (bit q i) (get_or c.sends i 0)) (sym l.requested) }
 
-      module _ (a : Action) (m : Does (statements (record_in W R) ∷ candidate_views C ∷ greatest_views G ∷ lent.senders c.senders ∷ lent.told B ∷ lent.sends c.sends ∷ []) s (first_rule_at s.minute) a) where
+      module _ (a : code.Option Action) (m : Does (statements (record_in W R) ∷ candidate_views C ∷ greatest_views G ∷ lent.senders c.senders ∷ lent.told B ∷ lent.sends c.sends ∷ []) s (first_rule_at s.minute) a) where
         -- what the first rule promises, of this controller
-        chosen : done_by c (record_in W R) C B s a ≡ turn.first_rule (controller_is c) (record_in W R) minute
+        chosen : answer_is s (views_in C s.shown.count) B (merged_by (controller_is c) (record_in W R)) a ≡ turn.first_rule (controller_is c) (record_in W R) minute
         chosen =
-            ap (λ H. action_is s H B (merged_by (controller_is c) (record_in W R)) a) listed
+            ap (λ H. answer_is s H B (merged_by (controller_is c) (record_in W R)) a) listed
             ∙ m.means (controller_is c) (record_in W R) B situated told_of (refl, (listed, (tops, (sym (senders-of ring_of), (told_of, (sends-of, tt))))))
             ∙ ap (turn.first_rule (controller_is c) (record_in W R)) l.minute
 
@@ -198,34 +192,33 @@ module _ (W R : List ℕ) (c : Controller) (r : Ring) (q : RingOf c r) (C G P : 
         unfolding controller_is
         at_most = omega (arith, senders-count c.senders c.notices)
 
-        known : (b : Action) → (b ≡ Rest → ⊥) → done_by c (record_in W R) C B s b ≡ turn.first_rule (controller_is c) (record_in W R) minute → Known b
+        known : (b : Action) → some (done_by c (record_in W R) C B s b) ≡ turn.first_rule (controller_is c) (record_in W R) minute → Known b
         unfolding action_is statement_of
-        known Rest n f = n refl
-        known (Report u) n f = tt
-        known (Enter v) n f = tt
-        known AgreeView n f = tt
-        known AgreeHistory n f = tt
-        known (Ack j i) n f = omega (arith, ack-known _ _ _ _ j i (acted (sym f)).0, at_most)
-        known (Store j i) n f = tt
-        known (Deliver j i) n f = omega (arith, (acted (sym f)).0, at_most)
-        known Join n f = tt
-        known Leave n f = tt
-        known (Prepare j i) n f = tt
+        known (Report u) f = tt
+        known (Enter v) f = tt
+        known AgreeView f = tt
+        known AgreeHistory f = tt
+        known (Ack j i) f = omega (arith, ack-known _ _ _ _ j i (acted (sym f)).0, at_most)
+        known (Store j i) f = tt
+        known (Deliver j i) f = omega (arith, (acted (sym f)).0, at_most)
+        known Join f = tt
+        known Leave f = tt
+        known (Prepare j i) f = tt
 
         -- what doing it asks, and what that comes to
 
-        pub performing : (a ≡ Rest → ⊥) → {groups : List ℕ} → BackedIn W R r.init groups e.backed
-            → Doing c (record_in W R) C G P s × Known a × BackedIn W R s.ring.init groups s.shown.backed
-        performing n {groups} b = (
+        pub performing : (b : Action) → a ≡ Some b → {groups : List ℕ} → BackedIn W R r.init groups e.backed
+            → Doing c (record_in W R) C G P s × Known b × BackedIn W R s.ring.init groups s.shown.backed
+        performing b f {groups} h = (
           doing,
-          known a n chosen,
-          subst (λ r. BackedIn W R r.init groups s.shown.backed) (sym l.ring) (subst (λ e. BackedIn W R r.init groups e.backed) (sym l.shown) b),
+          known b (ap (answer_is s (views_in C s.shown.count) B (merged_by (controller_is c) (record_in W R))) (sym f) ∙ chosen),
+          subst (λ r. BackedIn W R r.init groups s.shown.backed) (sym l.ring) (subst (λ e. BackedIn W R r.init groups e.backed) (sym l.shown) h),
         )
 
-        pub performed : (W' R' : List ℕ) (x : Outcome) → Turns W R c (turn.perform (controller_is c) (record_in W R) (has_room (pool_of W)) (done_by c (record_in W R) C B s a)) x W' R'
+        pub performed : (b : Action) → a ≡ Some b → (W' R' : List ℕ) (x : Came) → Turns W R c (turn.perform (controller_is c) (record_in W R) (has_room (pool_of W)) (some (done_by c (record_in W R) C B s b))) x W' R'
             → Turns W R c (turn.perform (controller_is c) (record_in W R) (has_room (pool_of W)) (turn.first_rule (controller_is c) (record_in W R) minute)) x W' R'
-        performed W' R' x = subst (λ z. Turns W R c (turn.perform (controller_is c) (record_in W R) (has_room (pool_of W)) z) x W' R') chosen
+        performed b f W' R' x = subst (λ z. Turns W R c (turn.perform (controller_is c) (record_in W R) (has_room (pool_of W)) z) x W' R') (ap (answer_is s (views_in C s.shown.count) B (merged_by (controller_is c) (record_in W R))) (sym f) ∙ chosen)
 
-        pub rested : (x : Outcome) → a ≡ Rest → x.answer ≡ rest_is s.left → x.controller ≡ c
+        pub rested : (x : Came) → a ≡ None → x.answer ≡ Ok (rest_is s.left) → x.controller ≡ c
             → Turns W R c (turn.perform (controller_is c) (record_in W R) (has_room (pool_of W)) (turn.first_rule (controller_is c) (record_in W R) minute)) x W R
-        rested x f g h = performed W R x (rest-is W R c s (views_in C s.shown.count) B (merged_by (controller_is c) (record_in W R)) a x situated f g h)
+        rested x f g h = subst (λ z. Turns W R c (turn.perform (controller_is c) (record_in W R) (has_room (pool_of W)) z) x W R) (ap (answer_is s (views_in C s.shown.count) B (merged_by (controller_is c) (record_in W R))) (sym f) ∙ chosen) (rest-is W R c s x situated g h)

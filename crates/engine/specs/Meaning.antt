@@ -1,6 +1,6 @@
 -- What the engine's values mean: the protocol's controller and answer.
 -- Assumes nothing.
-use Rattle.std.specs.Prelude.{List, [], ◌∷◌, ℕ, min, get_or, if◌then◌else◌}
+use Rattle.std.specs.Prelude.{List, [], ◌∷◌, ℕ, min, get_or, if◌then◌else◌, Result, Ok, Err}
 use Rattle.protocol.specs.Sets.{bit}
 use Rattle.protocol.specs.Lists.{when, list_of}
 use Rattle.protocol.specs.View.{View, controllers, member}
@@ -16,7 +16,8 @@ use Rattle.engine.specs.declared.Setup.{Setup}
 use Rattle.engine.specs.declared.Refusal.{Refusal}
 use Rattle.engine.specs.declared.Refusal.TheVariants.{BadSetup, BadStatement, Repeated, Full, BadRequest, ManyCandidates, Conflict, OutOfPlace, UnknownNotice, BadWindow, BadMinute}
 use Rattle.engine.specs.declared.Answer.{Answer}
-use Rattle.engine.specs.declared.Answer.TheVariants.{Taken, Signed, Entered, Delivered, Left, Quiet, Refused}
+use Rattle.engine.specs.declared.Answer.TheVariants.{Taken, Signed, Entered, Delivered, Left, Quiet}
+use Rattle.engine.specs.declared.Outcome.{Outcome}
 
 -- The views that controller k has entered at first: "Initial members start entered".
 unfoldable pub initial_is : held.View → ℕ → List View
@@ -59,22 +60,32 @@ refusal_is UnknownNotice = controller.unknown_notice
 refusal_is BadWindow = controller.bad_window
 refusal_is BadMinute = controller.bad_minute
 
+-- What a call came to: its answer, or why it was refused, and the controller after it.
+pub record Came : Type 0 where
+  pub answer : Result Answer Refusal
+  pub controller : Controller
+
+-- A call on c that returned r: the controller of a call that is refused is as it was.
+abbrev pub came_to : Controller → Result Outcome Refusal → Came
+came_to c (Ok o) = record { answer = Ok o.answer; controller = o.controller }
+came_to c (Err q) = record { answer = Err q; controller = c }
+
 -- The number in the pool of what was signed; 0 where nothing was.
-abbrev pub signed_number : Answer → ℕ
-signed_number Taken = 0
-signed_number (Signed n) = n
-signed_number (Entered v) = 0
-signed_number (Delivered i m a) = 0
-signed_number Left = 0
-signed_number Quiet = 0
-signed_number (Refused r) = 0
+abbrev pub signed_number : Result Answer Refusal → ℕ
+signed_number (Ok Taken) = 0
+signed_number (Ok (Signed n)) = n
+signed_number (Ok (Entered v)) = 0
+signed_number (Ok (Delivered i m a)) = 0
+signed_number (Ok Left) = 0
+signed_number (Ok Quiet) = 0
+signed_number (Err r) = 0
 
 -- An answer over the pool's memory W: a signed statement is answered by its number in the pool.
-unfoldable pub answer_is : List ℕ → Answer → controller.Answer
-answer_is W Taken = controller.taken
-answer_is W (Signed n) = controller.signed (stmt_at W n)
-answer_is W (Entered v) = controller.entered (view_is v)
-answer_is W (Delivered i m a) = controller.delivered i m a
-answer_is W Left = controller.left
-answer_is W Quiet = controller.quiet
-answer_is W (Refused r) = controller.refused (refusal_is r)
+unfoldable pub answer_is : List ℕ → Result Answer Refusal → controller.Answer
+answer_is W (Ok Taken) = controller.taken
+answer_is W (Ok (Signed n)) = controller.signed (stmt_at W n)
+answer_is W (Ok (Entered v)) = controller.entered (view_is v)
+answer_is W (Ok (Delivered i m a)) = controller.delivered i m a
+answer_is W (Ok Left) = controller.left
+answer_is W (Ok Quiet) = controller.quiet
+answer_is W (Err r) = controller.refused (refusal_is r)

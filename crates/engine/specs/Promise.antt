@@ -1,6 +1,6 @@
 -- What every call promises: its answer, the whole controller and record after it, and the pool.
 -- Assumes nothing.
-use Rattle.std.specs.Prelude.{◌≡◌, Bool, List, ℕ}
+use Rattle.std.specs.Prelude.{◌≡◌, Bool, List, ℕ, Result, Ok}
 use Rattle.protocol.specs.Statement.{Stmt}
 use Rattle.protocol.specs.Controller as controller
 use Rattle.protocol.specs.Call as call
@@ -9,10 +9,10 @@ use Rattle.protocol.specs.Run.{Call, setup_call, join_call, leave_call, send_cal
 use Rattle.engine.specs.declared.Controller.{Controller}
 use Rattle.pool.specs.Pool.{record_in, pool_of, AllIn}
 use Rattle.pool.specs.Changes.{pooled_in, PushedTo, Emptied}
-use Rattle.engine.specs.declared.Outcome.{Outcome}
 use Rattle.engine.specs.declared.Answer.{Answer}
+use Rattle.engine.specs.declared.Refusal.{Refusal}
 use Rattle.engine.specs.declared.Answer.TheVariants.{Signed}
-use Rattle.engine.specs.Meaning.{controller_is, answer_is}
+use Rattle.engine.specs.Meaning.{controller_is, Came, answer_is}
 
 -- What a call does to a record: nothing, it empties it, or it puts a statement at its end.
 pub data Change : Type 0 where
@@ -60,9 +60,9 @@ signed_of (controller.refused r) = unchanged
 -- A call on c over the pool W and the record R has the outcome o and changes the record by p; it returned r, and left the pool W' and the record R'.
 -- What becomes of the record's numbers is promised for every record. What they mean is promised for one whose numbers are in the pool, as they stay: a number that a made-up
 -- record names and the pool does not have may come to mean a new statement.
-pub record Meets (W R : List ℕ) (c : Controller) (o : controller.Outcome) (p : Change) (r : Outcome) (W' R' : List ℕ) : Type 0 where
+pub record Meets (W R : List ℕ) (c : Controller) (o : controller.Outcome) (p : Change) (r : Came) (W' R' : List ℕ) : Type 0 where
   pub answer : answer_is W' r.answer ≡ o.answer
-  pub number : (s : Stmt) → o.answer ≡ controller.signed s → r.answer ≡ Signed (number_of s (pool_of W))
+  pub number : (s : Stmt) → o.answer ≡ controller.signed s → r.answer ≡ Ok (Signed (number_of s (pool_of W)))
   pub controller : controller_is r.controller ≡ o.controller
   pub numbers : NumbersAfter W R p R'
   pub statements : AllIn W R → (record_in W' R' ≡ o.statements) × AllIn W' R'
@@ -71,7 +71,7 @@ pub record Meets (W R : List ℕ) (c : Controller) (o : controller.Outcome) (p :
   pub refused : IsRefused o.answer → (r.controller ≡ c) × (R' ≡ R) × (W' ≡ W)
 
 -- A call that touches neither the pool nor the record, whatever they are.
-unfoldable pub Calls : (List Stmt → controller.Outcome) → Controller → Outcome → Type 0
+unfoldable pub Calls : (List Stmt → controller.Outcome) → Controller → Came → Type 0
 Calls f c r = (W R : List ℕ) → Meets W R c (f (record_in W R)) unchanged r W R
 
 -- What a setup that answers so does to the record: one that is taken empties it.
@@ -85,11 +85,11 @@ started_of controller.quiet = unchanged
 started_of (controller.refused r) = unchanged
 
 -- A setup, over any pool.
-unfoldable pub Starts : (List Stmt → controller.Outcome) → List ℕ → Controller → Outcome → List ℕ → Type 0
+unfoldable pub Starts : (List Stmt → controller.Outcome) → List ℕ → Controller → Came → List ℕ → Type 0
 Starts f R c r R' = (W : List ℕ) → Meets W R c (f (record_in W R)) (started_of (f (record_in W R)).answer) r W R'
 
 -- A turn: what it signs goes into the pool.
-abbrev pub Turns : List ℕ → List ℕ → Controller → controller.Outcome → Outcome → List ℕ → List ℕ → Type 0
+abbrev pub Turns : List ℕ → List ℕ → Controller → controller.Outcome → Came → List ℕ → List ℕ → Type 0
 Turns W R c o r W' R' = Meets W R c o (signed_of o.answer) r W' R'
 
 -- What an addition of s that answers so does to the record.
@@ -103,11 +103,11 @@ added_of controller.quiet s = unchanged
 added_of (controller.refused r) s = unchanged
 
 -- An addition of s.
-abbrev pub Adds : List ℕ → List ℕ → Controller → Stmt → controller.Outcome → Outcome → List ℕ → List ℕ → Type 0
+abbrev pub Adds : List ℕ → List ℕ → Controller → Stmt → controller.Outcome → Came → List ℕ → List ℕ → Type 0
 Adds W R c s o r W' R' = Meets W R c o (added_of o.answer s) r W' R'
 
 -- The same of the answer alone: no addition changes a controller, and it asks only whether that is set up and how many notices it has.
-pub record AddsFor (ready : Bool) (notices : ℕ) (W R : List ℕ) (s : Stmt) (a : Answer) (W' R' : List ℕ) : Type 0 where
+pub record AddsFor (ready : Bool) (notices : ℕ) (W R : List ℕ) (s : Stmt) (a : Result Answer Refusal) (W' R' : List ℕ) : Type 0 where
   pub each : (c : Controller) → c.ready ≡ ready → c.notices ≡ notices → Adds W R c s (call.add (controller_is c) (record_in W R) (has_room (pool_of W)) s) (record { answer = a; controller = c }) W' R'
 
 -- ---- every call of a run
@@ -122,6 +122,6 @@ change_of (add_call s) a = added_of a s
 change_of (turn_call minute) a = signed_of a
 
 -- The engine was called so, over the pool W and the record R, and returned r with the pool W' and the record R'. Every contract of the engine's calls is of this form.
-abbrev pub Called : List ℕ → List ℕ → Controller → Call → Outcome → List ℕ → List ℕ → Type 0
+abbrev pub Called : List ℕ → List ℕ → Controller → Call → Came → List ℕ → List ℕ → Type 0
 Called W R c k r W' R' =
     Meets W R c (outcome (has_room (pool_of W)) (controller_is c) (record_in W R) k) (change_of k (outcome (has_room (pool_of W)) (controller_is c) (record_in W R) k).answer) r W' R'

@@ -1,7 +1,6 @@
 -- What the rules look at, of a controller, and what doing what they say asks.
 -- Assumes nothing.
 use Rattle.std.specs.Prelude.{◌≡◌, Bool, not, ◌&&◌, List, ℕ, ◌-◌, ◌≤◌, ◌<◌, min, ltb, get_or}
-use Rattle.std.proofs.Math.Option.{Option}
 use Rattle.protocol.specs.Sets.{bit}
 use Rattle.protocol.specs.Lists.{any, all}
 use Rattle.protocol.specs.View.{View, same_view, below}
@@ -12,7 +11,6 @@ use Rattle.protocol.specs.Turn as turn
 use Rattle.views.specs.View.{view_in, views_in}
 use Rattle.views.specs.Held.{view_is, views_is}
 use Rattle.views.specs.declared.View as views
-use Rattle.views.specs.declared.History.{History}
 use Rattle.statements.specs.Block.{group_at}
 use Rattle.statements.specs.declared.Binding.{Binding}
 use Rattle.statements.specs.declared.Told.{Told}
@@ -22,7 +20,7 @@ use Rattle.evidence.specs.declared.Ring.{Ring}
 use Rattle.evidence.specs.Evidence.{ring_is, certificate_at, Settled}
 use Rattle.evidence.specs.Notices.{senders_of, binding_held}
 use Rattle.rules.specs.declared.Action.{Action}
-use Rattle.rules.specs.declared.Action.TheVariants.{Rest, Report, Enter, AgreeView, AgreeHistory, Ack, Store, Deliver, Join, Leave, Prepare}
+use Rattle.rules.specs.declared.Action.TheVariants.{Report, Enter, AgreeView, AgreeHistory, Ack, Store, Deliver, Join, Leave, Prepare}
 use Rattle.rules.specs.declared.Situation.{Situation}
 use Rattle.rules.specs.Actions.{action_is}
 use Rattle.rules.specs.Rules.{SituationOf, merged_by}
@@ -75,9 +73,8 @@ pub record Doing (c : held.Controller) (X : List Stmt) (C G P : List ℕ) (s : S
   pub situation : SituationOf (controller_is c) X s
   pub settled : Settled (ring_is s.ring) (senders_of c.senders s.ring.notices) X C G P s.shown
 
--- Something is done, and the notice that it is about is one of the 64.
+-- The notice that the action is about is one of the 64.
 abbrev pub Known : Action → Type 0
-Known Rest = ⊥
 Known (Report u) = Unit {0}
 Known (Enter v) = Unit {0}
 Known AgreeView = Unit {0}
@@ -90,7 +87,7 @@ Known Leave = Unit {0}
 Known (Prepare j m) = Unit {0}
 
 -- What the action a has the controller c do, where C has the words of the candidates and the block B tells what a report does.
-abbrev pub done_by : held.Controller → List Stmt → List ℕ → List ℕ → Situation → Action → Option turn.Action
+abbrev pub done_by : held.Controller → List Stmt → List ℕ → List ℕ → Situation → Action → turn.Action
 done_by c X C B s a = action_is s (views_in C s.shown.count) B (merged_by (controller_is c) X) a
 
 -- d is the controller c that entered v, with the bindings merged.

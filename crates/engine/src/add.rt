@@ -3,7 +3,7 @@ ghost use Rattle.protocol.specs.Call.{add};
 ghost use Rattle.protocol.specs.Pool.{has_room};
 ghost use Rattle.statements.specs.Meaning.{stmt_of};
 ghost use Rattle.pool.specs.Pool.{record_in, pool_of};
-ghost use Rattle.engine.specs.Meaning.{controller_is};
+ghost use Rattle.engine.specs.Meaning.{controller_is, came_to};
 ghost use Rattle.engine.specs.Promise.{Adds, AddsFor};
 
 use crate::{Answer, Controller, Outcome, Refusal, calls, keep};
@@ -18,26 +18,23 @@ pub fn add_statement(
     words: &mut [u64; POOL_WORDS],
     st: Statement,
     block: &[u64; BLOCK],
-) -> Answer
+) -> Result<Answer, Refusal>
     ensures { AddsFor ready notices words.old ids.old (stmt_of st block.now) result words.new ids.new }
 {
     if !ready {
-        return Answer::Refused(Refusal::OutOfPlace);
+        return Err(Refusal::OutOfPlace);
     }
     if !statements::keeps_field_rules(st, block, notices) {
-        return Answer::Refused(Refusal::BadStatement);
+        return Err(Refusal::BadStatement);
     }
     if !calls::is_notice(st.notice as u64, notices) {
-        return Answer::Refused(Refusal::UnknownNotice);
+        return Err(Refusal::UnknownNotice);
     }
     if pool::record_holds(words, ids, st, block) {
-        return Answer::Refused(Refusal::Repeated);
+        return Err(Refusal::Repeated);
     }
-    let placed = keep::keep(ids, words, st, block);
-    let pool::Placed::At(_) = placed else {
-        return Answer::Refused(Refusal::Full);
-    };
-    Answer::Taken
+    keep::keep(ids, words, st, block)?;
+    Ok(Answer::Taken)
 }
 
 impl Controller {
@@ -48,13 +45,13 @@ impl Controller {
         words: &mut [u64; POOL_WORDS],
         st: Statement,
         block: &[u64; BLOCK],
-    ) -> Outcome
-        ensures { Adds words.old ids.old self (stmt_of st block.now) (add (controller_is self) (record_in words.old ids.old) (has_room (pool_of words.old)) (stmt_of st block.now)) result words.new ids.new }
+    ) -> Result<Outcome, Refusal>
+        ensures { Adds words.old ids.old self (stmt_of st block.now) (add (controller_is self) (record_in words.old ids.old) (has_room (pool_of words.old)) (stmt_of st block.now)) (came_to self result) words.new ids.new }
     {
-        let a = add_statement(self.ready, self.notices, ids, words, st, block);
-        Outcome {
-            answer: a,
+        let answer = add_statement(self.ready, self.notices, ids, words, st, block)?;
+        Ok(Outcome {
+            answer,
             controller: self,
-        }
+        })
     }
 }

@@ -1,100 +1,75 @@
 // Requests.
 ghost use Rattle.std.specs.Prelude.{◌≡◌, min, ltb};
 ghost use Rattle.protocol.specs.Call.{request_join, request_leave, request_send};
-ghost use Rattle.engine.specs.Meaning.{controller_is};
+ghost use Rattle.engine.specs.Meaning.{controller_is, came_to};
 ghost use Rattle.engine.specs.Promise.{Calls};
 
 use crate::{Answer, Controller, Outcome, Refusal};
 use statements::NOTICES;
 
-// The controller as it was, and why.
-pub fn refuse(c: Controller, r: Refusal) -> Outcome
-    ensures { (result.answer ≡ Answer.Refused r) × (result.controller ≡ c) }
-{
-    Outcome {
-        answer: Answer::Refused(r),
-        controller: c,
-    }
-}
-
-// The controller with what was asked noted in it.
-pub fn take(c: Controller) -> Outcome
-    ensures { (result.answer ≡ Answer.Taken) × (result.controller ≡ c) }
-{
-    Outcome {
-        answer: Answer::Taken,
-        controller: c,
-    }
-}
-
 // Whether the number is one of the first `notices` notices, of which there are at most 64.
 pub fn is_notice(notice: u64, notices: usize) -> bool
     ensures { result ≡ ltb notice (min notices 64) }
 {
-    if notice >= NOTICES as u64 {
-        return false;
-    }
-    (notice as usize) < notices
+    notice < NOTICES as u64 && (notice as usize) < notices
 }
 
 impl Controller {
-    pub fn join(self) -> Outcome
-        ensures { Calls (request_join (controller_is self)) self result }
+    pub fn join(self) -> Result<Outcome, Refusal>
+        ensures { Calls (request_join (controller_is self)) self (came_to self result) }
     {
         if !self.ready {
-            return refuse(self, Refusal::OutOfPlace);
+            return Err(Refusal::OutOfPlace);
         }
-        let init = self.init;
-        if init.has_member(self.number) {
-            return refuse(self, Refusal::BadRequest);
+        if self.init.has_member(self.number) || self.joining {
+            return Err(Refusal::BadRequest);
         }
-        if self.joining {
-            return refuse(self, Refusal::BadRequest);
-        }
-        take(Controller {
-            joining: true,
-            ..self
+        Ok(Outcome {
+            answer: Answer::Taken,
+            controller: Controller {
+                joining: true,
+                ..self
+            },
         })
     }
 
-    pub fn leave(self) -> Outcome
-        ensures { Calls (request_leave (controller_is self)) self result }
+    pub fn leave(self) -> Result<Outcome, Refusal>
+        ensures { Calls (request_leave (controller_is self)) self (came_to self result) }
     {
         if !self.ready {
-            return refuse(self, Refusal::OutOfPlace);
+            return Err(Refusal::OutOfPlace);
         }
-        let entered = self.entered;
-        if entered.len == 0 {
-            return refuse(self, Refusal::BadRequest);
+        if self.entered.len == 0 || self.leaving {
+            return Err(Refusal::BadRequest);
         }
-        if self.leaving {
-            return refuse(self, Refusal::BadRequest);
-        }
-        take(Controller {
-            leaving: true,
-            ..self
+        Ok(Outcome {
+            answer: Answer::Taken,
+            controller: Controller {
+                leaving: true,
+                ..self
+            },
         })
     }
 
-    pub fn send(self, notice: u64, payload: u64) -> Outcome
-        ensures { Calls (λ X. request_send (controller_is self) X notice payload) self result }
+    pub fn send(self, notice: u64, payload: u64) -> Result<Outcome, Refusal>
+        ensures { Calls (λ X. request_send (controller_is self) X notice payload) self (came_to self result) }
     {
         if !self.ready {
-            return refuse(self, Refusal::OutOfPlace);
+            return Err(Refusal::OutOfPlace);
         }
         if !is_notice(notice, self.notices) {
-            return refuse(self, Refusal::UnknownNotice);
+            return Err(Refusal::UnknownNotice);
         }
         let j = notice as usize;
-        if self.number != self.senders[j] {
-            return refuse(self, Refusal::BadRequest);
+        if self.number != self.senders[j] || statements::has(self.requested, j) {
+            return Err(Refusal::BadRequest);
         }
-        if statements::has(self.requested, j) {
-            return refuse(self, Refusal::BadRequest);
-        }
-        let mut c = self;
-        c.sends[j] = payload;
-        c.requested = statements::with_notice(self.requested, j);
-        take(c)
+        let mut controller = self;
+        controller.sends[j] = payload;
+        controller.requested = statements::with_notice(self.requested, j);
+        Ok(Outcome {
+            answer: Answer::Taken,
+            controller,
+        })
     }
 }

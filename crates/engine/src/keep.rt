@@ -3,7 +3,7 @@ ghost use Rattle.std.specs.Prelude.{◌≤◌};
 ghost use Rattle.statements.specs.Meaning.{stmt_of};
 ghost use Rattle.engine.specs.Steps.{PlacedFor, KeptFor};
 
-use pool::{CAPACITY, POOL_WORDS, RECORD};
+use pool::{CAPACITY, Full, POOL_WORDS, RECORD};
 use statements::{BLOCK, Statement};
 
 // The number of the statement in the pool; or there is no room in the record, or none in the pool, which lacks the statement.
@@ -12,12 +12,12 @@ fn place(
     ids: &[u16; RECORD],
     st: Statement,
     block: &[u64; BLOCK],
-) -> pool::Placed
+) -> Result<u16, Full>
     requires { st.history.len ≤ 16 }
     ensures { PlacedFor words.old ids.now (stmt_of st block.now) result words.new }
 {
     if pool::record_length(ids) >= CAPACITY {
-        return pool::Placed::Full;
+        return Err(Full);
     }
     pool::append(words, st, block)
 }
@@ -28,14 +28,11 @@ pub fn keep(
     words: &mut [u64; POOL_WORDS],
     st: Statement,
     block: &[u64; BLOCK],
-) -> pool::Placed
+) -> Result<u16, Full>
     requires { st.history.len ≤ 16 }
     ensures { KeptFor words.old ids.old (stmt_of st block.now) result words.new ids.new }
 {
-    let placed = place(words, ids, st, block);
-    let pool::Placed::At(n) = placed else {
-        return pool::Placed::Full;
-    };
+    let n = place(words, ids, st, block)?;
     pool::record_push(ids, n);
-    pool::Placed::At(n)
+    Ok(n)
 }

@@ -4,6 +4,7 @@
 ghost use Rattle.std.specs.Prelude.{◌≡◌};
 ghost use Rattle.protocol.specs.Controller.{refusal_number};
 ghost use Rattle.engine.specs.Meaning.{refusal_is};
+ghost use Rattle.engine.specs.declared.Refusal.TheVariants as refused;
 
 mod add;
 mod calls;
@@ -14,7 +15,7 @@ mod start;
 mod turn;
 
 pub use add::add_statement;
-pub use calls::{is_notice, refuse};
+pub use calls::is_notice;
 use evidence::Notice;
 pub use situation::of_controller;
 pub use start::is_allowed;
@@ -52,23 +53,33 @@ pub struct Setup {
     pub windows: usize,
 }
 
-// Why a call is refused, in the order of the table of refusals.
-#[derive(Clone, Copy)]
+// Why a call is refused, by its number in the table of refusals. The controller is then as it was.
+#[derive(Clone, Copy, Debug, PartialEq, Eq)]
 pub enum Refusal {
-    BadSetup,
-    BadStatement,
-    Repeated,
-    Full,
-    BadRequest,
-    ManyCandidates,
-    Conflict,
-    OutOfPlace,
-    UnknownNotice,
-    BadWindow,
-    BadMinute,
+    BadSetup = 1,
+    BadStatement = 2,
+    Repeated = 3,
+    Full = 4,
+    BadRequest = 5,
+    ManyCandidates = 6,
+    Conflict = 7,
+    OutOfPlace = 8,
+    UnknownNotice = 9,
+    BadWindow = 10,
+    BadMinute = 11,
 }
 
-// A signed statement is answered by its number in the pool, a delivery by the notice, its payload and the set of those behind its store quorum, bit k for controller k.
+// A record or a pool has no room for one more statement.
+impl From<pool::Full> for Refusal {
+    ghost from_gives = { λ _ refusal. refusal ≡ refused.Full };
+
+    fn from(_full: pool::Full) -> Refusal {
+        Refusal::Full
+    }
+}
+
+// What a call answers that is done. A signed statement is answered by its number in the pool, a delivery by the notice, its payload and the set of those behind its store quorum, bit k for
+// controller k.
 #[derive(Clone, Copy)]
 pub enum Answer {
     Taken,
@@ -77,9 +88,9 @@ pub enum Answer {
     Delivered(u8, u64, u32),
     Left,
     Quiet,
-    Refused(Refusal),
 }
 
+// What a call that is done answers, and the controller after it.
 #[derive(Clone, Copy)]
 pub struct Outcome {
     pub answer: Answer,
@@ -90,17 +101,5 @@ pub struct Outcome {
 pub fn refusal_number(r: Refusal) -> u64
     ensures { result ≡ refusal_number (refusal_is r) }
 {
-    match r {
-        Refusal::BadSetup => 1,
-        Refusal::BadStatement => 2,
-        Refusal::Repeated => 3,
-        Refusal::Full => 4,
-        Refusal::BadRequest => 5,
-        Refusal::ManyCandidates => 6,
-        Refusal::Conflict => 7,
-        Refusal::OutOfPlace => 8,
-        Refusal::UnknownNotice => 9,
-        Refusal::BadWindow => 10,
-        Refusal::BadMinute => 11,
-    }
+    r as u64
 }

@@ -1,5 +1,6 @@
 // What the rule of a turn has the controller do.
 ghost use Rattle.std.specs.Prelude.{◌≡◌, ◌≤◌, ◌<◌, true};
+ghost use Rattle.std.proofs.Math.Option.{some};
 ghost use Rattle.protocol.specs.Pool.{has_room};
 ghost use Rattle.protocol.specs.Lists.{put};
 ghost use Rattle.protocol.specs.Statement.{bound};
@@ -8,12 +9,12 @@ ghost use Rattle.protocol.specs.Turn as protocol;
 ghost use Rattle.statements.specs.Meaning.{stmt_of};
 ghost use Rattle.pool.specs.Pool.{record_in, pool_of};
 ghost use Rattle.evidence.specs.Shown.{BackedIn};
-ghost use Rattle.engine.specs.Meaning.{controller_is};
+ghost use Rattle.engine.specs.Meaning.{controller_is, came_to};
 ghost use Rattle.engine.specs.Situation.{Doing, Known, done_by, EntersMerged};
 ghost use Rattle.engine.specs.Steps.{rest_is};
 ghost use Rattle.engine.specs.Promise.{Turns};
 
-use crate::{Answer, Controller, Outcome, Refusal, calls, keep};
+use crate::{Answer, Controller, Outcome, Refusal, keep};
 use evidence::{GROUPS, Notice};
 use pool::{POOL_WORDS, RECORD};
 use rules::{Action, Situation};
@@ -27,18 +28,15 @@ fn sign(
     words: &mut [u64; POOL_WORDS],
     st: Statement,
     block: &[u64; BLOCK],
-) -> Outcome
+) -> Result<Outcome, Refusal>
     requires { st.history.len ≤ 16 }
-    ensures { Turns words.old ids.old c (protocol.signing (controller_is c) (record_in words.old ids.old) (has_room (pool_of words.old)) (controller_is c) (stmt_of st block.now)) result words.new ids.new }
+    ensures { Turns words.old ids.old c (protocol.signing (controller_is c) (record_in words.old ids.old) (has_room (pool_of words.old)) (controller_is c) (stmt_of st block.now)) (came_to c result) words.new ids.new }
 {
-    let placed = keep::keep(ids, words, st, block);
-    let pool::Placed::At(n) = placed else {
-        return calls::refuse(c, Refusal::Full);
-    };
-    Outcome {
+    let n = keep::keep(ids, words, st, block)?;
+    Ok(Outcome {
         answer: Answer::Signed(n),
         controller: c,
-    }
+    })
 }
 
 // The same, and notice j is bound to m from then on.
@@ -50,22 +48,19 @@ fn bind_and_sign(
     m: u64,
     st: Statement,
     block: &[u64; BLOCK],
-) -> Outcome
+) -> Result<Outcome, Refusal>
     requires { (st.history.len ≤ 16) × (j < 64) }
-    ensures { Turns words.old ids.old c (protocol.signing (controller_is c) (record_in words.old ids.old) (has_room (pool_of words.old)) (with_binding (put j (bound m) (controller_is c).binding) (controller_is c)) (stmt_of st block.now)) result words.new ids.new }
+    ensures { Turns words.old ids.old c (protocol.signing (controller_is c) (record_in words.old ids.old) (has_room (pool_of words.old)) (with_binding (put j (bound m) (controller_is c).binding) (controller_is c)) (stmt_of st block.now)) (came_to c result) words.new ids.new }
 {
-    let placed = keep::keep(ids, words, st, block);
-    let pool::Placed::At(n) = placed else {
-        return calls::refuse(c, Refusal::Full);
-    };
+    let n = keep::keep(ids, words, st, block)?;
     let mut after = c;
     after.held[j as usize] = Notice {
         binding: Binding::Bound(m),
     };
-    Outcome {
+    Ok(Outcome {
         answer: Answer::Signed(n),
         controller: after,
-    }
+    })
 }
 
 // The controller that entered v, with what the reports say of each notice and its own bindings merged.
@@ -82,22 +77,13 @@ fn enter(
     requires { Doing c (record_in words.now ids.now) candidates.now greatest.now certs.now s }
     ensures { (result.answer ≡ Answer.Entered v) × EntersMerged c (record_in words.now ids.now) v result.controller }
 {
-    let senders = c.senders;
-    let held = c.held;
-    let ring = s.ring;
-    let e = s.shown;
-    let merged = evidence::merged(
-        words, ids, ring, &senders, e, candidates, greatest, certs, held,
+    let held = evidence::merged(
+        words, ids, s.ring, &c.senders, s.shown, candidates, greatest, certs, c.held,
     );
-    let entered = c.entered;
-    let more = entered.push(v);
+    let entered = c.entered.push(v);
     Outcome {
         answer: Answer::Entered(v),
-        controller: Controller {
-            entered: more,
-            held: merged,
-            ..c
-        },
+        controller: Controller { entered, held, ..c },
     }
 }
 
@@ -105,10 +91,7 @@ fn enter(
 pub fn rest(gone: bool) -> Answer
     ensures { result ≡ rest_is gone }
 {
-    if gone {
-        return Answer::Left;
-    }
-    Answer::Quiet
+    if gone { Answer::Left } else { Answer::Quiet }
 }
 
 // Notice j is delivered, and `set` is behind its store quorum.
@@ -138,17 +121,16 @@ pub fn perform(
     told: &[u64; BLOCK],
     s: Situation,
     a: Action,
-) -> Outcome
+) -> Result<Outcome, Refusal>
     requires { Doing c (record_in words.old ids.old) candidates.now greatest.now certs.now s × Known a × BackedIn words.old ids.old s.ring.init groups.now s.shown.backed }
-    ensures { Turns words.old ids.old c (protocol.perform (controller_is c) (record_in words.old ids.old) (has_room (pool_of words.old)) (done_by c (record_in words.old ids.old) candidates.now told.now s a)) result words.new ids.new }
+    ensures { Turns words.old ids.old c (protocol.perform (controller_is c) (record_in words.old ids.old) (has_room (pool_of words.old)) (some (done_by c (record_in words.old ids.old) candidates.now told.now s a))) (came_to c result) words.new ids.new }
 {
     match a {
-        Action::Enter(v) => enter(c, ids, words, candidates, greatest, certs, s, v),
+        Action::Enter(v) => Ok(enter(c, ids, words, candidates, greatest, certs, s, v)),
         Action::Deliver(j, m) => {
-            let e = s.shown;
-            let ring = s.ring;
-            let set = evidence::stored_by(words, ids, ring.init, groups, e.backed as usize, j, m);
-            deliver(c, j, m, set)
+            let backed = s.shown.backed as usize;
+            let set = evidence::stored_by(words, ids, s.ring.init, groups, backed, j, m);
+            Ok(deliver(c, j, m, set))
         }
         Action::Ack(j, m) => {
             let st = rules::statement(candidates, s, a);

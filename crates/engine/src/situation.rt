@@ -13,28 +13,14 @@ use views::{History, View};
 fn none_above(h: History, t: View) -> bool
     ensures { result ≡ all (not_above (view_is t)) (views_is h) }
 {
-    let n = h.count();
-    let views = h.views;
-    let mut p = 0usize;
-    while p < n {
-        let u = views[p];
-        if t.below(u) {
-            return false;
-        }
-        p += 1;
-    }
-    true
+    h.views[..h.count()].iter().all(|u| !t.below(*u))
 }
 
 // Whether the controller c asked to leave and the minute is inside a window.
 fn may_leave(c: Controller, minute: u16) -> bool
     ensures { result ≡ leaves_at c minute }
 {
-    if !c.leaving {
-        return false;
-    }
-    let times = c.times;
-    windows::is_open(&times, c.windows, minute)
+    c.leaving && windows::is_open(&c.times, c.windows, minute)
 }
 
 // The situation of the controller c in its ring at a minute of the week, with the evidence e of its record. It reads a few fields alone, so that a compiler copies no whole controller for it.
@@ -49,19 +35,18 @@ pub fn of_controller(
     ensures { Situated c ring greatest.now e minute result }
 {
     let t = View::of_word(greatest[e.length - 1]);
-    let h = c.entered;
-    let entered = h.has(t);
+    let entered = c.entered.has(t);
     Situation {
         number: c.number,
-        ring: ring,
+        ring,
         delivered: c.delivered,
         joining: c.joining,
-        minute: minute,
+        minute,
         leaving: may_leave(c, minute),
         requested: c.requested,
-        active: h.count() > 0,
-        entered: entered,
-        stands: entered & none_above(h, t),
+        active: c.entered.count() > 0,
+        entered,
+        stands: entered & none_above(c.entered, t),
         left: t.has_left(c.number),
         top: t,
         shown: e,

@@ -3,11 +3,11 @@ ghost use Rattle.std.specs.Prelude.{◌≡◌, ◌≤◌};
 ghost use Rattle.protocol.specs.Controller.{not_set_up};
 ghost use Rattle.protocol.specs.Call.{started, setup, setup_allowed};
 ghost use Rattle.views.specs.Held.{views_is};
-ghost use Rattle.engine.specs.Meaning.{controller_is, initial_is, first_senders, setup_is};
+ghost use Rattle.engine.specs.Meaning.{controller_is, came_to, initial_is, first_senders, setup_is};
 ghost use Rattle.engine.specs.Promise.{Starts};
 ghost use Rattle.engine.specs.Steps.{are_numbers};
 
-use crate::{Controller, Outcome, Refusal, Setup, calls};
+use crate::{Answer, Controller, Outcome, Refusal, Setup};
 use evidence::Notice;
 use pool::RECORD;
 use statements::{Binding, NOTICES};
@@ -18,10 +18,12 @@ use windows::WINDOWS;
 fn entered_first(init: View, number: u8) -> History
     ensures { views_is result ≡ initial_is init number }
 {
+    let none = History::new();
     if init.has_member(number) {
-        return History::new().push(init);
+        none.push(init)
+    } else {
+        none
     }
-    History::new()
 }
 
 // Whether the first `count` senders are numbers of controllers.
@@ -29,30 +31,14 @@ fn are_numbers(senders: &[u8; NOTICES], count: usize) -> bool
     requires { count ≤ 64 }
     ensures { result ≡ are_numbers (first_senders senders.now count) }
 {
-    let mut j = 0usize;
-    while j < count {
-        if senders[j] >= View::WIDTH {
-            return false;
-        }
-        j += 1;
-    }
-    true
+    senders[..count].iter().all(|k| *k < View::WIDTH)
 }
 
 // Whether a ring may start so, whatever its windows.
 pub fn is_allowed(number: u8, s: Setup, senders: &[u8; NOTICES]) -> bool
     ensures { result ≡ setup_allowed number s.members (first_senders senders.now s.notices) }
 {
-    if s.members == 0 {
-        return false;
-    }
-    if number >= View::WIDTH {
-        return false;
-    }
-    if s.notices == 0 {
-        return false;
-    }
-    if s.notices > NOTICES {
+    if s.members == 0 || number >= View::WIDTH || s.notices == 0 || s.notices > NOTICES {
         return false;
     }
     are_numbers(senders, s.notices)
@@ -67,20 +53,16 @@ fn start(number: u8, s: Setup, senders: &[u8; NOTICES], windows: &[u64; WINDOWS]
         joined: s.members as u32,
         left: 0,
     };
-    let entered = entered_first(init, number);
-    let kept = *senders;
-    let times = *windows;
-    let blank = Controller::new();
     Controller {
         ready: true,
-        number: number,
-        init: init,
+        number,
+        init,
         notices: s.notices,
-        senders: kept,
-        entered: entered,
+        senders: *senders,
+        entered: entered_first(init, number),
         windows: s.windows,
-        times: times,
-        ..blank
+        times: *windows,
+        ..Controller::new()
     }
 }
 
@@ -89,15 +71,13 @@ impl Controller {
     pub fn new() -> Controller
         ensures { controller_is result ≡ not_set_up }
     {
-        let init = View { joined: 0, left: 0 };
-        let entered = History::new();
         Controller {
             ready: false,
             number: 0,
-            init: init,
+            init: View { joined: 0, left: 0 },
             notices: 1,
             senders: [0u8; NOTICES],
-            entered: entered,
+            entered: History::new(),
             held: [Notice {
                 binding: Binding::Unbound,
             }; NOTICES],
@@ -119,19 +99,22 @@ impl Controller {
         s: Setup,
         senders: &[u8; NOTICES],
         windows: &[u64; WINDOWS],
-    ) -> Outcome
-        ensures { Starts (λ X. setup (controller_is self) X number (setup_is s senders.now windows.now)) ids.old self result ids.new }
+    ) -> Result<Outcome, Refusal>
+        ensures { Starts (λ X. setup (controller_is self) X number (setup_is s senders.now windows.now)) ids.old self (came_to self result) ids.new }
     {
         if self.ready {
-            return calls::refuse(self, Refusal::BadSetup);
+            return Err(Refusal::BadSetup);
         }
         if !is_allowed(number, s, senders) {
-            return calls::refuse(self, Refusal::BadSetup);
+            return Err(Refusal::BadSetup);
         }
         if !windows::are_allowed(windows, s.windows) {
-            return calls::refuse(self, Refusal::BadWindow);
+            return Err(Refusal::BadWindow);
         }
         pool::record_clear(ids);
-        calls::take(start(number, s, senders, windows))
+        Ok(Outcome {
+            answer: Answer::Taken,
+            controller: start(number, s, senders, windows),
+        })
     }
 }

@@ -6,6 +6,7 @@ use mathlib.Core.Bool.{Bool, true, false, not, ◌&&◌}
 use mathlib.Core.List.Memᴰ
 use mathlib.Core.List.{List, [], ◌∷◌}
 use mathlib.Core.Option as option
+use Rattle.std.specs.Prelude.{Option, Some, None}
 use Prim.Native.Nat.{ℕ, ◌+◌, ◌^◌, ◌≤◌, ◌<◌, min}
 use native.Mathlib.Decide.{ℕ_discrete, dec_lt}
 use native.Mathlib.Omega.{arith}
@@ -33,8 +34,9 @@ use Rattle.views.specs.Tally.{place_in}
 use Rattle.votes.specs.Votes.{entry, vote_at}
 use Rattle.votes.proofs.Alike.{Alike, says-alike}
 use Rattle.statements.specs.Sets.{PutBit}
-use Rattle.evidence.specs.Shown.{is_backed, Backed, AckedOf, PreparedList, listed, certifies_by, stores_one, OneCertificate, CertificatesOf, StoredOf}
+use Rattle.evidence.specs.Shown.{is_backed, Backed, OneAcked, PreparedList, listed, certifies_by, stores_one, OneCertificate, CertificatesOf, StoredOf}
 use Rattle.evidence.specs.Casts.{Late}
+use Rattle.evidence.specs.declared.certificates.Said.{Said}
 use Rattle.evidence.proofs.Backing.{Cast, cast-of, signed-map, cast-quorum, quorum-cast}
 
 -- a statement of a record, by its place
@@ -132,15 +134,6 @@ module _ (W ids G : List ℕ) (n : ℕ) where
   pub acked-first : (notice payload : ℕ) → AckedTo 0 false notice payload
   acked-first notice payload = record { sole = sole-first refl }
 
-  pub acked-many : (some : Bool) (notice payload : ℕ) → AckedOf W ids G n true some notice payload
-  acked-many y notice payload = record { one = λ e. absurd (subst T e tt); all = λ e. absurd (subst T e tt) }
-
-  pub acked-end : {g notice payload : ℕ} {some : Bool} → g ≡ n → AckedTo g some notice payload → AckedOf W ids G n false some notice payload
-  acked-end e c = record {
-    one = λ q t. let (h, l, k, p) = c.sole.one t in (h, l, k, ap (λ x. x.0) p, ap (λ x. x.1) p);
-    all = λ q h l k. let (t, p) = c.sole.all h (omega arith) k in (t, ap (λ x. x.0) p, ap (λ x. x.1) p);
-  }
-
   -- the first vote of group g stands at f
   module _ {g notice payload : ℕ} {some : Bool} (c : AckedTo g some notice payload) (f : ℕ) (p : f ≡ place_in (get_or G g 0)) (k : ℕ) (kind : k ≡ (entry W ids f).kind) where
     kind-here : k ≡ (vote g).kind
@@ -153,13 +146,33 @@ module _ (W ids G : List ℕ) (n : ℕ) where
       named_here : (j, m) ≡ named (vote g)
       named_here = ap₂ (λ j m. (j, m)) of is ∙ ap (λ i. named (entry W ids i)) p
 
-      pub acked-same : (r : Bool) → some ≡ true → r ≡ (eqb j notice && eqb m payload) → r ≡ true → AckedTo (g + 1) some notice payload
-      acked-same r t e y =
-          let (u, v) = (says-and (says-eqb {m = j} {n = notice}) (says-eqb {m = m} {n = payload})).sound (from-true (sym e ∙ y)) in
-          record { sole = sole-step c.sole (λ q. (t, sym named_here ∙ ap₂ (λ j m. (j, m)) u v)) }
+      pub acked-same : some ≡ true → j ≡ notice → m ≡ payload → AckedTo (g + 1) some notice payload
+      acked-same t u v = record { sole = sole-step c.sole (λ q. (t, sym named_here ∙ ap₂ (λ j m. (j, m)) u v)) }
 
       pub acked-start : g < n → k ≡ 7 → some ≡ false → AckedTo (g + 1) true j m
       acked-start l s z = record { sole = sole-start c.sole l (sym kind-here ∙ s) named_here z }
+
+-- the same, of what was found so far
+abbrev pub AckedAt : List ℕ → List ℕ → List ℕ → ℕ → ℕ → Option Said → Type 0
+AckedAt W ids G n g None = AckedTo W ids G n g false 0 0
+AckedAt W ids G n g (Some a) = AckedTo W ids G n g true a.notice a.payload
+
+module _ (W ids G : List ℕ) (n g : ℕ) (o : Option Said) (c : AckedAt W ids G n g o) (f : ℕ) (p : f ≡ place_in (get_or G g 0)) (k : ℕ) (kind : k ≡ (entry W ids f).kind) where
+  pub found-not : (k ≡ 7 → ⊥) → AckedAt W ids G n (g + 1) o
+  found-not d = go o c
+    where
+      go : (o : Option Said) → AckedAt W ids G n g o → AckedAt W ids G n (g + 1) o
+      go None c = acked-not W ids G n c f p k kind d
+      go (Some a) c = acked-not W ids G n c f p k kind d
+
+  module _ (said : Said) (of : said.notice ≡ (entry W ids f).notice) (is : said.payload ≡ payload_of (entry W ids f)) where
+    pub found-start : o ≡ None → g < n → k ≡ 7 → AckedAt W ids G n (g + 1) (Some said)
+    found-start e l s = acked-start W ids G n (subst (AckedAt W ids G n g) e c) f p k kind said.notice said.payload of is l s refl
+
+    pub found-same : (a : Said) → o ≡ Some a → (b : Bool) → b ≡ (eqb a.notice said.notice && eqb a.payload said.payload) → b ≡ true → AckedAt W ids G n (g + 1) o
+    found-same a e b q t =
+        let (u, v) = (says-and (says-eqb {m = a.notice} {n = said.notice}) (says-eqb {m = a.payload} {n = said.payload})).sound (from-true (sym q ∙ t)) in
+        subst (AckedAt W ids G n (g + 1)) (sym e) (acked-same W ids G n (subst (AckedAt W ids G n g) e c) f p k kind said.notice said.payload of is refl (sym u) (sym v))
 
 -- ---- how far the groups were asked
 
@@ -338,21 +351,31 @@ module _ (W ids : List ℕ) (len init : ℕ) (G : List ℕ) (n : ℕ) (backed : 
 
     -- ---- one payload of one notice alone
 
-    module _ {many y : Bool} {notice payload : ℕ} (a : AckedOf W ids G n many y notice payload) (few : many ≡ false) (most : length senders ≤ 64) where
-      only-in : {i h : ℕ} → h < n → T (certifies senders X i (vote W ids G n h)) → (y ≡ true) × (i ≡ notice) × (payload_of (vote W ids G n h) ≡ payload) × T (is_prepared senders X i payload)
+    pub only_none : (P : List ℕ) → ((h : ℕ) → h < n → (vote W ids G n h).kind ≡ 7 → ⊥) → CertificatesOf init senders X P (record { conflict = false; some = 0 })
+    only_none P none = gathered-end n 0 P refl (record {
+      sole = λ i l. record {
+        one = λ t. absurd (zero_bit i t);
+        all = λ h u t. absurd (none h u ((says-certifies i (vote W ids G n h)).sound t).0.0);
+      };
+      within = λ i h k. bit-zero i;
+      small = omega arith;
+    })
+
+    module _ {notice payload : ℕ} (a : OneAcked W ids G n notice payload) (most : length senders ≤ 64) where
+      only-in : {i h : ℕ} → h < n → T (certifies senders X i (vote W ids G n h)) → (i ≡ notice) × (payload_of (vote W ids G n h) ≡ payload) × T (is_prepared senders X i payload)
       only-in {i} {h} l t =
           let ((k, e), p) = (says-certifies i (vote W ids G n h)).sound t in
-          let (u, q, v) = a.all few h l k in
-          (u, sym e ∙ q, v, subst (λ m. T (is_prepared senders X i m)) v p)
+          let (q, v) = a.all h l k in
+          (sym e ∙ q, v, subst (λ m. T (is_prepared senders X i m)) v p)
 
-      pub only-prepared : (r : ℕ) (P : List ℕ) → r < 2 ^ 64 → y ≡ true → OneCertificate senders X notice payload P r → CertificatesOf init senders X P (record { conflict = false; some = r })
-      only-prepared r P small yes-y one = gathered-end n r P refl (record {
+      pub only-prepared : (r : ℕ) (P : List ℕ) → r < 2 ^ 64 → OneCertificate senders X notice payload P r → CertificatesOf init senders X P (record { conflict = false; some = r })
+      only-prepared r P small one = gathered-end n r P refl (record {
         sole = λ i l. record {
           one = λ t.
               let e = at i t in
-              let (g, u, k, q, v) = a.one few yes-y in
+              let (g, u, k, q, v) = a.one in
               (g, u, (says-certifies i (vote W ids G n g)).complete ((k, q ∙ sym e), subst (λ m. T (is_prepared senders X i m)) (sym v) (from-true (sym (here i l e) ∙ t))), v ∙ sym (paid i e t));
-          all = λ h u t. let (_, e, v, p) = only-in u t in (here i l e ∙ is_true _ p, v ∙ sym (paid i e (here i l e ∙ is_true _ p)));
+          all = λ h u t. let (e, v, p) = only-in u t in (here i l e ∙ is_true _ p, v ∙ sym (paid i e (here i l e ∙ is_true _ p)));
         };
         within = λ i h k. elim (ℕ_discrete i notice) [ yes e ↦ ap (bit r) e ∙ one.within (omega arith) | no d ↦ one.others i d ];
         small = small;
@@ -366,16 +389,6 @@ module _ (W ids : List ℕ) (len init : ℕ) (G : List ℕ) (n : ℕ) (backed : 
 
           paid : (i : ℕ) → i ≡ notice → bit r i ≡ true → get_or P i 0 ≡ payload
           paid i e t = ap (λ i. get_or P i 0) e ∙ one.payload (ap (bit r) (sym e) ∙ t)
-
-      pub only_none : (P : List ℕ) → y ≡ false → CertificatesOf init senders X P (record { conflict = false; some = 0 })
-      only_none P f = gathered-end n 0 P refl (record {
-        sole = λ i l. record {
-          one = λ t. absurd (zero_bit i t);
-          all = λ h u t. absurd (subst T (sym (only-in u t).0 ∙ f) tt);
-        };
-        within = λ i h k. bit-zero i;
-        small = omega arith;
-      })
 
   -- ---- stored
 

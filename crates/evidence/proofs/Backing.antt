@@ -8,8 +8,7 @@ use Prim.Native.Nat.{ℕ, ◌+◌, ◌%◌, ◌≤◌, ◌<◌}
 use native.Mathlib.Decide.{ℕ_discrete}
 use native.Mathlib.Omega.{arith}
 use lib.Dec.{T, eqb, ltb, ltb→lt}
-use lib.ListN.{get_or}
-use borrow.Author.Tests.{eq-eqb, ne_eqb, lt-ltb, le-ltb}
+use borrow.Author.Tests.{eq-eqb, ne_eqb}
 use Rattle.protocol.specs.View.{View}
 use Rattle.protocol.specs.History.{top}
 use Rattle.protocol.specs.Statement.{Stmt, is_kind, payload_of, Signed}
@@ -19,7 +18,6 @@ use Rattle.protocol.proofs.Says.{Says, from-true, says-self, says-and, says-or, 
 use Rattle.protocol.proofs.Monotone.{quorum-map}
 use Rattle.protocol.proofs.Decided.{says-kind, says-backed}
 use Rattle.protocol.proofs.Grounds.{Top, says-top}
-use Rattle.protocol.specs.Sets.{bit}
 use Rattle.protocol.specs.Count.{count_quorum}
 use Rattle.views.specs.View.{view_of, ring_of_word}
 use Rattle.views.specs.Tally.{place_in, missing_in}
@@ -27,26 +25,10 @@ use Rattle.views.proofs.Tallies.{tally-says}
 use Rattle.pool.specs.Pool.{stmt_at}
 use Rattle.votes.specs.Votes.{alike, entry, tag_by, GroupCounts}
 use Rattle.votes.proofs.Alike.{Alike, says-alike, alike_same}
-use Rattle.evidence.specs.Shown.{is_backed, listed, certifies_by, stores_one}
+use Rattle.evidence.specs.Shown.{is_backed, listed, certifies_by}
 use Rattle.evidence.specs.Casts.{Late}
 
 -- ---- tests of one statement
-
-module _ (notices : ℕ) (K : List ℕ) (known k : ℕ) (s : Stmt) (kind : k ≡ s.kind) where
-  pub certifies-kind : (k ≡ 7 → ⊥) → false ≡ certifies_by notices K known s
-  unfolding certifies_by is_kind
-  certifies-kind n = sym (ap (λ a. a && ltb s.notice notices && listed K known s.notice (payload_of s)) (ne_eqb s.kind 7 (λ q. n (kind ∙ q))))
-
-  module _ (seven : k ≡ 7) (j : ℕ) (is : j ≡ s.notice) where
-    pub certifies-outside : notices ≤ j → false ≡ certifies_by notices K known s
-    unfolding certifies_by is_kind
-    certifies-outside l = sym (ap₂ (λ a b. a && b && listed K known s.notice (payload_of s)) (eq-eqb s.kind 7 (sym kind ∙ seven)) (le-ltb s.notice notices (omega arith)))
-
-    pub certifies-payload : (p : ℕ) (r : Bool) → j < notices → p ≡ payload_of s → r ≡ listed K known j p → r ≡ certifies_by notices K known s
-    unfolding certifies_by is_kind
-    certifies-payload p r l e f =
-        f ∙ ap₂ (listed K known) is e
-        ∙ sym (ap₂ (λ a b. a && b && listed K known s.notice (payload_of s)) (eq-eqb s.kind 7 (sym kind ∙ seven)) (lt-ltb s.notice notices (omega arith)))
 
 -- what it says
 module _ (notices : ℕ) (K : List ℕ) (known : ℕ) (s : Stmt) (r : Bool) (asked : r ≡ certifies_by notices K known s) (sure : r ≡ true) where
@@ -60,22 +42,6 @@ module _ (notices : ℕ) (K : List ℕ) (known : ℕ) (s : Stmt) (r : Bool) (ask
   pub certifies-seven : s.kind ≡ 7
   certifies-seven = certifying.0.0
 
-module _ (some : ℕ) (P : List ℕ) (k : ℕ) (s : Stmt) (kind : k ≡ s.kind) where
-  pub stores-kind : (k ≡ 8 → ⊥) → false ≡ stores_one some P s
-  unfolding stores_one is_kind
-  stores-kind n = sym (ap (λ a. a && bit some s.notice && eqb (payload_of s) (get_or P s.notice 0)) (ne_eqb s.kind 8 (λ q. n (kind ∙ q))))
-
-  module _ (eight : k ≡ 8) (j : ℕ) (is : j ≡ s.notice) (r : Bool) (asked : r ≡ bit some j) where
-    of-bit : stores_one some P s ≡ (r && eqb (payload_of s) (get_or P s.notice 0))
-    unfolding stores_one is_kind
-    of-bit = ap₂ (λ a b. a && b && eqb (payload_of s) (get_or P s.notice 0)) (eq-eqb s.kind 8 (sym kind ∙ eight)) (ap (bit some) (sym is) ∙ sym asked)
-
-    pub stores-other : r ≡ false → false ≡ stores_one some P s
-    stores-other e = sym (of-bit ∙ ap (λ b. b && eqb (payload_of s) (get_or P s.notice 0)) e)
-
-    pub stores-payload : (p x : ℕ) → r ≡ true → p ≡ payload_of s → x ≡ get_or P j 0 → eqb p x ≡ stores_one some P s
-    stores-payload p x e f g = ap₂ eqb f (g ∙ ap (λ j. get_or P j 0) is) ∙ sym (of-bit ∙ ap (λ b. b && eqb (payload_of s) (get_or P s.notice 0)) e)
-
 -- ---- a statement that a quorum of a sealed top signed
 
 module _ (init : ℕ) (X : List Stmt) where
@@ -86,13 +52,9 @@ module _ (init : ℕ) (X : List Stmt) where
   unfolding is_backed is_kind
   backed-by s = refl
 
-  pub backed-low : (k : ℕ) (s : Stmt) → k ≡ s.kind → k < 7 → false ≡ is_backed init X s
-  backed-low k s e l = sym (backed-by s ∙ ap₂ (λ a b. (a || b) && signed_by_quorum 16 X s.at (alike s) && is_top (ring_of_word init) X s.at)
-      (ne_eqb s.kind 7 (λ q. omega arith)) (ne_eqb s.kind 8 (λ q. omega arith)))
-
-  pub backed-high : (k : ℕ) (s : Stmt) → k ≡ s.kind → 8 < k → false ≡ is_backed init X s
-  backed-high k s e l = sym (backed-by s ∙ ap₂ (λ a b. (a || b) && signed_by_quorum 16 X s.at (alike s) && is_top (ring_of_word init) X s.at)
-      (ne_eqb s.kind 7 (λ q. omega arith)) (ne_eqb s.kind 8 (λ q. omega arith)))
+  pub backed-other : (k : ℕ) (s : Stmt) → k ≡ s.kind → (k ≡ 7 → ⊥) → (k ≡ 8 → ⊥) → false ≡ is_backed init X s
+  backed-other k s e d f = sym (backed-by s ∙ ap₂ (λ a b. (a || b) && signed_by_quorum 16 X s.at (alike s) && is_top (ring_of_word init) X s.at)
+      (ne_eqb s.kind 7 (λ q. d (e ∙ q))) (ne_eqb s.kind 8 (λ q. f (e ∙ q))))
 
   seven-or-eight : (k : ℕ) → 7 ≤ k → k ≤ 8 → (eqb k 7 || eqb k 8) ≡ true
   seven-or-eight k l h = elim (ℕ_discrete k 7) [ yes e ↦ ap (λ b. b || eqb k 8) (eq-eqb k 7 e) | no n ↦ ap₂ ◌||◌ (ne_eqb k 7 n) (eq-eqb k 8 (omega arith)) ]

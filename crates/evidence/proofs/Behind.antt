@@ -45,21 +45,6 @@ unfolding asks cast_at acks stores
 asks-cast k i at m n H (inl e) = rw e
 asks-cast k i at m n H (inr e) = rw e
 
--- ---- the lesser top
-
-pub lesser-none : (w : ℕ) (o : Option View) → o ≡ none → some (view_of w) ≡ some (lesser (view_of w) o)
-lesser-none w o e = rw e
-
-module _ (u w : ℕ) (o : Option View) (is : o ≡ some (view_of u)) (r : Bool) (asked : r ≡ written_before (view_of u) (view_of w)) where
-  picked : some (lesser (view_of w) o) ≡ some (if r then view_of u else view_of w)
-  picked = ap (λ o. some (lesser (view_of w) o)) is ∙ ap (λ b. some (if b then view_of u else view_of w)) (sym asked)
-
-  pub lesser-old : r ≡ true → some (view_of u) ≡ some (lesser (view_of w) o)
-  lesser-old e = sym (picked ∙ ap (λ b. some (if b then view_of u else view_of w)) e)
-
-  pub lesser-new : r ≡ false → some (view_of w) ≡ some (lesser (view_of w) o)
-  lesser-new e = sym (picked ∙ ap (λ b. some (if b then view_of u else view_of w)) e)
-
 -- ---- the groups
 
 module _ (W ids : List ℕ) (len init : ℕ) (G : List ℕ) (n : ℕ) (backed : Backed W ids len init G n) (k : ℕ) (late : Late k) (i m : ℕ) where

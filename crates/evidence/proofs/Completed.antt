@@ -2,20 +2,21 @@
 -- Assumes nothing.
 use mathlib.Core.Path.{◌≡◌, refl, sym, ap, ap₂, subst, ◌∙◌}
 use mathlib.Core.Logic.{inl, inr}
-use mathlib.Core.Bool.{Bool, true, false, not, cond, ◌&&◌}
+use mathlib.Core.Bool.{Bool, true, false, not}
 use mathlib.Core.List.Memᴰ
 use mathlib.Core.List.{List, [], ◌∷◌}
 use mathlib.Core.Option.{Option, some, none}
+use Rattle.std.specs.declared.option.Option as maybe
+use Rattle.std.specs.Prelude.{Some, None, unwrap_or}
 use Prim.Native.Nat.{ℕ, zero, suc, ◌+◌, ◌≤◌, ◌<◌, min}
 use native.Mathlib.Decide.{ℕ_discrete, dec_lt}
 use native.Mathlib.Omega.{arith}
-use lib.Dec.{T, eqb}
+use lib.Dec.{T}
 use lib.ListN.{length, get_or, take}
-use borrow.Author.Tests.{eq-eqb, ne_eqb}
 use Rattle.protocol.specs.Lists.{◌∈◌, when, otherwise, first_some, least}
 use Rattle.protocol.specs.View.{View, Ring}
 use Rattle.protocol.specs.History.{top}
-use Rattle.protocol.specs.Statement.{Stmt, is_kind, payload_of, acks, Ack, Signed}
+use Rattle.protocol.specs.Statement.{Stmt, payload_of, acks, Ack, Signed}
 use Rattle.protocol.specs.Evidence.{sealed, Shown, Quorum, named, signed_by_quorum, at_sealed_top}
 use Rattle.protocol.specs.Count.{complete_after}
 use Rattle.protocol.proofs.Says.{Says, from-true, says_map, says-unique, says-self, says-and, says_any, says-eqb}
@@ -29,7 +30,7 @@ use Rattle.views.proofs.Views.{fails}
 use Rattle.pool.specs.Pool.{record_up_to}
 use Rattle.votes.specs.Votes.{alike, entry, vote_at}
 use Rattle.votes.proofs.Alike.{Alike, says-alike}
-use Rattle.evidence.specs.Shown.{is_backed, Backed, lesser_some}
+use Rattle.evidence.specs.Shown.{is_backed, Backed}
 use Rattle.evidence.specs.Casts.{cast_for}
 use Rattle.evidence.proofs.Acked.{placed}
 use Rattle.evidence.proofs.Backing.{Cast, signed-map, quorum-cast, says-backed-by}
@@ -61,33 +62,6 @@ take_in (suc k) (x ∷ l) a h = elim (Memᴰ.cases_cons h) [ inl e ↦ Memᴰ.he
 is_true : {b : Bool} → T b → b ≡ true
 is_true {b = true} t = refl
 is_true {b = false} t = elim t [ ]
-
--- ---- tests of one statement
-
-module _ (w i m k : ℕ) (s : Stmt) (kind : k ≡ s.kind) where
-  pub casts-other : (k ≡ w → ⊥) → false ≡ cast_for w i m s
-  unfolding cast_for is_kind
-  casts-other d = sym (ap (λ b. b && eqb s.notice i && eqb (payload_of s) m) (ne_eqb s.kind w (λ q. d (kind ∙ q))))
-
-  pub casts-same : (j p : ℕ) (r : Bool) → k ≡ w → j ≡ s.notice → p ≡ payload_of s → r ≡ (eqb j i && eqb p m) → r ≡ cast_for w i m s
-  unfolding cast_for is_kind
-  casts-same j p r such e f g = g ∙ ap₂ (λ a b. eqb a i && eqb b m) e f ∙ sym (ap (λ b. b && eqb s.notice i && eqb (payload_of s) m) (eq-eqb s.kind w (sym kind ∙ such)))
-
-module _ (a b : ℕ) where
-  pub lesser-none : a ≡ 0 → b ≡ lesser_some a b
-  unfolding lesser_some
-  lesser-none z = sym (ap (λ c. cond c b (min a b)) (eq-eqb a 0 z))
-
-  module _ (d : a ≡ 0 → ⊥) where
-    lesser : (r : ℕ) → r ≡ min a b → r ≡ lesser_some a b
-    unfolding lesser_some
-    lesser r e = e ∙ sym (ap (λ c. cond c b (min a b)) (ne_eqb a 0 d))
-
-    pub lesser-first : a < b → a ≡ lesser_some a b
-    lesser-first l = lesser a (omega arith)
-
-    pub lesser-second : b ≤ a → b ≡ lesser_some a b
-    lesser-second l = lesser b (omega arith)
 
 -- ---- the groups
 
@@ -173,49 +147,64 @@ module _ (W ids : List ℕ) (len init : ℕ) (G : List ℕ) (n : ℕ) (backed : 
       let q' = subst (λ p. T (signed_by_quorum 16 (take (read h) X) (vote h).at p)) (alike-acks (vote h) it) q in
       ((says-by (read h)).complete (H, g, subst (λ t. T (signed_by_quorum 16 (take (read h) X) t (acks t i m))) (sym e) q'), subst (λ c. c.read ≤ length X) (backed.read h l) stop.within)
 
-  -- ---- the loop: r is the least that those before g tell, or 0 if none does
+  -- ---- the loop: o is the least place that those before g tell, if one does
 
-  pub record LeastTo (g r : ℕ) : Type 0 where
-    pub some : 0 < r → (h : ℕ) × (h < g) × T (cast_for 7 i m (vote h)) × (r ≡ read h)
-    pub least : (h : ℕ) → h < g → T (cast_for 7 i m (vote h)) → (0 < r) × (r ≤ read h)
+  pub record LeastTo (g : ℕ) (o : maybe.Option ℕ) : Type 0 where
+    pub some : (f : ℕ) → o ≡ Some f → (h : ℕ) × (h < g) × T (cast_for 7 i m (vote h)) × (f + 1 ≡ read h)
+    pub least : (h : ℕ) → h < g → T (cast_for 7 i m (vote h)) → (f : ℕ) × (o ≡ Some f) × (f + 1 ≤ read h)
 
-  pub least_first : LeastTo 0 0
-  least_first = record { some = λ l. absurd (omega arith); least = λ h l. absurd (omega arith) }
+  pub least_first : LeastTo 0 None
+  least_first = record { some = λ f e. absurd (cc); least = λ h l. absurd (omega arith) }
 
-  module _ {g r : ℕ} (w : LeastTo g r) (f : ℕ) (p : f ≡ place_in (get_or G g 0)) (b : Bool) (asked : b ≡ cast_for 7 i m (entry W ids f)) where
+  module _ {g : ℕ} {o : maybe.Option ℕ} (w : LeastTo g o) (f : ℕ) (p : f ≡ place_in (get_or G g 0)) (b : Bool) (asked : b ≡ cast_for 7 i m (entry W ids f)) where
     here : b ≡ cast_for 7 i m (vote g)
     here = asked ∙ ap (λ j. cast_for 7 i m (entry W ids j)) p
 
-    pub least_skip : b ≡ false → LeastTo (g + 1) r
+    pub least_skip : b ≡ false → LeastTo (g + 1) o
     least_skip e = record {
-      some = λ l. let (h, k, t, q) = w.some l in (h, omega arith, t, q);
+      some = λ k q. let (h, l, t, y) = w.some k q in (h, omega arith, t, y);
       least = λ h l t. elim (ℕ_discrete h g) [ yes q ↦ absurd (subst T (sym here ∙ e) (subst (λ h. T (cast_for 7 i m (vote h))) q t)) | no d ↦ w.least h (omega arith) t ];
     }
 
-    pub least-take : (r' : ℕ) → b ≡ true → r' ≡ lesser_some r (f + 1) → LeastTo (g + 1) r'
-    unfolding lesser_some
-    least-take r' e q = elim (ℕ_discrete r 0) [
-      | yes z ↦ (let is : r' ≡ f + 1 = q ∙ ap (λ b. cond b (f + 1) (min r (f + 1))) (eq-eqb r 0 z) in record {
-        some = λ l. (g, omega arith, from-true (sym here ∙ e), is ∙ ap (λ x. x + 1) p);
-        least = λ h l t. elim (ℕ_discrete h g) [ yes y ↦ (omega arith, subst (λ h. r' ≤ read h) (sym y) (omega (arith, is, p))) | no d ↦ absurd (omega (arith, (w.least h (omega arith) t).0)) ];
-      })
-      | no z ↦ (let is : r' ≡ min r (f + 1) = q ∙ ap (λ b. cond b (f + 1) (min r (f + 1))) (ne_eqb r 0 z) in record {
-        some = λ l. elim (dec_lt r (f + 1)) [
-          | yes k ↦ (let (h, u, t, y) = w.some (omega arith) in let s : r' ≡ r = omega arith in (h, omega arith, t, s ∙ y))
-          | no k ↦ (g, omega arith, from-true (sym here ∙ e), (let s : r' ≡ f + 1 = omega arith in s ∙ ap (λ x. x + 1) p))
-        ];
-        least = λ h l t. elim (ℕ_discrete h g) [ yes y ↦ (omega arith, subst (λ h. r' ≤ read h) (sym y) (omega (arith, is, p))) | no d ↦ (omega arith, omega (arith, is, (w.least h (omega arith) t).1)) ];
-      })
-    ]
+    module _ (e : b ≡ true) where
+      mine : (h : ℕ) × (h < g + 1) × T (cast_for 7 i m (vote h)) × (f + 1 ≡ read h)
+      mine = (g, omega arith, from-true (sym here ∙ e), ap (λ x. x + 1) p)
 
-  pub complete-is : (g r : ℕ) → g ≡ n → LeastTo g r → (r ≡ complete_after R X i m) × (r ≤ 512)
+      -- k is the least of those before g and of the new one
+      taken : (k : ℕ) → ((h : ℕ) × (h < g + 1) × T (cast_for 7 i m (vote h)) × (k + 1 ≡ read h)) → k ≤ f → ((h : ℕ) → h < g → T (cast_for 7 i m (vote h)) → k + 1 ≤ read h) → LeastTo (g + 1) (Some k)
+      taken k who most rest = record {
+        some = λ f' q. let same : k ≡ f' = cc in subst (λ k. (h : ℕ) × (h < g + 1) × T (cast_for 7 i m (vote h)) × (k + 1 ≡ read h)) same who;
+        least = λ h l t. (k, refl, elim (ℕ_discrete h g) [ yes y ↦ subst (λ h. k + 1 ≤ read h) (sym y) (omega (arith, most, p)) | no d ↦ rest h (omega arith) t ]);
+      }
+
+      pub least-start : o ≡ None → LeastTo (g + 1) (Some f)
+      least-start z = taken f mine (omega arith) (λ h l t. let (k, q, _) = w.least h l t in absurd (cc))
+
+      pub least-old : (k : ℕ) → o ≡ Some k → k ≤ f → LeastTo (g + 1) (Some k)
+      least-old k z le = taken k (let (h, l, t, y) = w.some k z in (h, omega arith, t, y)) le (λ h l t. let (k', q, y) = w.least h l t in let same : k' ≡ k = cc in omega arith)
+
+      pub least-new : (k : ℕ) → o ≡ Some k → f ≤ k → LeastTo (g + 1) (Some f)
+      least-new k z le = taken f mine (omega arith) (λ h l t. let (k', q, y) = w.least h l t in let same : k' ≡ k = cc in omega arith)
+
+      pub least-take : (r : ℕ) → r ≡ min (unwrap_or o f) f → LeastTo (g + 1) (Some r)
+      least-take r is = go o refl is
+        where
+          go : (c : maybe.Option ℕ) → o ≡ c → r ≡ min (unwrap_or c f) f → LeastTo (g + 1) (Some r)
+          go None z q = let same : f ≡ r = omega (arith, q) in subst (λ r. LeastTo (g + 1) (Some r)) same (least-start z)
+          go (Some k) z q = elim (dec_lt k f) [
+            | yes l ↦ (let same : k ≡ r = omega (arith, q) in subst (λ r. LeastTo (g + 1) (Some r)) same (least-old k z (omega arith)))
+            | no l ↦ (let same : f ≡ r = omega (arith, q) in subst (λ r. LeastTo (g + 1) (Some r)) same (least-new k z (omega arith)))
+          ]
+
+  pub complete-none : (g : ℕ) → g ≡ n → LeastTo g None → 0 ≡ complete_after R X i m
   unfolding complete_after
-  complete-is g r e w = elim (ℕ_discrete r 0) [
-    | yes z ↦ (z ∙ sym (ap (λ o. otherwise o 0) (least-none by (suc (length X)) (λ k l. fails (says-self (by k)) (λ t. (let (h, u, it, _) = back k t in omega (arith, (w.least h (omega arith) it).0, z)))))), omega arith)
-    | no d ↦ (
-        let (h, u, it, q) = w.some (omega arith) in
-        let (t, y) = forth h (omega arith) it in (
-          sym (ap (λ o. otherwise o 0) (least-is by (suc (length X)) r (omega (arith, q, y)) (is_true (subst (λ k. T (by k)) (sym q) t)) (λ k l. fails (says-self (by k)) (λ t. (let (h', u', it', o) = back k t in omega (arith, (w.least h' (omega arith) it').1, o)))))),
-          omega (arith, q, backed.place h (omega arith)),
-        ))
-  ]
+  complete-none g e w = sym (ap (λ o. otherwise o 0) (least-none by (suc (length X)) (λ k l. fails (says-self (by k)) (λ t. let (h, u, it, _) = back k t in let (_, q, _) = w.least h (omega arith) it in absurd (cc)))))
+
+  pub complete-some : (g f : ℕ) → g ≡ n → LeastTo g (Some f) → (f + 1 ≡ complete_after R X i m) × (f < 512)
+  unfolding complete_after
+  complete-some g f e w =
+      let (h, u, it, q) = w.some f refl in
+      let (t, y) = forth h (omega arith) it in (
+        sym (ap (λ o. otherwise o 0) (least-is by (suc (length X)) (f + 1) (omega (arith, q, y)) (is_true (subst (λ k. T (by k)) (sym q) t)) (λ k l. fails (says-self (by k)) (λ t. (let (h', u', it', o) = back k t in let (f', q', y') = w.least h' (omega arith) it' in let same : f ≡ f' = cc in omega arith))))),
+        omega (arith, q, backed.place h (omega arith)),
+      )

@@ -19,7 +19,7 @@ use Rattle.pool.proofs.Records.{found}
 use Rattle.votes.specs.Votes.{is_vote, alike, entry, vote_at, tag_by, GroupCounts, Groups, GroupsIn}
 use Rattle.votes.specs.Chosen.{Picked}
 use Rattle.votes.proofs.Alike.{Vote, says-vote, says-alike}
-use Rattle.votes.proofs.Picked.{picked_first, picked-skip, picked-take}
+use Rattle.votes.proofs.Picked.{picked-skip, picked-take}
 use Rattle.evidence.specs.Shown.{is_backed, Ended, BackedIn}
 use Rattle.evidence.proofs.Backing.{backed-alike, backed-read, says-backed-by}
 
@@ -35,9 +35,6 @@ module _ (W ids : List ℕ) (len n : ℕ) (G G' : List ℕ) (same : (g : ℕ) �
     counts = λ g l. subst (λ x. GroupCounts x (entry W ids (place_in x)) (record_up_to W ids len)) (sym (same g l)) (r.counts g l);
     covers = λ i l v. let (g, k, a) = r.covers i l v in (g, k, subst (λ x. T (alike (entry W ids (place_in x)) (entry W ids i))) (sym (same g k)) a);
   }
-
-pub ended-full : (W ids G : List ℕ) (n : ℕ) → 512 ≤ n → GroupsIn W ids G n → Ended W ids G
-ended-full W ids G n l r = record { count = n; groups = r; end = λ k. absurd (omega arith) }
 
 pub ended-room : (W ids G : List ℕ) (n : ℕ) → length G ≡ 512 → n < 512 → GroupsIn W ids G n → Ended W ids (set G n 0)
 unfolding own_in
@@ -86,9 +83,6 @@ module _ (W ids : List ℕ) (init : ℕ) (G₀ : List ℕ) where
     pub rest : (h : ℕ) → g ≤ h → get_or G h 0 ≡ get_or G₀ h 0
     pub tagged : (h : ℕ) → h < g → own_in (get_or G₀ h 0) ≡ 0 → ⊥
     pub kept : Picked (λ h. backs (get_or G₀ h 0)) (λ c h. get_or G c 0 ≡ get_or G₀ h 0) g n
-
-  pub kept-first : length G₀ ≡ 512 → KeptTo G₀ 0 0
-  kept-first l = record { long = l; rest = λ h k. refl; tagged = λ h k. absurd (omega arith); kept = picked_first (λ h. backs (get_or G₀ h 0)) _ }
 
   module _ {G : List ℕ} {n g : ℕ} (w : KeptTo G n g) (k : ℕ) (is : k ≡ own_in (get_or G g 0)) where
     here : get_or G g 0 ≡ get_or G₀ g 0

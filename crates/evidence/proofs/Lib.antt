@@ -1,3 +1,4 @@
+pub mod Taken
 pub mod Senders
 pub mod Listing
 pub mod Payloads

@@ -79,9 +79,6 @@ pub both-barred : (a b : Binding) → a ≡ Barred → binding_is Barred ≡ mer
 unfolding merge
 both-barred a b e = rw e
 
-pub both-payload : (a b : Binding) (m : ℕ) {r : statement.Binding} → a ≡ Bound m → r ≡ merge (binding_is (Bound m)) (binding_is b) → r ≡ merge (binding_is a) (binding_is b)
-both-payload a b m e f = f ∙ ap (λ x. merge (binding_is x) (binding_is b)) (sym e)
-
 -- ---- all reports, the last first
 
 module _ (j : ℕ) where
@@ -166,9 +163,6 @@ module _ (W ids : List ℕ) where
       pub long : length A ≡ 64
       pub done : (i : ℕ) → i < j → binding_held A i ≡ merge_all i (binding_held H i) Y
       pub rest : (i : ℕ) → j ≤ i → binding_held A i ≡ binding_held H i
-
-    pub merged-first : length H ≡ 64 → MergedTo H 0
-    merged-first l = record { long = l; done = λ i h. absurd (omega arith); rest = λ i h. refl }
 
     module _ {A : List Notice} {j : ℕ} (w : MergedTo A j) where
       pub merged-skip : {some : ℕ} {r : Bool} → Touched Y some → r ≡ bit some j → r ≡ false → MergedTo A (j + 1)

@@ -20,15 +20,6 @@ use Rattle.ranking.proofs.Slots.{views-put}
 use Rattle.evidence.specs.Reports.{RemainingOf}
 use Rattle.evidence.proofs.Listing.{filter-append, filter-one, byte_one}
 
--- ---- one view
-
-module _ (u t : View) (skipped i : ℕ) (b : Bool) (f : b ≡ below 16 u t) where
-  pub needed-above : b ≡ false → false ≡ (below 16 u t && not (bit skipped i))
-  needed-above e = sym (ap (λ b. b && not (bit skipped i)) (sym f ∙ e))
-
-  pub needed-by : (s : Bool) → b ≡ true → s ≡ bit skipped i → not s ≡ (below 16 u t && not (bit skipped i))
-  needed-by s e g = ap not g ∙ sym (ap (λ b. b && not (bit skipped i)) (sym f ∙ e))
-
 -- ---- the loop
 
 -- the first m words of L are those of the first i of G that need reports, where p tells the skipped

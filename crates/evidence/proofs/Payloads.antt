@@ -2,57 +2,30 @@
 -- Assumes nothing.
 use mathlib.Core.Path.{◌≡◌, refl, sym, ap, ap₂, subst, ◌∙◌}
 use mathlib.Core.Logic.{◌⊎◌, inl, inr, ◌≢◌}
-use mathlib.Core.Bool.{Bool, true, false, ◌&&◌, ◌||◌, or-false}
+use Rattle.std.specs.Prelude.{Option, Some, None, is_some}
+use mathlib.Core.Bool.{Bool, true, false, not, ◌&&◌, ◌||◌, or-false}
 use mathlib.Core.List.{List}
-use Prim.Native.Nat.{ℕ, zero, suc, ◌+◌, ◌-◌, ◌≤◌, ◌<◌, min}
+use Prim.Native.Nat.{ℕ, zero, suc, ◌+◌, ◌≤◌, ◌<◌, min}
 use native.Mathlib.Decide.{ℕ_discrete}
 use native.Mathlib.Numerals.{add-one}
 use native.Mathlib.Omega.{arith}
 use lib.Dec.{T, eqb, ltb}
 use lib.ListN.{length}
-use borrow.Author.Tests.{eq-eqb, ne_eqb, lt-ltb, le-ltb}
+use borrow.Author.Tests.{lt-ltb, eq-eqb, ne_eqb, eqb-true, eqb-false, not-true}
 use Rattle.protocol.specs.Lists.{any}
-use Rattle.protocol.specs.Statement.{Stmt, is_kind, payload_of}
-use Rattle.protocol.specs.Evidence.{sender_of, prepares, is_prepared, two_prepares, Prepare, Prepared}
+use Rattle.protocol.specs.Statement.{Stmt, payload_of}
+use Rattle.protocol.specs.Evidence.{prepares, is_prepared, two_prepares, Prepare, Prepared}
 use Rattle.protocol.proofs.Says.{Says, from-true, says_map, says-unique, says-self, says-and, says-or, says-not, says-eqb}
 use Rattle.protocol.proofs.Decided.{says-prepares, says-prepared, says-two_prepares}
 use Rattle.views.proofs.Views.{passes, fails}
 use Rattle.pool.specs.Pool.{payload_from, word, stmt_at, record_up_to}
 use Rattle.pool.proofs.Records.{entry, none_first, any_next, whole}
-use Rattle.tables.specs.Index.{newest_at, key_at, SlotsCleared, RowLinked, RowKeyed, Newest, Chained}
+use Rattle.tables.specs.Index.{newest_at, key_at, SlotsCleared, RowLinked, RowKeyed, Chained, LatestOf, Walks, Leads, Finds}
 use Rattle.tables.proofs.Chains.{chained-first, chained_same, chained-new}
-use Rattle.tables.proofs.Searches.{Walked}
 use Rattle.evidence.specs.Shown.{prepares_it, prepares_one, some_below, listed, twofold, PrepareAdded, Linked, PreparedList}
 use Rattle.evidence.proofs.Senders.{notice-small, payload-plain}
 
 -- ---- one statement
-
-module _ (senders : List ℕ) (i k : ℕ) (s : Stmt) (kind : k ≡ s.kind) where
-  pub prepare-kind : (k ≡ 6 → ⊥) → false ≡ prepares senders i s
-  unfolding prepares is_kind
-  prepare-kind n = sym (ap (λ a. a && eqb s.origin (sender_of senders i) && eqb s.notice i) (ne_eqb s.kind 6 (λ q. n (kind ∙ q))))
-
-  module _ (six : k ≡ 6) (o x : ℕ) (origin : o ≡ s.origin) (sender : x ≡ sender_of senders i) where
-    pub prepare-alien : (o ≡ x → ⊥) → false ≡ prepares senders i s
-    unfolding prepares is_kind
-    prepare-alien n = sym (ap₂ (λ a b. a && b && eqb s.notice i) (eq-eqb s.kind 6 (sym kind ∙ six)) (ne_eqb s.origin (sender_of senders i) (λ q. n (origin ∙ q ∙ sym sender))))
-
-    pub prepare-notice : (j : ℕ) → o ≡ x → j ≡ s.notice → eqb j i ≡ prepares senders i s
-    unfolding prepares is_kind
-    prepare-notice j e q = ap (λ y. eqb y i) q ∙ sym (ap₂ (λ a b. a && b && eqb s.notice i) (eq-eqb s.kind 6 (sym kind ∙ six)) (eq-eqb s.origin (sender_of senders i) (sym origin ∙ e ∙ sender)))
-
-module _ (senders : List ℕ) (s : Stmt) (n j : ℕ) (count : n ≡ length senders) (is : j ≡ s.notice) where
-  pub one_outside : n ≤ j → false ≡ prepares_one senders s
-  unfolding prepares_one
-  one_outside l = sym (ap (λ b. b && prepares senders s.notice s) (le-ltb s.notice (length senders) (omega arith)))
-
-  pub one_inside : (r : Bool) → j < n → r ≡ prepares senders j s → r ≡ prepares_one senders s
-  unfolding prepares_one
-  one_inside r l e = e ∙ ap (λ i. prepares senders i s) is ∙ sym (ap (λ b. b && prepares senders s.notice s) (lt-ltb s.notice (length senders) (omega arith)))
-
-pub prepares-not : (senders : List ℕ) (i m : ℕ) (s : Stmt) (r : Bool) → r ≡ prepares senders i s → r ≡ false → false ≡ prepares_it senders i m s
-unfolding prepares_it
-prepares-not senders i m s r e f = sym (ap (λ b. b && eqb (payload_of s) m) (sym e ∙ f))
 
 pub prepares-payload : (senders : List ℕ) (i m p : ℕ) (W : List ℕ) (n : ℕ) (r : Bool) → r ≡ prepares senders i (stmt_at W n) → r ≡ true → p ≡ word W n payload_from → eqb p m ≡ prepares_it senders i m (stmt_at W n)
 unfolding prepares_it
@@ -178,34 +151,20 @@ module _ (W ids senders : List ℕ) where
 
 -- ---- the list, as it is asked
 
-module _ {K R : List ℕ} {n j : ℕ} (ok : Linked K R n) (small : j < 256) {x : ℕ} (newest : x ≡ newest_at R 0 j) where
-  new : Newest (key_at K 1) n j (newest_at R 0 j)
-  new = ok.chained.slots j small
+module _ {K R : List ℕ} {n j : ℕ} (ok : Linked K R n) (small : j < 256) {x : Option ℕ} (newest : x ≡ newest_at R 0 j) where
+  -- the index leads down the rows of notice j
+  pub walks : Walks (key_at K 1) R 0 j n x
+  walks = record { rows = n; few = ok.few; chained = ok.chained; most = omega arith; newest = rw newest (ok.chained.slots j small) }
 
-  -- a walk over the rows of notice j begins
-  pub walk_first : (P : ℕ → Type 0) → ((c : ℕ) → P c → key_at K 1 c ≡ j) → Walked (key_at K 1) j P n x
-  walk_first P within = record {
-    most = omega (arith, new.most);
-    here = λ p. ap (λ z. key_at K 1 (z - 1)) newest ∙ new.here (omega arith);
-    none = λ c a b q. omega (arith, new.all c b (within c q));
-  }
+  pub leads : Leads R 0 x
+  leads = record { at = key_at K 1; slot = j; below = n; walks = walks }
 
-  pub newest-row : 0 < x → (x - 1 < n) × (key_at K 1 (x - 1) ≡ j)
-  newest-row p = (omega (arith, new.most), ap (λ z. key_at K 1 (z - 1)) newest ∙ new.here (omega arith))
-
-  pub no_row : x ≡ 0 → (c : ℕ) → c < n → key_at K 1 c ≡ j → ⊥
-  no_row z c l q = omega (arith, new.all c l q)
-
-module _ (K : List ℕ) (n j m : ℕ) {x : ℕ} (w : Walked (key_at K 1) j (Row K j m) n x) where
-  pub listed_found : (p : ℕ) → 0 < x → p ≡ key_at K 0 (x - 1) → p ≡ m → true ≡ listed K n j m
-  listed_found p l e q = sym (passes (says-listed K n j m) (x - 1, omega (arith, w.most), (w.here l, sym e ∙ q)))
-
-  pub listed-none : x ≤ 0 → false ≡ listed K n j m
-  listed-none l = sym (fails (says-listed K n j m) (λ (c, h, r). w.none c (omega arith) h r))
-
--- row c is of notice j and has another payload
-abbrev pub Other : List ℕ → ℕ → ℕ → ℕ → Type 0
-Other K j m c = (key_at K 1 c ≡ j) × (key_at K 0 c ≡ m → ⊥)
+  pub listed-found : (m : ℕ) {r : Option ℕ} → Finds R 0 x (λ c. eqb (key_at K 0 c) m) r → is_some r ≡ listed K n j m
+  listed-found m {r} found = go r (found.newest _ _ _ walks)
+    where
+      go : (r : Option ℕ) → LatestOf (λ c. (key_at K 1 c ≡ j) × (eqb (key_at K 0 c) m ≡ true)) n r → is_some r ≡ listed K n j m
+      go None f = sym (fails (says-listed K n j m) (λ (c, l, (a, b)). let (k, e, _) = f.all c l (a, eq-eqb _ _ b) in absurd (cc)))
+      go (Some c) f = let (l, (a, b)) = f.here c refl in sym (passes (says-listed K n j m) (c, l, (a, eqb-true _ _ b)))
 
 abbrev Two : List ℕ → ℕ → ℕ → Type 0
 Two K n j = (c : ℕ) × (c < n) × ((d : ℕ) × (d < n) × (((key_at K 1 c ≡ j) × (key_at K 1 d ≡ j)) × (key_at K 0 c ≢ key_at K 0 d)))
@@ -214,22 +173,30 @@ says-twofold : (K : List ℕ) (n j : ℕ) → Says (twofold K n j) (Two K n j)
 unfolding twofold
 says-twofold K n j = says_some (λ c. says_some (λ d. says-and (says-and (says-eqb {m = key_at K 1 c} {n = j}) (says-eqb {m = key_at K 1 d} {n = j})) (says-not (says-eqb {m = key_at K 0 c} {n = key_at K 0 d}))) n) n
 
-module _ {K R : List ℕ} {n j : ℕ} (ok : Linked K R n) (small : j < 256) {y : ℕ} (newest : y ≡ newest_at R 0 j) where
-  pub twofold-empty : y ≡ 0 → false ≡ twofold K n j
-  twofold-empty z = sym (fails (says-twofold K n j) (λ (c, l, (d, h, ((a, b), e))). no_row ok small newest z c l a))
+module _ {K R : List ℕ} {n j : ℕ} (ok : Linked K R n) (small : j < 256) {x : Option ℕ} (newest : x ≡ newest_at R 0 j) where
+  pub twofold-empty : x ≡ None → false ≡ twofold K n j
+  twofold-empty z = sym (fails (says-twofold K n j) (λ (c, l, (d, h, ((a, b), e))). let (k, q, _) = (walks ok small newest).newest.all c l a in absurd (cc)))
 
-  -- m is the payload of the newest row
-  module _ (m : ℕ) (some : 0 < y) (is : m ≡ key_at K 0 (y - 1)) {x : ℕ} (w : Walked (key_at K 1) j (Other K j m) n x) where
-    pub twofold-found : (p : ℕ) → 0 < x → p ≡ key_at K 0 (x - 1) → (p ≡ m → ⊥) → true ≡ twofold K n j
-    twofold-found p l e d =
-        let (a, b) = newest-row ok small newest some in
-        sym (passes (says-twofold K n j) (x - 1, omega (arith, w.most), (y - 1, a, ((w.here l, b), λ q. d (e ∙ q ∙ sym is)))))
+  -- the newest row
+  module _ (y : ℕ) (here : x ≡ Some y) where
+    pub row : (y < n) × (key_at K 1 y ≡ j)
+    row = (walks ok small newest).newest.here y here
 
-    pub twofold-none : x ≤ 0 → false ≡ twofold K n j
-    twofold-none l = sym (fails (says-twofold K n j) (λ (c, h, (d, k, ((a, b), e))). elim (ℕ_discrete (key_at K 0 c) m) [
-      | yes q ↦ w.none d (omega arith) k (b, λ z. e (q ∙ sym z))
-      | no q ↦ w.none c (omega arith) h (a, q)
-    ]))
+    -- m is its payload
+    pub twofold-found : (m : ℕ) {r : Option ℕ} → m ≡ key_at K 0 y → Finds R 0 x (λ c. not (eqb (key_at K 0 c) m)) r → is_some r ≡ twofold K n j
+    twofold-found m {r} is found = go r (found.newest _ _ _ (walks ok small newest))
+      where
+        other : (c : ℕ) → (key_at K 0 c ≡ m → ⊥) → not (eqb (key_at K 0 c) m) ≡ true
+        other c d = ap not (ne_eqb _ _ d)
+
+        go : (r : Option ℕ) → LatestOf (λ c. (key_at K 1 c ≡ j) × (not (eqb (key_at K 0 c) m) ≡ true)) n r → is_some r ≡ twofold K n j
+        go None f = sym (fails (says-twofold K n j) (λ (c, h, (d, k, ((a, b), e))). elim (ℕ_discrete (key_at K 0 c) m) [
+          | yes q ↦ (let (_, p, _) = f.all d k (b, other d (λ z. e (q ∙ sym z))) in absurd (cc))
+          | no q ↦ (let (_, p, _) = f.all c h (a, other c q) in absurd (cc))
+        ]))
+        go (Some c) f =
+            let (l, (a, b)) = f.here c refl in
+            sym (passes (says-twofold K n j) (c, l, (y, row.0, ((a, row.1), λ q. eqb-false _ _ (not-true _ b) (q ∙ sym is)))))
 
 -- ---- two payloads that the sender of notice j prepared
 

@@ -15,7 +15,7 @@ use Rattle.protocol.specs.Lists.{◌∈◌, any, all, filter, first, when}
 use Rattle.protocol.specs.View.{View, Ring, same_view, member, within, below}
 use Rattle.protocol.specs.History.{top, holds}
 use Rattle.protocol.specs.Statement.{Group, Stmt, group_of, is_kind, reports_on}
-use Rattle.protocol.specs.Evidence.{wished, candidate, candidates, greatest, certificates, is_conflict, is_candidate, has_quorum, signs, signed_by_quorum, is_certified, is_counted_for, is_counted, is_counted_on, is_skipped, Certificate}
+use Rattle.protocol.specs.Evidence.{candidate, candidates, certificates, is_conflict, is_candidate, has_quorum, signs, signed_by_quorum, is_certified, is_counted_for, is_counted, is_counted_on, is_skipped, Certificate}
 use Rattle.protocol.proofs.Says.{from-true, says_map, says-unique, says-self, says-and, says-eqb, says-every, says_all, says_any}
 use Rattle.protocol.proofs.Found.{first-in, first-none}
 use Rattle.protocol.proofs.Decided.{says_same, says-in, says-shown, says-certified}
@@ -97,16 +97,6 @@ module _ (W : List ℕ) (s j : ℕ) (q : Judge) (P K : List ℕ) where
       pub kept_payload : (x m : ℕ) → r ≡ true → x ≡ told_kept W s j → m ≡ get_or P j 0 → eqb x m ≡ kept_holds q P j (told_at W s j)
       kept_payload x m e f g = ap₂ eqb f g ∙ sym (kept_by ∙ ap (λ b. b && eqb (told_kept W s j) (get_or P j 0)) e)
 
-  -- both
-  module _ (b : Bool) (binding : b ≡ binding_holds q K j (told_at W s j)) where
-    pub told-unbound : b ≡ false → false ≡ told_holds q P K j (told_at W s j)
-    unfolding told_holds
-    told-unbound e = sym (ap (λ b. b && kept_holds q P j (told_at W s j)) (sym binding ∙ e))
-
-    pub told-kept : (k : Bool) → b ≡ true → k ≡ kept_holds q P j (told_at W s j) → k ≡ told_holds q P K j (told_at W s j)
-    unfolding told_holds
-    told-kept k e f = f ∙ sym (ap (λ b. b && kept_holds q P j (told_at W s j)) (sym binding ∙ e))
-
 -- of all notices
 module _ (W : List ℕ) (s : ℕ) (q : Judge) (P K : List ℕ) where
   abbrev held_at : ℕ → Bool
@@ -145,42 +135,6 @@ module _ (W : List ℕ) (s : ℕ) (q : Judge) (P K : List ℕ) where
       | yes h ↦ (says-every (λ i. says-self (held_at i)) j).sound (from-true w.so) i h
       | no h ↦ (let z = told-out W s i (omega arith) in from-true (still i z.0 z.1))
     ]))
-
--- the tests of a report in their order: each that fails decides, and the last decides where the others hold
-module _ (q : Judge) (C P K : List ℕ) (s : Stmt) where
-  abbrev tests : Bool → Bool → Bool → Bool → Bool
-  tests m w l t = ((m && w) && l) && t
-
-  abbrev told : Bool
-  told = every q.notices (λ i. told_holds q P K i (group_of s i))
-
-  counts-parts : counts_by q C P K s ≡ tests (member s.at s.origin) (within 16 s.view (view_of q.wished)) (holds (views_of C q.count) s.views) told
-  unfolding counts_by
-  counts-parts = refl
-
-  module _ (t o : ℕ) (m : Bool) (at : view_of t ≡ s.at) (origin : o ≡ s.origin) (asked-m : m ≡ member (view_of t) o) where
-    after-m : counts_by q C P K s ≡ tests m (within 16 s.view (view_of q.wished)) (holds (views_of C q.count) s.views) told
-    after-m = counts-parts ∙ ap (λ m. tests m (within 16 s.view (view_of q.wished)) (holds (views_of C q.count) s.views) told) (sym (asked-m ∙ ap₂ member at origin))
-
-    pub counts-alien : m ≡ false → false ≡ counts_by q C P K s
-    counts-alien n = sym (after-m ∙ ap (λ m. tests m (within 16 s.view (view_of q.wished)) (holds (views_of C q.count) s.views) told) n)
-
-    module _ (v : ℕ) (w : Bool) (yes-m : m ≡ true) (view : view_of v ≡ s.view) (asked-w : w ≡ within 16 (view_of v) (view_of q.wished)) where
-      after-w : counts_by q C P K s ≡ tests true w (holds (views_of C q.count) s.views) told
-      after-w = after-m ∙ ap₂ (λ m w. tests m w (holds (views_of C q.count) s.views) told) yes-m (sym (asked-w ∙ ap (λ v. within 16 v (view_of q.wished)) view))
-
-      pub counts-unwished : w ≡ false → false ≡ counts_by q C P K s
-      counts-unwished n = sym (after-w ∙ ap (λ w. tests true w (holds (views_of C q.count) s.views) told) n)
-
-      module _ (l : Bool) (yes-w : w ≡ true) (asked-l : l ≡ holds (views_of C q.count) s.views) where
-        after-l : counts_by q C P K s ≡ tests true true l told
-        after-l = after-w ∙ ap₂ (λ w l. tests true w l told) yes-w (sym asked-l)
-
-        pub counts-uncandid : l ≡ false → false ≡ counts_by q C P K s
-        counts-uncandid n = sym (after-l ∙ ap (λ l. tests true true l told) n)
-
-        pub counts-told : (k : Bool) → l ≡ true → k ≡ told → k ≡ counts_by q C P K s
-        counts-told k y f = f ∙ sym (after-l ∙ ap (λ l. tests true true l told) y)
 
 -- ---- a set over the reports alone
 
@@ -227,24 +181,6 @@ module _ (q : Judge) (C P K : List ℕ) where
 
   pub views-all : (Y : List Stmt) (i n : ℕ) (L : List ℕ) → i ≡ n → all (has_reports q C P K Y) (views_of L i) ≡ true → all (has_reports q C P K Y) (views_of L n) ≡ true
   views-all Y i n L f g = subst (λ k. all (has_reports q C P K Y) (views_of L k) ≡ true) f g
-
--- ---- a report that counts on a view of a list
-
-module _ (q : Judge) (C P K : List ℕ) (H : List View) (k u : ℕ) (s : Stmt) (kind : k ≡ s.kind) where
-  pub among-kind : (k ≡ 5 → ⊥) → false ≡ counts_among q C P K H s
-  unfolding counts_among is_kind
-  among-kind n = sym (ap (λ a. a && any (same_view s.at) H && counts_by q C P K s) (ne_eqb _ 5 (λ z. n (kind ∙ z))))
-
-  module _ (five : k ≡ 5) (at : view_of u ≡ s.at) (i : Bool) (g : i ≡ any (same_view (view_of u)) H) where
-    among_in : counts_among q C P K H s ≡ (i && counts_by q C P K s)
-    unfolding counts_among is_kind
-    among_in = ap₂ (λ a v. a && any (same_view v) H && counts_by q C P K s) (eq-eqb _ 5 (sym kind ∙ five)) (sym at) ∙ ap (λ i. i && counts_by q C P K s) (sym g)
-
-    pub among-outside : i ≡ false → false ≡ counts_among q C P K H s
-    among-outside n = sym (among_in ∙ ap (λ i. i && counts_by q C P K s) n)
-
-    pub among-counts : (r : Bool) → i ≡ true → r ≡ counts_by q C P K s → r ≡ counts_among q C P K H s
-    among-counts r y c = c ∙ sym (among_in ∙ ap (λ i. i && counts_by q C P K s) y)
 
 -- ---- what the evidence tells
 

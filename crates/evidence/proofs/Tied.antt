@@ -6,7 +6,7 @@ use mathlib.Core.Bool.{Bool, true, false, not, ◌||◌}
 use mathlib.Core.List.{List, [], ◌∷◌}
 use Prim.Native.Nat.{ℕ, ◌/◌, ◌%◌, ◌≤◌, ◌<◌}
 use native.Mathlib.Omega.{arith}
-use lib.Dec.{T, eqb, eqb→eq}
+use lib.Dec.{T, eqb}
 use lib.ListN.{length, get_or}
 use Rattle.protocol.specs.Sets.{every}
 use Rattle.protocol.specs.Lists.{any, pairwise}
@@ -15,7 +15,7 @@ use Rattle.protocol.specs.History.{same_views, holds}
 use Rattle.protocol.specs.Statement.{Stmt}
 use Rattle.protocol.specs.Evidence.{wished, candidate, sealed, Candidate, initial, chosen, is_candidate, candidates, sealed_histories, certificates, is_conflict, greatest}
 use Rattle.protocol.specs.Grounds.{is_top}
-use Rattle.protocol.proofs.Says.{Says, says-self, says-and, says-or, says-eqb, says_any}
+use Rattle.protocol.proofs.Says.{Says, is_true, from-true, says-self, says-and, says-or, says-eqb, says_any}
 use Rattle.protocol.proofs.Bits.{Fits}
 use Rattle.protocol.proofs.Quorums.{someone}
 use Rattle.protocol.proofs.Decided.{says-sames, says-shown}
@@ -24,7 +24,9 @@ use Rattle.protocol.proofs.Asked.{greatest-holds}
 use Rattle.views.specs.View.{view_of, ring_of_word, views_of, word_of}
 use Rattle.pool.specs.Pool.{record_in}
 use Rattle.tables.specs.Index.{key_at}
-use Rattle.votes.specs.Tables.{IsWord, up_to, choice_at, agreement_at, gives, seals_at, seals_as, Tables, Verdicts}
+use Rattle.votes.specs.Tables.{IsWord, up_to, choice_at, agreement_at, gives, seals_at, seals_as, Tables}
+use Rattle.sealing.specs.declared.verdict.Verdict.{Verdict}
+use Rattle.sealing.specs.Memos.{Verdicts}
 use Rattle.ranking.specs.declared.Ranked.{Ranked}
 use Rattle.ranking.specs.declared.Summit.{Summit}
 use Rattle.evidence.specs.declared.certificates.Certified.{Certified}
@@ -49,7 +51,7 @@ word-for v f = (word_of v, omega (arith, f.joined, f.left), λ i. record { joine
     high : word_of v / 4294967296 % 4294967296 ≡ v.left
     high = omega (arith, f.joined, f.left)
 
-module _ (W ids : List ℕ) (init : ℕ) (K R : List ℕ) (choice_count agreement_count : ℕ) (M : List ℕ) (tables : Tables W (record_in W ids) init K R choice_count agreement_count) (verdicts : Verdicts W (record_in W ids) init K R choice_count agreement_count M) where
+module _ (W ids : List ℕ) (init : ℕ) (K R : List ℕ) (choice_count agreement_count : ℕ) (M : List Verdict) (tables : Tables W (record_in W ids) init K R choice_count agreement_count) (verdicts : Verdicts W (record_in W ids) init K R choice_count agreement_count M) where
   abbrev X : List Stmt
   X = record_in W ids
 
@@ -77,20 +79,20 @@ module _ (W ids : List ℕ) (init : ℕ) (K R : List ℕ) (choice_count agreemen
 
   pub choices-marked : MarkedChoices init X K M choice_count
   choices-marked = record {
-    sound = λ c l e. (says-shown (ring_of_word init) X (candidate (view_of (key_at K 0 c)))).sound (subst T (verdicts.candidate c l) (says-eqb.complete e));
+    sound = λ c l e. (says-shown (ring_of_word init) X (candidate (view_of (key_at K 0 c)))).sound (subst T (verdicts.candidate c l) (from-true e));
     complete = λ v k. elim (word-of k) [ inl e ↦ inl e | inr (w, l, e) ↦ go v k w l e ];
     fits = record-fits W ids (get_or ids 512 0);
   }
     where
       go : (v : View) → Candidate (ring_of_word init) X v → (w : ℕ) → IsWord w → view_of w ≡ v
-          → (v ≡ view_of init) ⊎ ((c : ℕ) × (c < choice_count) × (choice_mark M c ≡ 1) × (view_of (key_at K 0 c) ≡ v))
+          → (v ≡ view_of init) ⊎ ((c : ℕ) × (c < choice_count) × (choice_mark M c ≡ true) × (view_of (key_at K 0 c) ≡ v))
       go v k w l e =
           let shown : (u : View) → u ≡ v → T (is_candidate (ring_of_word init) X u) = λ u q. subst (λ u. T (is_candidate (ring_of_word init) X u)) (sym q) ((says-shown (ring_of_word init) X (candidate v)).complete k) in
           elim ((says-or (says-eqb {m = w} {n = init}) (says-self (any (gives W X init K R w) (up_to choice_count)))).sound (subst T (tables.candidates w l) (shown (view_of w) e))) [
             | inl q ↦ inl (sym e ∙ ap view_of q)
             | inr t ↦ (let (c, h, g) = some_of (gives W X init K R w) choice_count t in
                 let is : view_of (key_at K 0 c) ≡ v = ap view_of ((says-gives w c).sound g).0 ∙ e in
-                inr (c, h, eqb→eq _ _ (subst T (sym (verdicts.candidate c h)) (shown _ is)), is))
+                inr (c, h, is_true _ (subst T (sym (verdicts.candidate c h)) (shown _ is)), is))
           ]
 
   says-seals : (H : List View) (a : ℕ) → Says (seals_as W X init K R H a) (((agreement_at W R a).views ≡ H) × T (seals_at W X init K R a))
@@ -105,13 +107,13 @@ module _ (W ids : List ℕ) (init : ℕ) (K R : List ℕ) (choice_count agreemen
     sound = λ a l e.
         let H = (agreement_at W R a).views in
         (says-shown (ring_of_word init) X (sealed H)).sound (subst T (sym (tables.histories H))
-        ((says-listed H).complete (inr (of_some (seals_as W X init K R H) agreement_count a l ((says-seals H a).complete (refl, subst T (verdicts.sealed a l) (says-eqb.complete e)))))));
+        ((says-listed H).complete (inr (of_some (seals_as W X init K R H) agreement_count a l ((says-seals H a).complete (refl, subst T (verdicts.sealed a l) (from-true e)))))));
     complete = λ H k.
         elim ((says-listed H).sound (subst T (tables.histories H) ((says-shown (ring_of_word init) X (sealed H)).complete k))) [
           | inl e ↦ inl e
           | inr t ↦ (let (a, l, g) = some_of (seals_as W X init K R H) agreement_count t in
               let (e, h) = (says-seals H a).sound g in
-              inr (a, l, eqb→eq _ _ (subst T (sym (verdicts.sealed a l)) h), e))
+              inr (a, l, is_true _ (subst T (sym (verdicts.sealed a l)) h), e))
         ];
   }
 

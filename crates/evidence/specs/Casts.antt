@@ -1,12 +1,11 @@
 -- Acks and stores for a payload: when a certificate was complete, and who signed.
 -- Assumes nothing.
-use Rattle.std.specs.Prelude.{◌≡◌, ◌⊎◌, Bool, ◌&&◌, ℕ, eqb}
-use Rattle.std.proofs.Math.Option.{Option, some, none}
+use Rattle.std.specs.Prelude.{◌≡◌, ◌⊎◌, Bool, ◌&&◌, ℕ, eqb, Option, Some, None}
+use Rattle.std.proofs.Math.Option as maybe
+use Rattle.std.proofs.Math.Option.{some, none}
 use Rattle.protocol.specs.View.{View, same_view}
 use Rattle.protocol.specs.Statement.{Stmt, is_kind, payload_of}
 use Rattle.views.specs.View.{view_of}
-use Rattle.evidence.specs.declared.signers.Top.{Top}
-use Rattle.evidence.specs.declared.signers.Top.TheVariants.{At, Nothing}
 
 -- The kind of an ack or of a store.
 abbrev pub Late : ℕ → Type 0
@@ -20,7 +19,7 @@ cast_for k i m s = is_kind k s && eqb s.notice i && eqb (payload_of s) m
 unfoldable pub cast_at : ℕ → View → ℕ → ℕ → Stmt → Bool
 cast_at k t i m s = eqb s.kind k && same_view s.at t && eqb s.notice i && eqb (payload_of s) m
 
--- The top that was found.
-abbrev pub top_is : Top → Option View
-top_is (At w) = some (view_of w)
-top_is Nothing = none
+-- The top whose word was found.
+abbrev pub top_is : Option ℕ → maybe.Option View
+top_is (Some w) = some (view_of w)
+top_is None = none

@@ -1,6 +1,6 @@
 -- What the certificates are of, and the groups and lists that they are found by.
 -- Assumes nothing.
-use Rattle.std.specs.Prelude.{◌≡◌, Bool, true, false, not, cond, ◌&&◌, ◌||◌, List, ℕ, zero, suc, ◌+◌, ◌≤◌, ◌<◌, min, T, eqb, ltb, get_or, length}
+use Rattle.std.specs.Prelude.{◌≡◌, Bool, true, false, not, ◌&&◌, ◌||◌, List, ℕ, zero, suc, ◌+◌, ◌≤◌, ◌<◌, min, T, eqb, ltb, get_or, length}
 use Rattle.protocol.specs.Sets.{bit, every}
 use Rattle.protocol.specs.Lists.{pairwise, first, when}
 use Rattle.protocol.specs.Statement.{Stmt, is_kind, payload_of}
@@ -12,6 +12,8 @@ use Rattle.pool.specs.Pool.{record_up_to}
 use Rattle.tables.specs.Index.{key_at, RowLinked, Chained}
 use Rattle.views.specs.Tally.{place_in, own_in}
 use Rattle.votes.specs.Votes.{alike, entry, vote_at, GroupsIn}
+use Rattle.evidence.specs.declared.certificates.Acked.{Acked}
+use Rattle.evidence.specs.declared.certificates.Acked.TheVariants.{Nothing, One, Many}
 use Rattle.evidence.specs.declared.certificates.Certified.{Certified}
 
 module _ (init : ℕ) (X : List Stmt) where
@@ -38,10 +40,16 @@ module _ (W ids : List ℕ) (len init : ℕ) where
 abbrev pub BackedIn : List ℕ → List ℕ → ℕ → List ℕ → ℕ → Type 0
 BackedIn W ids init G n = Backed W ids (get_or ids 512 0) init G n
 
--- Of the first n groups, those of acks are of one notice and have one payload; or they have many.
-pub record AckedOf (W ids G : List ℕ) (n : ℕ) (many some : Bool) (notice payload : ℕ) : Type 0 where
-  pub one : many ≡ false → some ≡ true → (g : ℕ) × (g < n) × ((vote_at W ids G g).kind ≡ 7) × ((vote_at W ids G g).notice ≡ notice) × (payload_of (vote_at W ids G g) ≡ payload)
-  pub all : many ≡ false → (g : ℕ) → g < n → (vote_at W ids G g).kind ≡ 7 → (some ≡ true) × ((vote_at W ids G g).notice ≡ notice) × (payload_of (vote_at W ids G g) ≡ payload)
+-- Of the first n groups those of acks are of this notice and have this payload, and there are some.
+pub record OneAcked (W ids G : List ℕ) (n notice payload : ℕ) : Type 0 where
+  pub one : (g : ℕ) × (g < n) × ((vote_at W ids G g).kind ≡ 7) × ((vote_at W ids G g).notice ≡ notice) × (payload_of (vote_at W ids G g) ≡ payload)
+  pub all : (g : ℕ) → g < n → (vote_at W ids G g).kind ≡ 7 → ((vote_at W ids G g).notice ≡ notice) × (payload_of (vote_at W ids G g) ≡ payload)
+
+-- Of the first n groups none is of acks; or those of acks are of one notice and have one payload; or they have many.
+abbrev pub AckedOf : List ℕ → List ℕ → List ℕ → ℕ → Acked → Type 0
+AckedOf W ids G n Nothing = (g : ℕ) → g < n → (vote_at W ids G g).kind ≡ 7 → ⊥
+AckedOf W ids G n (One a) = OneAcked W ids G n a.notice a.payload
+AckedOf W ids G n Many = Unit {0}
 
 -- ---- what was prepared
 
@@ -111,9 +119,3 @@ pub record OneCertificate (senders : List ℕ) (X : List Stmt) (i m : ℕ) (P : 
 -- r is the set of those of the certified notices whose payload is stored.
 pub record StoredOf (init : ℕ) (X : List Stmt) (some : ℕ) (P : List ℕ) (r : ℕ) : Type 0 where
   pub are : (i : ℕ) → i < 64 → bit some i ≡ true → bit r i ≡ is_stored (ring_of_word init) X i (get_or P i 0)
-
--- ---- after how many statements a certificate was complete
-
--- The lesser of two numbers, where 0 stands for none.
-unfoldable pub lesser_some : ℕ → ℕ → ℕ
-lesser_some a b = cond (eqb a 0) b (min a b)

@@ -7,16 +7,17 @@ ghost use Rattle.statements.specs.Block.{binding_is};
 ghost use Rattle.evidence.specs.Reports.{told_count};
 
 use pool::POOL_WORDS;
-use statements::Binding;
+use statements::{Binding, Kind};
 
 // Of how many notices statement s tells: only a report tells of any.
 pub fn told_count(words: &[u64; POOL_WORDS], s: u16) -> usize
     ensures { (result ≡ told_count words.now s) × (result ≤ 64) }
 {
-    if pool::kind(words, s) != 5 {
-        return 0;
+    if pool::kind(words, s) == Kind::Report as u64 {
+        pool::groups(words, s)
+    } else {
+        0
     }
-    pool::groups(words, s)
 }
 
 // The binding that statement s tells of notice j.
@@ -42,13 +43,8 @@ fn with_payload(m: u64, b: Binding) -> Binding
     match b {
         Binding::Unbound => Binding::Bound(m),
         Binding::Barred => Binding::Barred,
-        Binding::Bound(n) => {
-            if m == n {
-                Binding::Bound(m)
-            } else {
-                Binding::Barred
-            }
-        }
+        Binding::Bound(n) if m == n => Binding::Bound(m),
+        Binding::Bound(_) => Binding::Barred,
     }
 }
 

@@ -3,50 +3,53 @@ ghost use Rattle.std.specs.Prelude.{◌≡◌, ◌&&◌, List, ℕ, ◌≤◌, �
 ghost use Rattle.protocol.specs.Count.{complete_after};
 ghost use Rattle.views.specs.View.{ring_of_word};
 ghost use Rattle.views.specs.Tally.{place_in, own_in};
+ghost use Rattle.statements.specs.Kind.{kind_number};
 ghost use Rattle.pool.specs.Pool.{stmt_at, record_len, record_in};
 ghost use Rattle.votes.specs.Votes.{entry, tag_by, GroupCounts, GroupsIn};
 ghost use Rattle.sealing.specs.Memos.{VerdictsHeld};
 ghost use Rattle.evidence.specs.Notices.{senders_of};
-ghost use Rattle.evidence.specs.Shown.{is_backed, Ended, BackedIn, AckedOf, Linked, PreparedList, certifies_by, stores_one, OneCertificate, CertificatesOf, StoredOf, lesser_some};
+ghost use Rattle.evidence.specs.Shown.{is_backed, Ended, BackedIn, AckedOf, Linked, PreparedList, certifies_by, stores_one, OneCertificate, CertificatesOf, StoredOf};
 ghost use Rattle.evidence.specs.Casts.{cast_for};
 
 use crate::{notices, prepares};
 use pool::{POOL_WORDS, RECORD};
-use sealing::MEMO;
-use statements::NOTICES;
+use sealing::{MEMO, Verdict};
+use statements::{Kind, NOTICES};
 use tables::{KEYS, ROWS};
 use votes::GROUPS;
 
 // The kind of a group's votes is the lowest byte of its tag.
 const KIND: u64 = 256;
 
-const ACK: u64 = 7;
-
-// The notices that have a certificate, as a set, or that one has certificates for two payloads.
+// The notices that have a certificate, as a set, and whether one has certificates for two payloads. No Result: the set is told beside a conflict too, and a promise speaks of it.
 #[derive(Clone, Copy)]
 pub struct Certified {
     pub conflict: bool,
     pub some: u64,
 }
 
-// What quorums of sealed tops acked: one payload of one notice, or none, or more.
-#[derive(Clone, Copy)]
-struct Acked {
-    many: bool,
-    some: bool,
+// What an ack says: a payload of a notice.
+#[derive(Clone, Copy, PartialEq)]
+struct Said {
     notice: usize,
     payload: u64,
+}
+
+// What quorums of sealed tops acked: nothing, one payload of one notice, or more.
+#[derive(Clone, Copy)]
+enum Acked {
+    Nothing,
+    One(Said),
+    Many,
 }
 
 // Puts a word without a tag after the n groups, if there is room: it ends them, so that their number need not travel with them.
 pub fn end(groups: &mut [u64; GROUPS], n: usize)
     ensures { (W ids : List ℕ) → GroupsIn W ids groups.old n → Ended W ids groups.new }
 {
-    votes::groups_room(groups);
-    if n >= GROUPS {
-        return;
+    if n < GROUPS {
+        groups[n] = 0;
     }
-    groups[n] = 0;
 }
 
 // Whether the group x is of acks or of stores by a quorum of a sealed top.
@@ -56,55 +59,48 @@ fn is_backed(
     init: u64,
     keys: &[u64; KEYS],
     rows: &[u16; ROWS],
-    memo: &[u8; MEMO],
+    memo: &[Verdict; MEMO],
     x: u64,
 ) -> bool
     requires { VerdictsHeld words.now (record_in words.now ids.now) init keys.now rows.now memo.now × (place_in x < record_len ids.now) × (own_in x ≡ tag_by (entry words.now ids.now (place_in x))) × GroupCounts x (entry words.now ids.now (place_in x)) (record_in words.now ids.now) }
     ensures { result ≡ is_backed init (record_in words.now ids.now) (entry words.now ids.now (place_in x)) }
 {
     let k = views::own_of(x) % KIND;
-    if k < 7 {
-        return false;
-    }
-    if 8 < k {
+    if k != Kind::Ack as u64 && k != Kind::Store as u64 {
         return false;
     }
     if !views::is_complete(x) {
         return false;
     }
-    let f = views::place_of(x);
-    let t = pool::at(words, ids[f]);
+    let t = pool::at(words, ids[views::place_of(x)]);
     sealing::is_sealed_top(words, ids, init, keys, rows, memo, t)
 }
 
-// Of the groups, those of acks and of stores by a quorum of a sealed top go to the front. Returns how many there are.
+// Of the groups, those of acks and of stores by a quorum of a sealed top go to the front. Returns how many there are. The groups are written while they are read, so
+// the loop goes by their numbers.
 pub fn keep_backed(
     words: &[u64; POOL_WORDS],
     ids: &[u16; RECORD],
     init: u64,
     keys: &[u64; KEYS],
     rows: &[u16; ROWS],
-    memo: &[u8; MEMO],
+    memo: &[Verdict; MEMO],
     groups: &mut [u64; GROUPS],
 ) -> usize
     requires { VerdictsHeld words.now (record_in words.now ids.now) init keys.now rows.now memo.now × Ended words.now ids.now groups.old }
     ensures { BackedIn words.now ids.now init groups.new result }
 {
-    votes::groups_room(groups);
-    let mut n = 0usize;
-    let mut g = 0usize;
-    while g < GROUPS {
+    let mut n = 0;
+    for g in 0..GROUPS {
         let x = groups[g];
         if views::own_of(x) == 0 {
             return n;
         }
         if !is_backed(words, ids, init, keys, rows, memo, x) {
-            g += 1;
             continue;
         }
         groups[n] = x;
         n += 1;
-        g += 1;
     }
     n
 }
@@ -121,14 +117,10 @@ fn is_certifying(
     requires { Linked keys.now rows.now known }
     ensures { result ≡ certifies_by (min count 64) keys.now known (stmt_at words.now s) }
 {
-    if pool::kind(words, s) != 7 {
-        return false;
-    }
     let j = notices::notice_of(words, s);
-    if j >= statements::few(count) {
-        return false;
-    }
-    prepares::is_listed(keys, rows, known, j, pool::payload(words, s))
+    pool::kind(words, s) == Kind::Ack as u64
+        && j < count.min(NOTICES)
+        && prepares::is_listed(keys, rows, known, j, pool::payload(words, s))
 }
 
 // The certificates, from the list of what the senders prepared.
@@ -148,14 +140,10 @@ fn certify(
     requires { BackedIn words.now ids.now init groups.now n × PreparedList (senders_of senders.now count) (record_in words.now ids.now) keys.now rows.now known }
     ensures { CertificatesOf init (senders_of senders.now count) (record_in words.now ids.now) certs.new result }
 {
-    notices::words_room(certs);
     let mut some = 0u64;
-    let mut g = 0usize;
-    while g < n {
-        let f = views::place_of(groups[g]);
-        let s = ids[f];
+    for x in &groups[..n] {
+        let s = ids[views::place_of(*x)];
         if !is_certifying(words, count, keys, rows, known, s) {
-            g += 1;
             continue;
         }
         let j = notices::notice_of(words, s);
@@ -163,16 +151,12 @@ fn certify(
         if !statements::has(some, j) {
             some = statements::with_notice(some, j);
             certs[j] = m;
-            g += 1;
-            continue;
-        }
-        if m != certs[j] {
+        } else if m != certs[j] {
             return Certified {
                 conflict: true,
                 some,
             };
         }
-        g += 1;
     }
     Certified {
         conflict: false,
@@ -180,17 +164,7 @@ fn certify(
     }
 }
 
-// Whether a notice and a payload are the same as others.
-fn is_same(j: usize, m: u64, notice: usize, payload: u64) -> bool
-    ensures { result ≡ (eqb j notice && eqb m payload) }
-{
-    if j != notice {
-        return false;
-    }
-    m == payload
-}
-
-// The payload and the notice that quorums of sealed tops acked, if they acked one alone.
+// What quorums of sealed tops acked.
 fn only_acked(
     words: &[u64; POOL_WORDS],
     ids: &[u16; RECORD],
@@ -199,43 +173,27 @@ fn only_acked(
     n: usize,
 ) -> Acked
     requires { BackedIn words.now ids.now init groups.now n }
-    ensures { AckedOf words.now ids.now groups.now n result.many result.some result.notice result.payload }
+    ensures { AckedOf words.now ids.now groups.now n result }
 {
-    let mut some = false;
-    let mut notice = 0usize;
-    let mut payload = 0u64;
-    let mut g = 0usize;
-    while g < n {
-        let f = views::place_of(groups[g]);
-        let s = ids[f];
-        if pool::kind(words, s) != 7 {
-            g += 1;
+    let mut one: Option<Said> = None;
+    for x in &groups[..n] {
+        let s = ids[views::place_of(*x)];
+        if pool::kind(words, s) != Kind::Ack as u64 {
             continue;
         }
-        let j = notices::notice_of(words, s);
-        let m = pool::payload(words, s);
-        if !some {
-            some = true;
-            notice = j;
-            payload = m;
-            g += 1;
-            continue;
+        let said = Said {
+            notice: notices::notice_of(words, s),
+            payload: pool::payload(words, s),
+        };
+        match one {
+            None => one = Some(said),
+            Some(other) if other == said => {}
+            Some(_) => return Acked::Many,
         }
-        if !is_same(j, m, notice, payload) {
-            return Acked {
-                many: true,
-                some,
-                notice,
-                payload,
-            };
-        }
-        g += 1;
     }
-    Acked {
-        many: false,
-        some,
-        notice,
-        payload,
+    match one {
+        None => Acked::Nothing,
+        Some(said) => Acked::One(said),
     }
 }
 
@@ -251,11 +209,7 @@ fn certify_one(
 ) -> u64
     ensures { OneCertificate (senders_of senders.now count) (record_in words.now ids.now) j m certs.new result }
 {
-    notices::words_room(certs);
-    if j >= statements::few(count) {
-        return 0;
-    }
-    if !prepares::is_prepared(words, ids, count, senders, j, m) {
+    if j >= count.min(NOTICES) || !prepares::is_prepared(words, ids, count, senders, j, m) {
         return 0;
     }
     certs[j] = m;
@@ -279,20 +233,16 @@ pub fn certificates(
     requires { BackedIn words.now ids.now init groups.now n }
     ensures { CertificatesOf init (senders_of senders.now count) (record_in words.now ids.now) certs.new result }
 {
-    let a = only_acked(words, ids, init, groups, n);
-    if a.many {
-        let known = prepares::list(words, ids, count, senders, keys, rows);
-        return certify(
-            words, ids, init, count, senders, groups, n, keys, rows, known, certs,
-        );
-    }
-    if !a.some {
-        return Certified {
-            conflict: false,
-            some: 0,
-        };
-    }
-    let some = certify_one(words, ids, count, senders, a.notice, a.payload, certs);
+    let some = match only_acked(words, ids, init, groups, n) {
+        Acked::Nothing => 0,
+        Acked::One(a) => certify_one(words, ids, count, senders, a.notice, a.payload, certs),
+        Acked::Many => {
+            let known = prepares::list(words, ids, count, senders, keys, rows);
+            return certify(
+                words, ids, init, count, senders, groups, n, keys, rows, known, certs,
+            );
+        }
+    };
     Certified {
         conflict: false,
         some,
@@ -303,14 +253,10 @@ pub fn certificates(
 fn stores_one(words: &[u64; POOL_WORDS], s: u16, some: u64, certs: &[u64; NOTICES]) -> bool
     ensures { result ≡ stores_one some certs.now (stmt_at words.now s) }
 {
-    if pool::kind(words, s) != 8 {
-        return false;
-    }
     let j = notices::notice_of(words, s);
-    if !statements::has(some, j) {
-        return false;
-    }
-    pool::payload(words, s) == notices::word_of(certs, j)
+    pool::kind(words, s) == Kind::Store as u64
+        && statements::has(some, j)
+        && pool::payload(words, s) == certs[j]
 }
 
 // The certified notices of which quorums of sealed tops stored the payload.
@@ -327,42 +273,23 @@ pub fn stored(
     ensures { StoredOf init (record_in words.now ids.now) some certs.now result }
 {
     let mut seen = 0u64;
-    let mut g = 0usize;
-    while g < n {
-        let f = views::place_of(groups[g]);
-        let s = ids[f];
-        if !stores_one(words, s, some, certs) {
-            g += 1;
-            continue;
+    for x in &groups[..n] {
+        let s = ids[views::place_of(*x)];
+        if stores_one(words, s, some, certs) {
+            seen = statements::with_notice(seen, notices::notice_of(words, s));
         }
-        seen = statements::with_notice(seen, notices::notice_of(words, s));
-        g += 1;
     }
     seen
 }
 
 // Whether statement s is a vote of this kind, an ack or a store, of notice j for m.
-pub fn casts(words: &[u64; POOL_WORDS], s: u16, kind: u64, j: usize, m: u64) -> bool
-    requires { kind ≡ 5 → ⊥ }
-    ensures { result ≡ cast_for kind j m (stmt_at words.now s) }
+pub fn casts(words: &[u64; POOL_WORDS], s: u16, kind: Kind, j: usize, m: u64) -> bool
+    requires { kind_number kind ≡ 5 → ⊥ }
+    ensures { result ≡ cast_for (kind_number kind) j m (stmt_at words.now s) }
 {
-    if pool::kind(words, s) != kind {
-        return false;
-    }
-    is_same(notices::notice_of(words, s), pool::payload(words, s), j, m)
-}
-
-// The lesser of two numbers, where 0 stands for none.
-fn lesser_some(a: usize, b: usize) -> usize
-    ensures { result ≡ lesser_some a b }
-{
-    if a == 0 {
-        return b;
-    }
-    if a < b {
-        return a;
-    }
-    b
+    pool::kind(words, s) == kind as u64
+        && notices::notice_of(words, s) == j
+        && pool::payload(words, s) == m
 }
 
 // After how many statements the certificate for m of notice j was complete: of its acks by quorums of sealed tops, those that were complete first tell it.
@@ -378,17 +305,15 @@ pub fn complete_after(
     requires { BackedIn words.now ids.now init groups.now n }
     ensures { (result ≡ complete_after (ring_of_word init) (record_in words.now ids.now) j m) × (result ≤ 512) }
 {
-    let mut least = 0usize;
-    let mut g = 0usize;
-    while g < n {
-        let x = groups[g];
-        let f = views::place_of(x);
-        if !casts(words, ids[f], ACK, j, m) {
-            g += 1;
-            continue;
+    let mut least: Option<usize> = None;
+    for x in &groups[..n] {
+        let f = views::place_of(*x);
+        if casts(words, ids[f], Kind::Ack, j, m) {
+            least = Some(least.unwrap_or(f).min(f));
         }
-        least = lesser_some(least, f + 1);
-        g += 1;
     }
-    least
+    match least {
+        None => 0,
+        Some(f) => f + 1,
+    }
 }

@@ -13,7 +13,6 @@ mod summary;
 
 pub use certificates::complete_after;
 pub use merging::merged;
-pub use notices::word_of;
 pub use remaining::needed;
 pub use reports::{count_reports, reported, reporters};
 pub use signers::{ack_set, acked_by, stored_by};

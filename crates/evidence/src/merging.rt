@@ -9,7 +9,7 @@ ghost use Rattle.evidence.specs.Evidence.{ring_is, Settled, reports_there, Merge
 ghost use Rattle.evidence.specs.Notices.{senders_of};
 ghost use Rattle.evidence.specs.Reports.{counts_among, Usable, Touched};
 
-use crate::reports::Judge;
+use crate::reports::Basis;
 use crate::{Evidence, Notice, Ring, binding, prepares, remaining, reports};
 use pool::{CAPACITY, POOL_WORDS, RECORD};
 use statements::{Binding, NOTICES};
@@ -21,28 +21,19 @@ use views::View;
 fn among_in(
     words: &[u64; POOL_WORDS],
     ids: &[u16; RECORD],
-    q: Judge,
-    candidates: &[u64; View::LIMIT],
+    basis: &Basis,
     needed: &[u64; View::LIMIT],
     n: usize,
-    certs: &[u64; NOTICES],
-    keys: &[u64; KEYS],
-    rows: &[u16; ROWS],
     listed: &mut [u16; RECORD],
 )
-    requires { (n ≤ 16) × Usable q keys.now rows.now }
-    ensures { record_in words.now listed.new ≡ filter (counts_among q candidates.now certs.now keys.now (views_of needed.now n)) (record_in words.now ids.now) }
+    requires { (n ≤ 16) × Usable basis.now.judge basis.now.keys.now basis.now.rows.now }
+    ensures { record_in words.now listed.new ≡ filter (counts_among basis.now.judge basis.now.candidates.now basis.now.certs.now basis.now.keys.now (views_of needed.now n)) (record_in words.now ids.now) }
 {
-    pool::record_room(listed);
-    let end = pool::record_length(ids);
-    let mut count = 0usize;
-    let mut i = 0usize;
-    while i < end {
-        let s = ids[i];
-        let hit = reports::counts_among(words, q, candidates, needed, n, certs, keys, rows, s);
-        listed[count] = s;
-        count += hit as usize;
-        i += 1;
+    let mut count = 0;
+    for s in &ids[..pool::record_length(ids)] {
+        let hit = basis.counts_among(words, needed, n, *s);
+        listed[count] = *s;
+        count += usize::from(hit);
     }
     listed[CAPACITY] = count as u16;
 }
@@ -65,26 +56,26 @@ fn list_counted(
     let mut keys = [0u64; KEYS];
     let mut rows = [0u16; ROWS];
     let known = prepares::list(words, ids, ring.notices, senders, &mut keys, &mut rows);
-    let q = reports::judge_by(ring, e, known);
+    let basis = Basis {
+        judge: reports::judge_by(ring, e, known),
+        candidates,
+        certs,
+        keys: &keys,
+        rows: &rows,
+    };
     let mut needed = [0u64; View::LIMIT];
     let n = remaining::needed(greatest, e.length, e.skipped, ring.init, &mut needed);
-    among_in(
-        words, ids, q, candidates, &needed, n, certs, &keys, &rows, listed,
-    );
+    among_in(words, ids, &basis, &needed, n, listed);
 }
 
 // The notices of which a listed report may tell a binding.
 fn touched(words: &[u64; POOL_WORDS], listed: &[u16; RECORD]) -> u64
     ensures { Touched (record_in words.now listed.now) result }
 {
-    let end = pool::record_length(listed);
-    let mut seen = 0u64;
-    let mut i = 0usize;
-    while i < end {
-        let s = listed[i];
-        let told = statements::either(pool::bound(words, s), pool::barred(words, s));
+    let mut seen = 0;
+    for s in &listed[..pool::record_length(listed)] {
+        let told = statements::either(pool::bound(words, *s), pool::barred(words, *s));
         seen = statements::either(seen, told);
-        i += 1;
     }
     seen
 }
@@ -99,16 +90,14 @@ fn merge_listed(
     ensures { binding_is result ≡ merge_all j (binding_is own) (record_in words.now listed.now) }
 {
     let mut b = own;
-    let mut i = pool::record_length(listed);
-    while 0 < i {
-        i -= 1;
-        let next = binding::both(binding::told(words, listed[i], j), b);
-        b = next;
+    for i in (0..pool::record_length(listed)).rev() {
+        b = binding::both(binding::told(words, listed[i], j), b);
     }
     b
 }
 
-// The notices, merged with what the listed reports tell of each in the set `some`; they tell a binding of no other.
+// The notices, merged with what the listed reports tell of each in the set `some`; they tell a binding of no other. By index, since a proof knows no element that is
+// written through an iterator.
 fn merge_some(
     words: &[u64; POOL_WORDS],
     listed: &[u16; RECORD],
@@ -119,17 +108,11 @@ fn merge_some(
     ensures { MergedAll held (record_in words.now listed.now) result }
 {
     let mut all = held;
-    let mut j = 0usize;
-    while j < NOTICES {
-        if !statements::has(some, j) {
-            j += 1;
-            continue;
+    for j in 0..NOTICES {
+        if statements::has(some, j) {
+            let binding = merge_listed(words, listed, j, all[j].binding);
+            all[j] = Notice { binding };
         }
-        let notice = all[j];
-        let own = notice.binding;
-        let b = merge_listed(words, listed, j, own);
-        all[j] = Notice { binding: b };
-        j += 1;
     }
     all
 }

@@ -7,7 +7,7 @@ ghost use Rattle.evidence.specs.Shown.{prepares_it, prepares_one, listed, twofol
 
 use crate::notices;
 use pool::{POOL_WORDS, RECORD};
-use statements::NOTICES;
+use statements::{Kind, NOTICES};
 use tables::{KEYS, ROWS};
 
 // Of the table, the payloads are the first keys and the notices the second. Its index is the first.
@@ -28,13 +28,9 @@ fn is_prepare_of(
     requires { j < min count 64 }
     ensures { result ≡ prepares (senders_of senders.now count) j (stmt_at words.now s) }
 {
-    if pool::kind(words, s) != 6 {
-        return false;
-    }
-    if pool::origin(words, s) != notices::sender_of(senders, j) {
-        return false;
-    }
-    notices::notice_of(words, s) == j
+    pool::kind(words, s) == Kind::Prepare as u64
+        && pool::origin(words, s) == u64::from(senders[j])
+        && notices::notice_of(words, s) == j
 }
 
 // Whether statement s is a prepare of a notice of the ring by its sender.
@@ -42,13 +38,11 @@ fn is_prepare(words: &[u64; POOL_WORDS], s: u16, count: usize, senders: &[u8; NO
     ensures { result ≡ prepares_one (senders_of senders.now count) (stmt_at words.now s) }
 {
     let j = notices::notice_of(words, s);
-    if j >= statements::few(count) {
-        return false;
-    }
-    is_prepare_of(words, s, count, senders, j)
+    j < count.min(NOTICES) && is_prepare_of(words, s, count, senders, j)
 }
 
 // Whether statement s is a prepare of the payload m of notice j by its sender.
+#[tactic(auto, unfolding(crate::specs::Shown::prepares_it))]
 fn prepares_it(
     words: &[u64; POOL_WORDS],
     s: u16,
@@ -60,10 +54,7 @@ fn prepares_it(
     requires { j < min count 64 }
     ensures { result ≡ prepares_it (senders_of senders.now count) j m (stmt_at words.now s) }
 {
-    if !is_prepare_of(words, s, count, senders, j) {
-        return false;
-    }
-    pool::payload(words, s) == m
+    is_prepare_of(words, s, count, senders, j) && pool::payload(words, s) == m
 }
 
 // Whether the sender of notice j prepared m. Where this is asked of many payloads, the list below answers faster.
@@ -78,15 +69,9 @@ pub fn is_prepared(
     requires { j < min count 64 }
     ensures { result ≡ is_prepared (senders_of senders.now count) (record_in words.now ids.now) j m }
 {
-    let end = pool::record_length(ids);
-    let mut i = 0usize;
-    while i < end {
-        if prepares_it(words, ids[i], count, senders, j, m) {
-            return true;
-        }
-        i += 1;
-    }
-    false
+    ids[..pool::record_length(ids)]
+        .iter()
+        .any(|s| prepares_it(words, *s, count, senders, j, m))
 }
 
 // Puts the prepare s behind the n that are listed.
@@ -112,18 +97,12 @@ pub fn list(
     ensures { PreparedList (senders_of senders.now count) (record_in words.now ids.now) keys.new rows.new result }
 {
     tables::clear(rows, INDEX);
-    let end = pool::record_length(ids);
-    let mut n = 0usize;
-    let mut i = 0usize;
-    while i < end {
-        let s = ids[i];
-        if !is_prepare(words, s, count, senders) {
-            i += 1;
-            continue;
+    let mut n = 0;
+    for s in &ids[..pool::record_length(ids)] {
+        if is_prepare(words, *s, count, senders) {
+            add(words, *s, n, keys, rows);
+            n += 1;
         }
-        add(words, s, n, keys, rows);
-        n += 1;
-        i += 1;
     }
     n
 }
@@ -133,15 +112,14 @@ pub fn is_listed(keys: &[u64; KEYS], rows: &[u16; ROWS], n: usize, j: usize, m: 
     requires { (j < 256) × Linked keys.now rows.now n }
     ensures { result ≡ listed keys.now n j m }
 {
-    let mut x = tables::newest(rows, INDEX, j);
-    while x > 0 {
-        let c = x - 1;
-        if tables::key(keys, PAYLOADS, c) == m {
-            return true;
-        }
-        x = tables::older(rows, INDEX, c);
-    }
-    false
+    let newest = tables::newest(rows, INDEX, j);
+    tables::find(
+        rows,
+        INDEX,
+        newest,
+        |row| tables::key(keys, PAYLOADS, row) == m,
+    )
+    .is_some()
 }
 
 // Whether two of the n rows are of notice j and have different payloads.
@@ -149,18 +127,15 @@ pub fn is_twofold(keys: &[u64; KEYS], rows: &[u16; ROWS], n: usize, j: usize) ->
     requires { (j < 256) × Linked keys.now rows.now n }
     ensures { result ≡ twofold keys.now n j }
 {
-    let newest = tables::newest(rows, INDEX, j);
-    if newest == 0 {
+    let Some(newest) = tables::newest(rows, INDEX, j) else {
         return false;
-    }
-    let m = tables::key(keys, PAYLOADS, newest - 1);
-    let mut x = newest;
-    while x > 0 {
-        let c = x - 1;
-        if tables::key(keys, PAYLOADS, c) != m {
-            return true;
-        }
-        x = tables::older(rows, INDEX, c);
-    }
-    false
+    };
+    let m = tables::key(keys, PAYLOADS, newest);
+    tables::find(
+        rows,
+        INDEX,
+        Some(newest),
+        |row| tables::key(keys, PAYLOADS, row) != m,
+    )
+    .is_some()
 }

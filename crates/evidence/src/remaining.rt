@@ -13,20 +13,14 @@ fn top_of(list: &[u64; View::LIMIT], n: usize, init: u64) -> u64
     requires { n ≤ 16 }
     ensures { view_of result ≡ top (ring_of_word init) (views_of list.now n) }
 {
-    if n == 0 {
-        return init;
-    }
-    views::list_at(list, n - 1)
+    if n == 0 { init } else { list[n - 1] }
 }
 
 // Whether u, at place i, needs reports: it lies below the top t, and the set of the skipped places lacks i.
 fn is_needed(u: u64, t: u64, skipped: u32, i: usize) -> bool
     ensures { result ≡ (below 16 (view_of u) (view_of t) && not (bit skipped i)) }
 {
-    if !views::below_view(u, t) {
-        return false;
-    }
-    !statements::has(skipped as u64, i)
+    views::below_view(u, t) && !statements::has(u64::from(skipped), i)
 }
 
 // Lists those among its first n views: how many. Every view is written, and stays only if it needs reports, so that the loop has no branch.
@@ -40,16 +34,11 @@ pub fn needed(
     requires { n ≤ 16 }
     ensures { RemainingOf (ring_of_word init) greatest.now n skipped needed.new result }
 {
-    views::list_room(needed);
     let t = top_of(greatest, n, init);
-    let mut count = 0usize;
-    let mut i = 0usize;
-    while i < n {
-        let u = views::list_at(greatest, i);
-        let hit = is_needed(u, t, skipped, i);
-        needed[count] = u;
-        count += hit as usize;
-        i += 1;
+    let mut count = 0;
+    for (i, u) in greatest[..n].iter().enumerate() {
+        needed[count] = *u;
+        count += usize::from(is_needed(*u, t, skipped, i));
     }
     count
 }

@@ -1,10 +1,10 @@
 // Who signed: the members behind a certificate and behind a store quorum, each at the least sealed top that has one.
 ghost use Rattle.std.specs.Prelude.{◌≡◌, ◌≤◌, ◌<◌};
-ghost use Rattle.std.proofs.Math.Option.{some};
 ghost use Rattle.protocol.specs.Statement.{acks};
 ghost use Rattle.protocol.specs.Evidence.{signed_by_quorum};
 ghost use Rattle.protocol.specs.Signers as protocol;
 ghost use Rattle.views.specs.View.{view_of, ring_of_word};
+ghost use Rattle.statements.specs.Kind.{kind_number};
 ghost use Rattle.pool.specs.Pool.{record_in};
 ghost use Rattle.evidence.specs.Evidence.{ring_is};
 ghost use Rattle.evidence.specs.Notices.{senders_of};
@@ -13,32 +13,18 @@ ghost use Rattle.evidence.specs.Casts.{Late, cast_at, top_is};
 
 use crate::{Ring, certificates, prepares};
 use pool::{POOL_WORDS, RECORD};
-use statements::NOTICES;
+use statements::{Kind, NOTICES};
 use views::View;
 use votes::{GROUPS, Question};
 
-const ACK: u8 = 7;
-
-const STORE: u8 = 8;
-
-// The word of a sealed top, or that there is none.
-#[derive(Clone, Copy)]
-enum Top {
-    At(u64),
-    Nothing,
-}
-
 // The top that is written first: the one that was found, or that of the word w.
-fn lesser(t: Top, w: u64) -> Top
-    ensures { top_is result ≡ some (protocol.lesser (view_of w) (top_is t)) }
+fn lesser(found: Option<u64>, w: u64) -> u64
+    ensures { view_of result ≡ protocol.lesser (view_of w) (top_is found) }
 {
-    let Top::At(u) = t else {
-        return Top::At(w);
-    };
-    if views::written_before(u, w) {
-        return Top::At(u);
+    match found {
+        Some(u) if views::written_before(u, w) => u,
+        _ => w,
     }
-    Top::At(w)
 }
 
 // The least sealed top, as written, of which a quorum signed votes of this kind, acks or stores, of notice j for m. The n groups have all that quorums of sealed tops acked and stored.
@@ -48,25 +34,19 @@ fn least_top(
     init: u64,
     groups: &[u64; GROUPS],
     n: usize,
-    kind: u8,
+    kind: Kind,
     j: u8,
     m: u64,
-) -> Top
-    requires { BackedIn words.now ids.now init groups.now n × Late kind }
-    ensures { top_is result ≡ protocol.least_top (ring_of_word init) (record_in words.now ids.now) (λ t. signed_by_quorum 16 (record_in words.now ids.now) t (cast_at kind t j m)) }
+) -> Option<u64>
+    requires { BackedIn words.now ids.now init groups.now n × Late (kind_number kind) }
+    ensures { top_is result ≡ protocol.least_top (ring_of_word init) (record_in words.now ids.now) (λ t. signed_by_quorum 16 (record_in words.now ids.now) t (cast_at (kind_number kind) t j m)) }
 {
-    let mut least = Top::Nothing;
-    let mut g = 0usize;
-    while g < n {
-        let f = views::place_of(groups[g]);
-        let s = ids[f];
-        if !certificates::casts(words, s, kind as u64, j as usize, m) {
-            g += 1;
-            continue;
+    let mut least = None;
+    for x in &groups[..n] {
+        let s = ids[views::place_of(*x)];
+        if certificates::casts(words, s, kind, usize::from(j), m) {
+            least = Some(lesser(least, pool::at(words, s)));
         }
-        let next = lesser(least, pool::at(words, s));
-        least = next;
-        g += 1;
     }
     least
 }
@@ -78,19 +58,18 @@ fn signers(
     init: u64,
     groups: &[u64; GROUPS],
     n: usize,
-    kind: u8,
+    kind: Kind,
     j: u8,
     m: u64,
 ) -> u32
-    requires { BackedIn words.now ids.now init groups.now n × Late kind }
-    ensures { result ≡ protocol.set_behind (ring_of_word init) (record_in words.now ids.now) (λ t. cast_at kind t j m) }
+    requires { BackedIn words.now ids.now init groups.now n × Late (kind_number kind) }
+    ensures { result ≡ protocol.set_behind (ring_of_word init) (record_in words.now ids.now) (λ t. cast_at (kind_number kind) t j m) }
 {
-    let top = least_top(words, ids, init, groups, n, kind, j, m);
-    let Top::At(at) = top else {
+    let Some(at) = least_top(words, ids, init, groups, n, kind, j, m) else {
         return 0;
     };
     let q = Question {
-        kind,
+        kind: kind as u8,
         notice: j,
         at,
         what: m,
@@ -112,7 +91,7 @@ pub fn acked_by(
     requires { BackedIn words.now ids.now init groups.now n }
     ensures { result ≡ protocol.set_behind (ring_of_word init) (record_in words.now ids.now) (λ t. acks t j m) }
 {
-    signers(words, ids, init, groups, n, ACK, j, m)
+    signers(words, ids, init, groups, n, Kind::Ack, j, m)
 }
 
 // Who stored it, at the least sealed top with a quorum of such stores.
@@ -128,7 +107,7 @@ pub fn stored_by(
     requires { BackedIn words.now ids.now init groups.now n }
     ensures { result ≡ protocol.store_set (ring_of_word init) (record_in words.now ids.now) j m }
 {
-    signers(words, ids, init, groups, n, STORE, j, m)
+    signers(words, ids, init, groups, n, Kind::Store, j, m)
 }
 
 // Who acked it, if that makes a certificate: the sender of the notice has to have prepared m.
@@ -145,10 +124,10 @@ pub fn ack_set(
     requires { BackedIn words.now ids.now ring.init groups.now n }
     ensures { result ≡ protocol.ack_set (ring_is ring) (senders_of senders.now ring.notices) (record_in words.now ids.now) j m }
 {
-    if j as usize >= statements::few(ring.notices) {
-        return 0;
-    }
-    if !prepares::is_prepared(words, ids, ring.notices, senders, j as usize, m) {
+    let notice = usize::from(j);
+    if notice >= ring.notices.min(NOTICES)
+        || !prepares::is_prepared(words, ids, ring.notices, senders, notice, m)
+    {
         return 0;
     }
     acked_by(words, ids, ring.init, groups, n, j, m)

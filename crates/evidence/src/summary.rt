@@ -15,33 +15,19 @@ use crate::certificates::Certified;
 use crate::{Evidence, Ring, certificates};
 use pool::{POOL_WORDS, RECORD};
 use ranking::{Ranked, Summit};
-use sealing::MEMO;
+use sealing::{MEMO, Verdict};
 use statements::NOTICES;
 use tables::{KEYS, ROWS};
 use views::View;
 use votes::GROUPS;
-
-// Whether one of the three is true.
-fn one_of(a: bool, b: bool, c: bool) -> bool
-    ensures { result ≡ (a || b || c) }
-{
-    if a {
-        return true;
-    }
-    if b {
-        return true;
-    }
-    c
-}
 
 // The evidence, put together from its parts.
 fn tie(wish: u64, r: Ranked, h: Summit, c: Certified, stored: u64, backed: usize) -> Evidence
     requires { backed ≤ 512 }
     ensures { ((init : ℕ) (senders : List ℕ) (X : List Stmt) (C G P : List ℕ) → length senders ≤ 64 → view_of wish ≡ wished (ring_of_word init) X → CandidatesOf init X C r → HistoriesOf init X G h → CertificatesOf init senders X P c → StoredOf init X c.some P stored → EvidenceOf (ring_of_word init) senders X C G P result) × (result.backed ≡ backed) }
 {
-    let conflict = one_of(r.conflict, h.conflict, c.conflict);
     Evidence {
-        conflict,
+        conflict: r.conflict || h.conflict || c.conflict,
         many: r.many,
         backed: backed as u16,
         wished: wish,
@@ -72,7 +58,7 @@ fn of_votes(
     let mut rows = [0u16; ROWS];
     let found = votes::gather(words, ids, init, keys, &mut rows, groups);
     let counts = votes::tabulate(words, ids, init, found, groups, keys, &mut rows);
-    let mut memo = [0u8; MEMO];
+    let mut memo = [Verdict::Unknown; MEMO];
     sealing::verdicts(words, ids, init, keys, &rows, &mut memo, counts);
     let r = ranking::rank(keys, &memo, counts.choices, init, candidates);
     let h = ranking::climb(words, &rows, &memo, counts.agreements, init, greatest);
@@ -94,14 +80,6 @@ fn of_votes(
     tie(found.wished, r, h, c, stored, n)
 }
 
-// Puts the initial view at the front of a list.
-fn start(list: &mut [u64; View::LIMIT], init: u64)
-    ensures { (length list.old ≡ 16) × (list.new ≡ set list.old 0 init) }
-{
-    views::list_room(list);
-    list[0] = init;
-}
-
 // The evidence of a record without votes: the initial view is its only candidate and alone its greatest history, and nothing has a certificate.
 fn unvoted(
     wish: u64,
@@ -111,8 +89,8 @@ fn unvoted(
 ) -> Evidence
     ensures { ((senders : List ℕ) (X : List Stmt) (P : List ℕ) → length senders ≤ 64 → any is_vote X ≡ false → view_of wish ≡ wished (ring_of_word init) X → EvidenceOf (ring_of_word init) senders X candidates.new greatest.new P result) × (result.backed ≡ 0) }
 {
-    start(candidates, init);
-    start(greatest, init);
+    candidates[0] = init;
+    greatest[0] = init;
     Evidence {
         conflict: false,
         many: false,

@@ -1,6 +1,6 @@
 -- A run whose calls are the engine's is a run of the protocol, so the promises hold of what the engine answers.
 -- Assumes nothing.
-use Rattle.std.specs.Prelude.{if◌then◌else◌}
+use Rattle.std.specs.Prelude.{if◌then◌else◌, Result, Ok, Err}
 use mathlib.Core.Path.{◌≡◌, refl, sym, ap, ap₂, subst, ◌∙◌}
 use mathlib.Core.Bool.{Bool, true, false, not, ◌||◌}
 use mathlib.Core.List.{List, [], ◌∷◌, ◌++◌}
@@ -24,10 +24,10 @@ use Rattle.protocol.proofs.Carried.{carried, carried-sets, carried-no-conflict}
 use Rattle.pool.specs.Pool.{stmt_at, record_up_to as record_at, record_len, record_in, pool_of, AllIn, Grows}
 use Rattle.pool.specs.Changes.{Emptied}
 use Rattle.engine.specs.declared.Controller.{Controller}
-use Rattle.engine.specs.declared.Outcome.{Outcome}
 use Rattle.engine.specs.declared.Answer as held
-use Rattle.engine.specs.declared.Answer.TheVariants.{Taken, Signed, Entered, Delivered, Left, Quiet, Refused}
-use Rattle.engine.specs.Meaning.{controller_is, answer_is}
+use Rattle.engine.specs.declared.Refusal.{Refusal}
+use Rattle.engine.specs.declared.Answer.TheVariants.{Taken, Signed, Entered, Delivered, Left, Quiet}
+use Rattle.engine.specs.Meaning.{controller_is, Came, answer_is}
 use Rattle.engine.specs.Promise.{PoolAfter, NumbersAfter, Meets, change_of, signed_of, started_of}
 use Rattle.pool.proofs.Records.{pool-length}
 use Rattle.guarantee.specs.Calls.{Engine, EngineRun, EngineRuns, EngineAnswers, engine_calls}
@@ -60,8 +60,8 @@ number-within s (x ∷ P) = go (same_stmt s x) (any (same_stmt s) P) refl (numbe
     go false false e l = let q : length (pooled s P) ≡ length (P ++ (s ∷ [])) = ap (λ b. length (if b then P else P ++ (s ∷ []))) e in omega arith
 
 -- what a turn answered means the same over a pool that has grown
-module _ {W R left R' W' : List ℕ} {c : Controller} {o : controller.Outcome} {r : Outcome} (m : Meets W R c o (signed_of o.answer) r left R') (g : Grows left W') where
-  signed_same : (i : ℕ) → r.answer ≡ Signed i → answer_is W' (Signed i) ≡ answer_is left (Signed i)
+module _ {W R left R' W' : List ℕ} {c : Controller} {o : controller.Outcome} {r : Came} (m : Meets W R c o (signed_of o.answer) r left R') (g : Grows left W') where
+  signed_same : (i : ℕ) → r.answer ≡ Ok (Signed i) → answer_is W' (Ok (Signed i)) ≡ answer_is left (Ok (Signed i))
   unfolding answer_is
   signed_same i e =
       let s : o.answer ≡ controller.signed (stmt_at left i) = sym m.answer ∙ ap (answer_is left) e in
@@ -70,7 +70,7 @@ module _ {W R left R' W' : List ℕ} {c : Controller} {o : controller.Outcome} {
       let q : length (pool_of left) ≡ length (pooled (stmt_at left i) (pool_of W)) = ap length p in
       ap controller.signed (g.same i (omega (arith, pool-length left, number-within (stmt_at left i) (pool_of W))))
     where
-      at-number : {i j : ℕ} → Signed i ≡ Signed j → i ≡ j
+      at-number : {i j : ℕ} → ◌≡◌ {A = Result held.Answer Refusal} (Ok (Signed i)) (Ok (Signed j)) → i ≡ j
       at-number e = cc
 
       grown-to : {s : Stmt} → o.answer ≡ controller.signed s → pool_of left ≡ pooled s (pool_of W)
@@ -80,14 +80,14 @@ module _ {W R left R' W' : List ℕ} {c : Controller} {o : controller.Outcome} {
   unfolding answer_is
   same_answer = go r.answer refl ∙ m.answer
     where
-      go : (a : held.Answer) → r.answer ≡ a → answer_is W' r.answer ≡ answer_is left r.answer
-      go Taken e = rw e
-      go (Signed i) e = rw e (signed_same i e)
-      go (Entered v) e = rw e
-      go (Delivered i x who) e = rw e
-      go Left e = rw e
-      go Quiet e = rw e
-      go (Refused q) e = rw e
+      go : (a : Result held.Answer Refusal) → r.answer ≡ a → answer_is W' r.answer ≡ answer_is left r.answer
+      go (Ok Taken) e = rw e
+      go (Ok (Signed i)) e = rw e (signed_same i e)
+      go (Ok (Entered v)) e = rw e
+      go (Ok (Delivered i x who)) e = rw e
+      go (Ok Left) e = rw e
+      go (Ok Quiet) e = rw e
+      go (Err q) e = rw e
 
 -- ---- one controller
 

@@ -1,5 +1,6 @@
 -- The calls of an engine from states that are written out: that they meet their contract then computes.
 -- Assumes nothing.
+use Rattle.std.specs.Prelude.{Result, Ok, Err}
 use mathlib.Core.Path.{◌≡◌, refl, sym, ap, ap₂, subst, ◌∙◌}
 use mathlib.Core.Bool.{Bool, true, false, ◌&&◌, ◌||◌, or-true}
 use mathlib.Core.List.{List, [], ◌∷◌, ◌++◌, append-nil, map}
@@ -17,13 +18,13 @@ use Rattle.protocol.specs.Run.{Call, setup_call, outcome, Event, call, signing, 
 use Rattle.protocol.proofs.Says.{says-self, says-and, says-eqb, says-leb}
 use Rattle.protocol.proofs.Found.{none≢some, some-injective}
 use Rattle.engine.specs.declared.Controller.{Controller}
-use Rattle.engine.specs.declared.Outcome.{Outcome}
 use Rattle.engine.specs.declared.Answer.{Answer}
-use Rattle.engine.specs.declared.Answer.TheVariants.{Taken, Signed, Entered, Delivered, Left, Quiet, Refused}
+use Rattle.engine.specs.declared.Refusal.{Refusal}
+use Rattle.engine.specs.declared.Answer.TheVariants.{Taken, Signed, Entered, Delivered, Left, Quiet}
 use Rattle.views.specs.Held.{view_is}
 use Rattle.pool.specs.Changes.{PushedTo, Emptied}
 use Rattle.pool.specs.Pool.{pool_of, Grows}
-use Rattle.engine.specs.Meaning.{controller_is, refusal_is, answer_is}
+use Rattle.engine.specs.Meaning.{controller_is, Came, refusal_is, answer_is}
 use Rattle.engine.specs.Promise.{Change, unchanged, emptied, grown, PoolAfter, NumbersAfter, IsRefused, Meets, change_of}
 use Rattle.guarantee.specs.Calls.{Engine, EngineCalls, EngineRun}
 use Rattle.guarantee.proofs.Memory.{at, memory, fits, numbers, within, short, stmt-at, pool-is, memory-more, grows, pushed, empty-again, few, record_is, all_in}
@@ -33,7 +34,7 @@ use Rattle.guarantee.proofs.Memory.{at, memory, fits, numbers, within, short, st
 pub record State : Type 0 where
   pub left : List Stmt
   pub more : List Stmt
-  pub answer : Answer
+  pub answer : Result Answer Refusal
   pub meaning : controller.Controller
   pub controller : Controller
   pub means : controller_is controller ≡ meaning
@@ -47,24 +48,24 @@ abbrev pub engine_in : State → Engine
 engine_in s = record { pool = memory (pool_in s); ids = numbers s.ids; last = record { answer = s.answer; controller = s.controller } }
 
 -- What an answer means over the pool P.
-abbrev answer_in : List Stmt → Answer → controller.Answer
-answer_in P Taken = controller.taken
-answer_in P (Signed n) = controller.signed (at P n)
-answer_in P (Entered v) = controller.entered (view_is v)
-answer_in P (Delivered i m who) = controller.delivered i m who
-answer_in P Left = controller.left
-answer_in P Quiet = controller.quiet
-answer_in P (Refused r) = controller.refused (refusal_is r)
+abbrev answer_in : List Stmt → Result Answer Refusal → controller.Answer
+answer_in P (Ok Taken) = controller.taken
+answer_in P (Ok (Signed n)) = controller.signed (at P n)
+answer_in P (Ok (Entered v)) = controller.entered (view_is v)
+answer_in P (Ok (Delivered i m who)) = controller.delivered i m who
+answer_in P (Ok Left) = controller.left
+answer_in P (Ok Quiet) = controller.quiet
+answer_in P (Err r) = controller.refused (refusal_is r)
 
 -- A call that is not refused, over the pool P, which is P' after it, answers a signed statement by its number in P.
-abbrev numbered : List Stmt → List Stmt → Answer → Bool
-numbered P P' Taken = true
-numbered P P' (Signed n) = ltb n (length P') && eqb n (number_of (at P' n) P)
-numbered P P' (Entered v) = true
-numbered P P' (Delivered i m who) = true
-numbered P P' Left = true
-numbered P P' Quiet = true
-numbered P P' (Refused r) = false
+abbrev numbered : List Stmt → List Stmt → Result Answer Refusal → Bool
+numbered P P' (Ok Taken) = true
+numbered P P' (Ok (Signed n)) = ltb n (length P') && eqb n (number_of (at P' n) P)
+numbered P P' (Ok (Entered v)) = true
+numbered P P' (Ok (Delivered i m who)) = true
+numbered P P' (Ok Left) = true
+numbered P P' (Ok Quiet) = true
+numbered P P' (Err r) = false
 
 -- What a change of the record makes of its numbers and of the pool P.
 
@@ -89,7 +90,7 @@ unfoldable pub allowed : List Stmt → List ℕ → Bool
 allowed P l = fits P && within P l
 
 -- What a call comes to, and whether its answer's number and what it leaves are right.
-pub record Result : Type 0 where
+pub record Reckoning : Type 0 where
   pub outcome : controller.Outcome
   pub ids : List ℕ
   pub left : List Stmt
@@ -97,7 +98,7 @@ pub record Result : Type 0 where
 
 -- By the protocol, for a call on the state s that is to give t; and by t.
 
-unfoldable pub computed : State → Call → State → Result
+unfoldable pub computed : State → Call → State → Reckoning
 computed s k t =
     let o = outcome (has_room (pool_in s)) s.meaning (map (at (pool_in s)) s.ids) k in
     record {
@@ -107,7 +108,7 @@ computed s k t =
       right = (numbered (pool_in s) t.left t.answer && begins (change_of k o.answer) s.ids) && allowed t.left t.ids;
     }
 
-unfoldable pub claimed : State → Result
+unfoldable pub claimed : State → Reckoning
 claimed t = record {
   outcome = record { answer = answer_in t.left t.answer; controller = t.meaning; statements = map (at t.left) t.ids };
   ids = t.ids;
@@ -121,40 +122,40 @@ Acts s k t = computed s k t ≡ claimed t
 
 -- Nothing was called: the pool alone may have grown.
 abbrev pub Waits : State → State → Type 0
-Waits s t = ◌≡◌ {A = Outcome × List ℕ × List Stmt} ((engine_in t).last, t.ids, t.left) ((engine_in s).last, s.ids, pool_in s)
+Waits s t = ◌≡◌ {A = Came × List ℕ × List Stmt} ((engine_in t).last, t.ids, t.left) ((engine_in s).last, s.ids, pool_in s)
 
 -- ---- a call
 
 module _ (P P' : List Stmt) (f : T (fits P)) (f' : T (fits P')) where
-  answer-in : (a : Answer) → T (numbered P P' a) → answer_is (memory P') a ≡ answer_in P' a
+  answer-in : (a : Result Answer Refusal) → T (numbered P P' a) → answer_is (memory P') a ≡ answer_in P' a
   unfolding answer_is
-  answer-in Taken t = refl
-  answer-in (Signed n) t = ap controller.signed (stmt-at P' f' n ((says-and (says-leb {m = suc n} {n = length P'}) (says-self (eqb n (number_of (at P' n) P)))).sound t).0)
-  answer-in (Entered v) t = refl
-  answer-in (Delivered i m who) t = refl
-  answer-in Left t = refl
-  answer-in Quiet t = refl
-  answer-in (Refused _) t = elim t [ ]
+  answer-in (Ok Taken) t = refl
+  answer-in (Ok (Signed n)) t = ap controller.signed (stmt-at P' f' n ((says-and (says-leb {m = suc n} {n = length P'}) (says-self (eqb n (number_of (at P' n) P)))).sound t).0)
+  answer-in (Ok (Entered v)) t = refl
+  answer-in (Ok (Delivered i m who)) t = refl
+  answer-in (Ok Left) t = refl
+  answer-in (Ok Quiet) t = refl
+  answer-in (Err _) t = elim t [ ]
 
-  number_in : (a : Answer) → T (numbered P P' a) → (s : Stmt) → answer_in P' a ≡ controller.signed s → a ≡ Signed (number_of s (pool_of (memory P)))
-  number_in (Signed n) t s e =
+  number_in : (a : Result Answer Refusal) → T (numbered P P' a) → (s : Stmt) → answer_in P' a ≡ controller.signed s → a ≡ Ok (Signed (number_of s (pool_of (memory P))))
+  number_in (Ok (Signed n)) t s e =
       let q : at P' n ≡ s = cc in
-      ap Signed (((says-and (says-self (ltb n (length P'))) (says-eqb {m = n} {n = number_of (at P' n) P})).sound t).1 ∙ ap₂ number_of q (sym (pool-is P f)))
-  number_in Taken t s e = absurd (let z : ◌≡◌ {A = ℕ} 0 1 = cc in omega arith)
-  number_in (Entered v) t s e = absurd (let z : ◌≡◌ {A = ℕ} 0 1 = cc in omega arith)
-  number_in (Delivered i m who) t s e = absurd (let z : ◌≡◌ {A = ℕ} 0 1 = cc in omega arith)
-  number_in Left t s e = absurd (let z : ◌≡◌ {A = ℕ} 0 1 = cc in omega arith)
-  number_in Quiet t s e = absurd (let z : ◌≡◌ {A = ℕ} 0 1 = cc in omega arith)
-  number_in (Refused _) t s e = elim t [ ]
+      ap (λ i. Ok (Signed i)) (((says-and (says-self (ltb n (length P'))) (says-eqb {m = n} {n = number_of (at P' n) P})).sound t).1 ∙ ap₂ number_of q (sym (pool-is P f)))
+  number_in (Ok Taken) t s e = absurd (let z : ◌≡◌ {A = ℕ} 0 1 = cc in omega arith)
+  number_in (Ok (Entered v)) t s e = absurd (let z : ◌≡◌ {A = ℕ} 0 1 = cc in omega arith)
+  number_in (Ok (Delivered i m who)) t s e = absurd (let z : ◌≡◌ {A = ℕ} 0 1 = cc in omega arith)
+  number_in (Ok Left) t s e = absurd (let z : ◌≡◌ {A = ℕ} 0 1 = cc in omega arith)
+  number_in (Ok Quiet) t s e = absurd (let z : ◌≡◌ {A = ℕ} 0 1 = cc in omega arith)
+  number_in (Err _) t s e = elim t [ ]
 
-  not-refused : (a : Answer) → T (numbered P P' a) → IsRefused (answer_in P' a) → ⊥
-  not-refused (Refused r) t i = t
-  not-refused Taken t i = elim i [ ]
-  not-refused (Signed _) t i = elim i [ ]
-  not-refused (Entered _) t i = elim i [ ]
-  not-refused (Delivered _ _ _) t i = elim i [ ]
-  not-refused Left t i = elim i [ ]
-  not-refused Quiet t i = elim i [ ]
+  not-refused : (a : Result Answer Refusal) → T (numbered P P' a) → IsRefused (answer_in P' a) → ⊥
+  not-refused (Err r) t i = t
+  not-refused (Ok Taken) t i = elim i [ ]
+  not-refused (Ok (Signed _)) t i = elim i [ ]
+  not-refused (Ok (Entered _)) t i = elim i [ ]
+  not-refused (Ok (Delivered _ _ _)) t i = elim i [ ]
+  not-refused (Ok Left) t i = elim i [ ]
+  not-refused (Ok Quiet) t i = elim i [ ]
 
   pool-after : (p : Change) → P' ≡ pool_after P p → PoolAfter (memory P) p (memory P')
   pool-after unchanged e = ap memory e

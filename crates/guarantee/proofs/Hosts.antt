@@ -1,5 +1,6 @@
 -- A host's calls are the engine's, so the promises hold of the numbers that the host gets.
 -- Assumes nothing.
+use Rattle.std.specs.Prelude.{Result, Ok, Err}
 use mathlib.Core.Path.{◌≡◌, refl, sym, ap, ap₂, subst, ◌∙◌}
 use mathlib.Core.List.{List, [], ◌∷◌}
 use mathlib.Core.Option.{some}
@@ -19,7 +20,8 @@ use Rattle.protocol.proofs.Carried.{carried, carried-sets, carried-no-conflict}
 use Rattle.views.specs.View.{view_of}
 use Rattle.views.specs.Held.{view_is}
 use Rattle.engine.specs.declared.Answer.{Answer}
-use Rattle.engine.specs.declared.Answer.TheVariants.{Taken, Signed, Entered, Delivered, Left, Quiet, Refused}
+use Rattle.engine.specs.declared.Refusal.{Refusal}
+use Rattle.engine.specs.declared.Answer.TheVariants.{Taken, Signed, Entered, Delivered, Left, Quiet}
 use Rattle.engine.specs.Meaning.{answer_is, refusal_is}
 use Rattle.pool.specs.Pool.{record_in}
 use Rattle.host.specs.Memory.{controller_at}
@@ -45,15 +47,15 @@ view-of-word v t = go (fits t).joined (fits t).left
         ap₂ (λ j l. record { joined = j; left = l }) x y
 
 -- (a view that is entered is one of the ring)
-answer-said : (W : List ℕ) (a : Answer) → ((v : View) → answer_is W a ≡ controller.entered v → T (is_view controllers v)) → said W (answer_number a) (value_number a) (notice_number a) (set_number a) ≡ answer_is W a
+answer-said : (W : List ℕ) (a : Result Answer Refusal) → ((v : View) → answer_is W a ≡ controller.entered v → T (is_view controllers v)) → said W (answer_number a) (value_number a) (notice_number a) (set_number a) ≡ answer_is W a
 unfolding said answer_number value_number answer_is
-answer-said W Taken f = refl
-answer-said W (Signed n) f = refl
-answer-said W (Entered v) f = ap controller.entered (view-of-word (view_is v) (f (view_is v) refl))
-answer-said W (Delivered i m who) f = refl
-answer-said W Left f = refl
-answer-said W Quiet f = refl
-answer-said W (Refused q) f = ap controller.refused (refusal-at (refusal_is q))
+answer-said W (Ok Taken) f = refl
+answer-said W (Ok (Signed n)) f = refl
+answer-said W (Ok (Entered v)) f = ap controller.entered (view-of-word (view_is v) (f (view_is v) refl))
+answer-said W (Ok (Delivered i m who)) f = refl
+answer-said W (Ok Left) f = refl
+answer-said W (Ok Quiet) f = refl
+answer-said W (Err q) f = ap controller.refused (refusal-at (refusal_is q))
 
 -- ---- one controller
 
@@ -62,11 +64,11 @@ same-call p q = cc
 
 module _ {run : Run} (is : IsRun run) {k : ℕ} (ok : T (run.follows k)) {h : ℕ → Host} (host : HostRun run k h) where
   -- what the engine answered last, before event n
-  pub told_by : (n : ℕ) → Next is k n → Answer → Answer
+  pub told_by : (n : ℕ) → Next is k n → Result Answer Refusal → Result Answer Refusal
   told_by n (acts c e _) a = (host.called n c e).called.told
   told_by n (waits _ _) a = a
 
-  pub told : ℕ → Answer
+  pub told : ℕ → Result Answer Refusal
   told zero = host.started.called.told
   told (suc n) = told_by n (next is k ok n) (told n)
 
@@ -76,7 +78,7 @@ module _ {run : Run} (is : IsRun run) {k : ℕ} (ok : T (run.follows k)) {h : �
   pub engine-run : EngineRun run k engine_at
   unfolding told_by told
   engine-run = record {
-    fresh = record { pool = host.fresh.pool; ids = host.fresh.ids; last = record { answer = Quiet; controller = controller_at host.fresh.fields } };
+    fresh = record { pool = host.fresh.pool; ids = host.fresh.ids; last = record { answer = Ok Quiet; controller = controller_at host.fresh.fields } };
     unset = host.unset.controller;
     started = let s = host.started in record { left = s.left; called = s.called.called; grows = s.grows };
     room = host.room;

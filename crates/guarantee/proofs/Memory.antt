@@ -24,7 +24,8 @@ use Rattle.statements.specs.Meaning.{Each, first_views, stmt_of, FitsView, FitsT
 use Rattle.statements.proofs.FieldLaws.{views-length}
 use Rattle.statements.proofs.Fits.{keeps-fits}
 use Rattle.pool.specs.Pool.{stmt_at, pool_words, pool_len, pool_of, record_up_to, record_len, record_in, AllIn, Grows}
-use Rattle.pool.specs.Steps.{head_word_of_held, Put, found_of}
+use Rattle.views.specs.Options.{option_of}
+use Rattle.pool.specs.Steps.{head_word_of_held, Put}
 use Rattle.pool.specs.Changes.{pooled_in, PushedTo, Emptied}
 use Rattle.pool.specs.Changes as memories
 use Rattle.pool.proofs.Writes.{stmts, put_is}
@@ -119,7 +120,7 @@ module _ (W : List ℕ) (st : Statement) (long : length W ≡ pool_words) (room 
   pool-more t = elim (in-pool W (stmt_of st [])) [
     | there i q b h m y ↦ absurd (subst (λ b. T (not b)) y t)
     | absent q y ↦
-        (let a = append-new W st [] (pool_len W) put.0 long (ap found_of (sym q)) refl room put.1 in
+        (let a = append-new W st [] (pool_len W) put.0 long (ap option_of (sym q)) refl room put.1 in
         ap pool_of (sym a.is) ∙ grown-pool W _ st [] (omega (arith, f.views.0, count)) (a.new q room) room)
   ]
 

@@ -1,6 +1,7 @@
 -- The premises can be met: a run of two rule-followers, each with a pool of its own, in which the calls are the engine's.
 -- Controller 0 prepares 7, both ack and store it, and both deliver it. Their acks have different numbers in the two pools.
 -- Assumes nothing.
+use Rattle.std.specs.Prelude.{Result, Ok}
 use mathlib.Core.Path.{◌≡◌, refl, sym, ap, subst, ◌∙◌}
 use mathlib.Core.Bool.{Bool, true, false, not, ◌&&◌}
 use mathlib.Core.List.{List, [], ◌∷◌}
@@ -38,6 +39,7 @@ use Rattle.pool.specs.Pool.{stmt_at}
 use Rattle.windows.specs.Windows.{windows_in}
 use Rattle.engine.specs.declared.Controller.{Controller}
 use Rattle.engine.specs.declared.Answer.{Answer}
+use Rattle.engine.specs.declared.Refusal.{Refusal}
 use Rattle.engine.specs.declared.Answer.TheVariants.{Taken, Signed, Delivered, Quiet}
 use Rattle.engine.specs.Meaning.{controller_is, answer_is}
 use Rattle.engine.specs.Promise.{change_of}
@@ -196,7 +198,7 @@ unfolding views_is list_of
 fresh-means = means-so false 0 nobody 0 false false false
 
 abbrev fresh : State
-fresh = record { left = []; more = []; answer = Quiet; controller = controller_with false 0 nobody 0 false false false; meaning = controller.not_set_up; means = fresh-means; ids = [] }
+fresh = record { left = []; more = []; answer = Ok Quiet; controller = controller_with false 0 nobody 0 false false false; meaning = controller.not_set_up; means = fresh-means; ids = [] }
 
 -- Controller k with whether 7 is to be sent, is bound and is delivered; then the pool, what the host put into it, the answer, and the record's numbers.
 
@@ -204,7 +206,7 @@ pub state-means : (k : ℕ) (asked binds done : Bool) → controller_is (control
 unfolding views_is list_of
 state-means k asked binds done = means-so true k both_joined 1 asked binds done
 
-abbrev state : ℕ → Bool → Bool → Bool → List Stmt → List Stmt → Answer → List ℕ → State
+abbrev state : ℕ → Bool → Bool → Bool → List Stmt → List Stmt → Result Answer Refusal → List ℕ → State
 state k asked binds done left more answer ids = record {
   left = left;
   more = more;
@@ -218,60 +220,60 @@ state k asked binds done left more answer ids = record {
 -- Controller 0 after the setup, and after each event on it.
 
 abbrev zero0 : State
-zero0 = state 0 false false false [] [] Taken []
+zero0 = state 0 false false false [] [] (Ok Taken) []
 
 abbrev zero1 : State
-zero1 = state 0 true false false [] [] Taken []
+zero1 = state 0 true false false [] [] (Ok Taken) []
 
 abbrev zero2 : State
-zero2 = state 0 true false false (prepared ∷ []) [] (Signed 0) (0 ∷ [])
+zero2 = state 0 true false false (prepared ∷ []) [] (Ok (Signed 0)) (0 ∷ [])
 
 abbrev zero4 : State
-zero4 = state 0 true true false (prepared ∷ acked 0 ∷ []) [] (Signed 1) (0 ∷ 1 ∷ [])
+zero4 = state 0 true true false (prepared ∷ acked 0 ∷ []) [] (Ok (Signed 1)) (0 ∷ 1 ∷ [])
 
 abbrev zero7 : State
-zero7 = state 0 true true false (prepared ∷ acked 0 ∷ acked 1 ∷ []) [] Taken (0 ∷ 1 ∷ 2 ∷ [])
+zero7 = state 0 true true false (prepared ∷ acked 0 ∷ acked 1 ∷ []) [] (Ok Taken) (0 ∷ 1 ∷ 2 ∷ [])
 
 abbrev zero8 : State
-zero8 = state 0 true true false (prepared ∷ acked 0 ∷ acked 1 ∷ stored 0 ∷ []) [] (Signed 3) (0 ∷ 1 ∷ 2 ∷ 3 ∷ [])
+zero8 = state 0 true true false (prepared ∷ acked 0 ∷ acked 1 ∷ stored 0 ∷ []) [] (Ok (Signed 3)) (0 ∷ 1 ∷ 2 ∷ 3 ∷ [])
 
 abbrev pool_zero : List Stmt
 pool_zero = prepared ∷ acked 0 ∷ acked 1 ∷ stored 0 ∷ stored 1 ∷ []
 
 abbrev zero10 : State
-zero10 = state 0 true true false pool_zero [] Taken (0 ∷ 1 ∷ 2 ∷ 3 ∷ 4 ∷ [])
+zero10 = state 0 true true false pool_zero [] (Ok Taken) (0 ∷ 1 ∷ 2 ∷ 3 ∷ 4 ∷ [])
 
 abbrev zero11 : State
-zero11 = state 0 true true true pool_zero [] (Delivered 0 7 3) (0 ∷ 1 ∷ 2 ∷ 3 ∷ 4 ∷ [])
+zero11 = state 0 true true true pool_zero [] (Ok (Delivered 0 7 3)) (0 ∷ 1 ∷ 2 ∷ 3 ∷ 4 ∷ [])
 
 -- Controller 1. Its host puts both statements of 0 into the pool before they are added: the ack right after a call on 1, the store while 0 is called.
 
 abbrev one0 : State
-one0 = state 1 false false false [] [] Taken []
+one0 = state 1 false false false [] [] (Ok Taken) []
 
 abbrev one3 : State
-one3 = state 1 false false false (prepared ∷ []) [] Taken (0 ∷ [])
+one3 = state 1 false false false (prepared ∷ []) [] (Ok Taken) (0 ∷ [])
 
 abbrev one5 : State
-one5 = state 1 false true false (prepared ∷ acked 1 ∷ []) (acked 0 ∷ []) (Signed 1) (0 ∷ 1 ∷ [])
+one5 = state 1 false true false (prepared ∷ acked 1 ∷ []) (acked 0 ∷ []) (Ok (Signed 1)) (0 ∷ 1 ∷ [])
 
 abbrev one6 : State
-one6 = state 1 false true false (prepared ∷ acked 1 ∷ acked 0 ∷ []) [] Taken (0 ∷ 1 ∷ 2 ∷ [])
+one6 = state 1 false true false (prepared ∷ acked 1 ∷ acked 0 ∷ []) [] (Ok Taken) (0 ∷ 1 ∷ 2 ∷ [])
 
 abbrev one9 : State
-one9 = state 1 false true false (prepared ∷ acked 1 ∷ acked 0 ∷ stored 1 ∷ []) [] (Signed 3) (0 ∷ 1 ∷ 2 ∷ 3 ∷ [])
+one9 = state 1 false true false (prepared ∷ acked 1 ∷ acked 0 ∷ stored 1 ∷ []) [] (Ok (Signed 3)) (0 ∷ 1 ∷ 2 ∷ 3 ∷ [])
 
 abbrev one11 : State
-one11 = state 1 false true false (prepared ∷ acked 1 ∷ acked 0 ∷ stored 1 ∷ []) (stored 0 ∷ []) (Signed 3) (0 ∷ 1 ∷ 2 ∷ 3 ∷ [])
+one11 = state 1 false true false (prepared ∷ acked 1 ∷ acked 0 ∷ stored 1 ∷ []) (stored 0 ∷ []) (Ok (Signed 3)) (0 ∷ 1 ∷ 2 ∷ 3 ∷ [])
 
 abbrev pool_one : List Stmt
 pool_one = prepared ∷ acked 1 ∷ acked 0 ∷ stored 1 ∷ stored 0 ∷ []
 
 abbrev one12 : State
-one12 = state 1 false true false pool_one [] Taken (0 ∷ 1 ∷ 2 ∷ 3 ∷ 4 ∷ [])
+one12 = state 1 false true false pool_one [] (Ok Taken) (0 ∷ 1 ∷ 2 ∷ 3 ∷ 4 ∷ [])
 
 abbrev one13 : State
-one13 = state 1 false true true pool_one [] (Delivered 0 7 3) (0 ∷ 1 ∷ 2 ∷ 3 ∷ 4 ∷ [])
+one13 = state 1 false true true pool_one [] (Ok (Delivered 0 7 3)) (0 ∷ 1 ∷ 2 ∷ 3 ∷ 4 ∷ [])
 
 abbrev zeros : List State
 zeros = zero1 ∷ zero2 ∷ zero2 ∷ zero4 ∷ zero4 ∷ zero4 ∷ zero7 ∷ zero8 ∷ zero8 ∷ zero10 ∷ zero11 ∷ zero11 ∷ zero11 ∷ []

@@ -2,20 +2,19 @@
 -- Assumes nothing.
 use Rattle.std.specs.Prelude.{◌≡◌, List, ℕ, suc, T}
 use Rattle.std.proofs.Math.Option.{some}
-use Rattle.protocol.specs.Controller.{Answer, left, not_set_up}
+use Rattle.protocol.specs.Controller.{Answer, not_set_up}
 use Rattle.protocol.specs.Pool.{has_room}
 use Rattle.protocol.specs.Run.{Call, setup_call, turn_call, call, Run, ring, event, statements}
 use Rattle.protocol.specs.Promises.{Observed}
 use Rattle.pool.specs.Pool.{record_in, pool_of, Grows}
-use Rattle.engine.specs.declared.Outcome.{Outcome}
-use Rattle.engine.specs.Meaning.{controller_is, answer_is}
+use Rattle.engine.specs.Meaning.{controller_is, Came, answer_is}
 use Rattle.engine.specs.Promise.{Called}
 
 -- What there is of one engine: the words of its pool, the numbers of its record, and what the last call on it returned.
 pub record Engine : Type 0 where
   pub pool : List ℕ
   pub ids : List ℕ
-  pub last : Outcome
+  pub last : Came
 
 -- A call took the engine from e to e'. After it the host may have put statements into the pool.
 pub record EngineCalls (e : Engine) (k : Call) (e' : Engine) : Type 0 where

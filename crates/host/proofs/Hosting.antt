@@ -1,5 +1,6 @@
 -- What a call on a controller in lent memory comes to: the engine's call between loading and storing.
 -- Assumes nothing.
+use Rattle.std.specs.Prelude.{Result, Ok, Err, Some, None}
 use Prim.Native.Nat.{ℕ, ◌≤◌}
 use native.Mathlib.Omega.{arith}
 use native.Mathlib.Decide.{dec_lt}
@@ -12,16 +13,17 @@ use Rattle.protocol.specs.Call as call
 use Rattle.protocol.specs.Turn.{turn}
 use Rattle.protocol.specs.Pool.{has_room}
 use Rattle.protocol.proofs.Unchanged.{Idle, Stays, setup-stays, join-stays, leave-stays, send-stays, turn-stays}
-use Rattle.statements.specs.declared.ReadStatement.{ReadStatement}
+use Rattle.statements.specs.declared.Statement.{Statement}
 use Rattle.statements.specs.Meaning.{stmt_of}
 use Rattle.statements.specs.Promise.{ReadOf}
 use Rattle.engine.specs.declared.Controller.{Controller}
-use Rattle.engine.specs.declared.Outcome.{Outcome}
 use Rattle.engine.specs.declared.Answer.{Answer}
-use Rattle.engine.specs.declared.Answer.TheVariants.{Taken, Signed, Entered, Delivered, Left, Quiet, Refused}
+use Rattle.engine.specs.declared.Answer.TheVariants.{Taken, Signed, Entered, Delivered, Left, Quiet}
+use Rattle.engine.specs.declared.Outcome.{Outcome}
+use Rattle.engine.specs.declared.Refusal.{Refusal}
 use Rattle.engine.specs.declared.Refusal.TheVariants.{BadStatement, OutOfPlace}
 use Rattle.pool.specs.Pool.{record_len, record_in, pool_of}
-use Rattle.engine.specs.Meaning.{controller_is, answer_is}
+use Rattle.engine.specs.Meaning.{controller_is, Came, came_to, answer_is}
 use Rattle.engine.specs.Promise.{Change, unchanged, NumbersAfter, Meets, Calls, Starts, IsRefused, started_of, signed_of, added_of, AddsFor}
 use Rattle.engine.proofs.Requests.{refused-so}
 use Rattle.host.proofs.Written.{not-read, is-statement}
@@ -32,26 +34,26 @@ use Rattle.host.specs.Stored.{Finished, NoneFor}
 -- ---- where nothing was done
 
 -- answers from 4 on: left, quiet, refused
-idle : (W : List ℕ) (a : Answer) → 4 ≤ answer_number a → Idle (answer_is W a)
+idle : (W : List ℕ) (a : Result Answer Refusal) → 4 ≤ answer_number a → Idle (answer_is W a)
 unfolding answer_number answer_is
-idle W Taken e = absurd (omega arith)
-idle W (Signed n) e = absurd (omega arith)
-idle W (Entered v) e = absurd (omega arith)
-idle W (Delivered i m who) e = absurd (omega arith)
-idle W Left e = tt
-idle W Quiet e = tt
-idle W (Refused r) e = tt
+idle W (Ok Taken) e = absurd (omega arith)
+idle W (Ok (Signed n)) e = absurd (omega arith)
+idle W (Ok (Entered v)) e = absurd (omega arith)
+idle W (Ok (Delivered i m who)) e = absurd (omega arith)
+idle W (Ok Left) e = tt
+idle W (Ok Quiet) e = tt
+idle W (Err r) e = tt
 
 -- a refusal is one of them
-pub is-idle : (W : List ℕ) (a : Answer) → IsRefused (answer_is W a) → 4 ≤ answer_number a
+pub is-idle : (W : List ℕ) (a : Result Answer Refusal) → IsRefused (answer_is W a) → 4 ≤ answer_number a
 unfolding answer_number answer_is
-is-idle W Taken t = absurd t
-is-idle W (Signed n) t = absurd t
-is-idle W (Entered v) t = absurd t
-is-idle W (Delivered i m who) t = absurd t
-is-idle W Left t = absurd t
-is-idle W Quiet t = absurd t
-is-idle W (Refused r) t = omega arith
+is-idle W (Ok Taken) t = absurd t
+is-idle W (Ok (Signed n)) t = absurd t
+is-idle W (Ok (Entered v)) t = absurd t
+is-idle W (Ok (Delivered i m who)) t = absurd t
+is-idle W (Ok Left) t = absurd t
+is-idle W (Ok Quiet) t = absurd t
+is-idle W (Err r) t = omega arith
 
 -- the record stays then
 module _ (W R R' : List ℕ) where
@@ -82,7 +84,7 @@ module _ (W R R' : List ℕ) where
   added-idle (controller.entered _) s i n = elim i [ ]
   added-idle (controller.delivered _ _ _) s i n = elim i [ ]
 
-module _ {W R : List ℕ} {c : Controller} {o : controller.Outcome} {p : Change} {r : Outcome} {W' R' : List ℕ} (m : Meets W R c o p r W' R') (i : 4 ≤ answer_number r.answer) where
+module _ {W R : List ℕ} {c : Controller} {o : controller.Outcome} {p : Change} {r : Came} {W' R' : List ℕ} (m : Meets W R c o p r W' R') (i : 4 ≤ answer_number r.answer) where
   pub is-answer : Idle o.answer
   is-answer = subst Idle m.answer (idle W' r.answer i)
 
@@ -98,20 +100,17 @@ module _ {W R : List ℕ} {c : Controller} {o : controller.Outcome} {p : Change}
     refused = λ t. (refl, (m.refused t).1, (m.refused t).2);
   }
 
--- ---- the two ways in which a call ends
-
-module _ (o : Outcome) (F value : List ℕ) (n : ℕ) (e : (n ≡ answer_number o.answer) × (value ≡ value_words o.answer)) where
-  pub was-idle : 4 ≤ n → Finished o F n F value
-  was-idle l = record { answered = e.0; valued = e.1; held = λ h. absurd (omega arith); idle = λ _. refl }
-
-  pub was-kept : (F' : List ℕ) → controller_at F' ≡ o.controller → (4 ≤ n → ⊥) → Finished o F n F' value
-  was-kept F' h l = record { answered = e.0; valued = e.1; held = λ _. h; idle = λ k. absurd (l k) }
-
 -- ---- the calls
 
-module _ {o : Outcome} {F : List ℕ} {n : ℕ} {F' value : List ℕ} (c : Controller) (e : c ≡ controller_at F) (f : Finished o F n F' value) where
+module _ (r : Result Outcome Refusal) {F : List ℕ} {n : ℕ} {F' value : List ℕ} (c : Controller) (e : c ≡ controller_at F) (told : Finished (came_to (controller_at F) r) F n F' value) where
+  abbrev o : Came
+  o = came_to c r
+
+  f : Finished (came_to c r) F n F' value
+  f = subst (λ x. Finished (came_to x r) F n F' value) (sym e) told
+
   -- what the engine promised of the loaded controller holds of the memory
-  hosted : (Met : Controller → Outcome → Type 0) (R R' : List ℕ) → Met c o → (4 ≤ answer_number o.answer → Met c (record { answer = o.answer; controller = c }) × (R' ≡ R)) → Hosted (Met (controller_at F)) F R n F' R' value
+  hosted : (Met : Controller → Came → Type 0) (R R' : List ℕ) → Met c o → (4 ≤ answer_number o.answer → Met c (record { answer = o.answer; controller = c }) × (R' ≡ R)) → Hosted (Met (controller_at F)) F R n F' R' value
   hosted Met R R' m b = elim (dec_lt n 4) [
     | yes l ↦ record { outcome = o; met = subst (λ x. Met x o) e m; answered = f.answered; valued = f.valued; held = f.held l; idle = λ h. absurd (omega arith) }
     | no l ↦ (let k : 4 ≤ answer_number o.answer = omega (arith, f.answered) in record {
@@ -165,28 +164,28 @@ module _ (c : Controller) (X : List Stmt) where
   none-ready e = rw e
 
 module _ (ready : Bool) where
-  pub none_before : ready ≡ false → NoneFor ready (Refused OutOfPlace)
-  none_before h = record { each = λ c e W R. subst (λ o. Meets W R c o unchanged (record { answer = Refused OutOfPlace; controller = c }) W R) (sym (none-unready c (record_in W R) (e ∙ h))) (refused-so W R c (record { answer = Refused OutOfPlace; controller = c }) OutOfPlace refl refl) }
+  pub none_before : ready ≡ false → NoneFor ready (Err OutOfPlace)
+  none_before h = record { each = λ c e W R. subst (λ o. Meets W R c o unchanged (record { answer = Err OutOfPlace; controller = c }) W R) (sym (none-unready c (record_in W R) (e ∙ h))) (refused-so W R c (record { answer = Err OutOfPlace; controller = c }) OutOfPlace refl refl) }
 
-  pub none_after : ready ≡ true → NoneFor ready (Refused BadStatement)
-  none_after h = record { each = λ c e W R. subst (λ o. Meets W R c o unchanged (record { answer = Refused BadStatement; controller = c }) W R) (sym (none-ready c (record_in W R) (e ∙ h))) (refused-so W R c (record { answer = Refused BadStatement; controller = c }) BadStatement refl refl) }
+  pub none_after : ready ≡ true → NoneFor ready (Err BadStatement)
+  none_after h = record { each = λ c e W R. subst (λ o. Meets W R c o unchanged (record { answer = Err BadStatement; controller = c }) W R) (sym (none-ready c (record_in W R) (e ∙ h))) (refused-so W R c (record { answer = Err BadStatement; controller = c }) BadStatement refl refl) }
 
 -- S was read by the controller's number of notices, and a was told
-module _ (F S B : List ℕ) (b : Bool) (b-is : b ≡ ready_in F) (k : ℕ) (k-is : k ≡ notices_in F) (r : ReadStatement) (q : ReadOf S k B r) (a : Answer) (n : ℕ) (value : List ℕ) (t : (n ≡ answer_number a) × (value ≡ value_words a)) (W R : List ℕ) where
-  p : ReadOf S (notices_in F) B r
-  p = subst (λ m. ReadOf S m B r) k-is q
-
+module _ (F S B : List ℕ) (b : Bool) (b-is : b ≡ ready_in F) (k : ℕ) (k-is : k ≡ notices_in F) (a : Result Answer Refusal) (n : ℕ) (value : List ℕ) (t : (n ≡ answer_number a) × (value ≡ value_words a)) (W R : List ℕ) where
   -- it is no text of a statement
-  pub unread-hosted : r.ok ≡ false → NoneFor b a → AddsText S W W F R n R value
+  pub unread-hosted : ReadOf S k B None → NoneFor b a → AddsText S W W F R n R value
   unfolding controller_at
-  unread-hosted e m = record {
-    statement = λ s. absurd (not-read (notices_in F) S B r p e s);
+  unread-hosted q m = record {
+    statement = λ s. absurd (not-read (notices_in F) S B (subst (λ m. ReadOf S m B None) k-is q) s);
     none = λ f. record { outcome = record { answer = a; controller = controller_at F }; met = m.each (controller_at F) (sym b-is) W R; answered = t.0; valued = t.1; held = refl; idle = λ _. (refl, refl) };
   }
 
   -- it is
-  module _ (W' R' : List ℕ) (e : r.ok ≡ true) (m : AddsFor b k W R (stmt_of r.statement B) a W' R') where
-    added : AddOn W R W' R' (stmt_of r.statement B) (controller_at F) (record { answer = a; controller = controller_at F })
+  module _ (st : Statement) (q : ReadOf S k B (Some st)) (W' R' : List ℕ) (m : AddsFor b k W R (stmt_of st B) a W' R') where
+    p : ReadOf S (notices_in F) B (Some st)
+    p = subst (λ m. ReadOf S m B (Some st)) k-is q
+
+    added : AddOn W R W' R' (stmt_of st B) (controller_at F) (record { answer = a; controller = controller_at F })
     unfolding controller_at
     added = m.each (controller_at F) (sym b-is) (sym k-is)
 
@@ -194,11 +193,11 @@ module _ (F S B : List ℕ) (b : Bool) (b-is : b ≡ ready_in F) (k : ℕ) (k-is
     add-hosted = record {
       statement = λ s. record {
         outcome = record { answer = a; controller = controller_at F };
-        met = subst (λ x. AddOn W R W' R' x (controller_at F) (record { answer = a; controller = controller_at F })) (p.back s.statement s.rules s.is).1 added;
+        met = subst (λ x. AddOn W R W' R' x (controller_at F) (record { answer = a; controller = controller_at F })) (p.back s.statement s.rules s.is) added;
         answered = t.0;
         valued = t.1;
         held = refl;
-        idle = λ l. (refl, added-idle W R R' (call.add (controller_is (controller_at F)) (record_in W R) (has_room (pool_of W)) (stmt_of r.statement B)).answer (stmt_of r.statement B) (is-answer added (omega (arith, t.0))) added.numbers);
+        idle = λ l. (refl, added-idle W R R' (call.add (controller_is (controller_at F)) (record_in W R) (has_room (pool_of W)) (stmt_of st B)).answer (stmt_of st B) (is-answer added (omega (arith, t.0))) added.numbers);
       };
-      none = λ f. absurd (f (is-statement (notices_in F) S B r p e));
+      none = λ f. absurd (f (is-statement (notices_in F) S B st p));
     }

@@ -8,9 +8,13 @@ use mathlib.Core.Path.{◌≡◌, refl, sym, ap, ap₂, subst, ◌∙◌}
 use mathlib.Core.Bool.{Bool, true, false, ◌||◌, true≢false}
 use mathlib.Core.List.{List, [], ◌∷◌, ◌++◌}
 use lib.ListN.{length, get_or, set, take, drop, replicate, length-set, length-replicate}
-use lib.Seq.{sets, sets-eq, take_all, take-suc, take-suc-set, get_or-set_same, get_or-set_other, get_or-append-add, get_or-drop}
+use Rattle.std.specs.List.{between}
+use borrow.Rule.Slice.PartMut.{put_mid, same_len_mid}
+use Rattle.std.proofs.lemmas.List.{get_or-take, length-drop}
+use Rattle.std.proofs.lemmas.List.Edits.{length-between, get_or-between}
+use Rattle.std.proofs.lemmas.Slice.{take-put_mid_below, drop-put_mid, between-put_mid}
+use lib.Seq.{length-take-le, sets, sets-eq, take_all, take-suc, take-suc-set, get_or-set_same, get_or-set_other, get_or-append-add, get_or-drop}
 use mir.Val.{bool_byte}
-use Rattle.protocol.specs.Statement.{binding_number, binding_payload}
 use Rattle.protocol.specs.Lists.{list_of}
 use Rattle.protocol.specs.Sets.{bit}
 use Rattle.protocol.proofs.Bits.{bit-zero}
@@ -19,7 +23,6 @@ use Rattle.views.specs.declared.View.{View}
 use Rattle.views.specs.declared.History.{History}
 use Rattle.statements.specs.declared.Binding.{Binding}
 use Rattle.statements.specs.declared.Binding.TheVariants.{Unbound, Bound, Barred}
-use Rattle.statements.specs.Block.{binding_is}
 use Rattle.statements.specs.Sets.{PutBit, Union, Next}
 use Rattle.statements.proofs.NoticeSets.{put_other}
 use Rattle.evidence.specs.declared.Notice.{Notice}
@@ -83,6 +86,11 @@ module _ {A : Type 0} where
   -- an array is the list of its elements
   pub listed-all : (f : ℕ → A) (l : List A) (d : A) (n : ℕ) → length l ≡ n → ((i : ℕ) → i < n → f i ≡ get_or l i d) → list_of n f ≡ l
   listed-all f l d n e h = list_of-cong n f (λ i. get_or l i d) h ∙ listed-some l d n (omega arith) ∙ take_all n l (omega arith)
+
+-- n words from word `from` on, read at once
+pub loaded-part : (from n : ℕ) (f : ℕ → ℕ) (F : List ℕ) {Y : List ℕ} → length F ≡ 232 → from + n ≤ 232 → ((i : ℕ) → f i ≡ get_or F (from + i) 0) → Y ≡ between from (from + n) F → Y ≡ list_of n f
+loaded-part from n f F e t r q =
+    q ∙ sym (listed-all f (between from (from + n) F) 0 n (length-between F from (from + n) (omega arith) ∙ omega arith) (λ i o. r i ∙ sym (get_or-between F from (from + n) i 0 (omega arith))))
 
 -- ---- views that are loaded, and stored
 
@@ -208,6 +216,22 @@ module _ {A : Type 0} {from n : ℕ} {f : List ℕ → ℕ → A} {l : List A} {
   pub put_last : {F₀ F : List ℕ} {j : ℕ} → Puts from n f l d F₀ F j → n ≤ j → length l ≡ n → Column from n f l F₀ F
   put_last {F₀} {F} {j} h m e = record { long = h.long; low = λ i a o. h.low i o; high = h.high; back = listed-all (f F) l d n e (λ i o. h.are i (omega arith)) }
 
+-- n words from word `from` on were written at once
+module _ {A : Type 0} {from n : ℕ} {f : List ℕ → ℕ → A} {l : List A} (d : A) (g : ℕ → A) (r : (X : List ℕ) (i : ℕ) → f X i ≡ g (get_or X (from + i) 0)) {F : List ℕ} (Y : List ℕ) where
+  pub put_at_once : length F ≡ 232 → from + n ≤ 232 → length Y ≡ n → length l ≡ n → ((i : ℕ) → i < n → g (get_or Y i 0) ≡ get_or l i d) → Column from n f l F (put_mid from n F Y)
+  put_at_once e t y k q = record {
+    long = same_len_mid from n F Y (y ∙ sym (length-take-le n (drop from F) (omega (arith, length-drop from F)))) ∙ e;
+    low = λ i a o. sym (get_or-take from (put_mid from n F Y) i 0 o) ∙ ap (λ X. get_or X i 0) (take-put_mid_below from n F Y from (omega arith) (omega arith)) ∙ get_or-take from F i 0 o;
+    high = λ i o. let z : i ≡ (from + n) + (i - (from + n)) = omega arith in
+        ap (λ k. get_or (put_mid from n F Y) k 0) z ∙ sym (get_or-drop (from + n) (put_mid from n F Y) (i - (from + n)) 0)
+        ∙ ap (λ X. get_or X (i - (from + n)) 0) (drop-put_mid from n F Y (from + n) (omega arith) (omega arith) y) ∙ get_or-drop (from + n) F (i - (from + n)) 0 ∙ ap (λ k. get_or F k 0) (sym z);
+    back = listed-all (f (put_mid from n F Y)) l d n k (λ i o. r (put_mid from n F Y) i ∙ ap g (within-part i o) ∙ q i o);
+  }
+    where
+      within-part : (i : ℕ) → i < n → get_or (put_mid from n F Y) (from + i) 0 ≡ get_or Y i 0
+      within-part i o =
+          sym (get_or-between (put_mid from n F Y) from (from + n) i 0 (omega arith)) ∙ ap (λ X. get_or X i 0) (between-put_mid from n F Y (from + n) (omega arith) (omega (arith, y)))
+
 pub put-sender : {S F₀ F : List ℕ} {j : ℕ} (w : ℕ) → Puts 32 64 sender_in S 0 F₀ F j → j < 64 → (w ≡ get_or S j 0) × (w < 256) → Puts 32 64 sender_in S 0 F₀ (set F (32 + j) w) (j + 1)
 unfolding sender_in
 put-sender {S} {F₀} {F} {j} w h m q = put_next (λ a. a % 256) (λ X i. refl) (omega arith) w h m (number-back (get_or S j 0) w q.0 q.1)
@@ -241,37 +265,19 @@ beside {s} {j} {r} p i l d = p.bits i l ∙ put_other j true (bit s) i d
 within : {s j r : ℕ} → PutBit s j true r → j < 64 → bit r j ≡ true
 within {s} {j} {r} p l = p.bits j l ∙ put-at j true (bit s)
 
-number-of-unbound : (b : Binding) → binding_number (binding_is b) ≡ 0 → Unbound ≡ b
-number-of-unbound Unbound e = refl
-number-of-unbound (Bound m) e = absurd (omega arith)
-number-of-unbound Barred e = absurd (omega arith)
-
-number-of-bound : (b : Binding) → binding_number (binding_is b) ≡ 1 → Bound (binding_payload (binding_is b)) ≡ b
-number-of-bound Unbound e = absurd (omega arith)
-number-of-bound (Bound m) e = refl
-number-of-bound Barred e = absurd (omega arith)
-
-number-of-barred : (b : Binding) → binding_number (binding_is b) ≡ 2 → Barred ≡ b
-number-of-barred Unbound e = absurd (omega arith)
-number-of-barred (Bound m) e = absurd (omega arith)
-number-of-barred Barred e = refl
-
-module _ {H : List Notice} {F₀ F : List ℕ} {bound barred j : ℕ} (b : Binding) (n : ℕ) (h : Binds H F₀ F bound barred j) (l : j < 64)
-    (x : b ≡ (get_or H j held_notice).binding) (y : n ≡ binding_number (binding_is b)) where
-  pub bind-none : n ≡ 0 → Binds H F₀ F bound barred (j + 1)
-  bind-none e = record {
+module _ {H : List Notice} {F₀ F : List ℕ} {bound barred j : ℕ} (h : Binds H F₀ F bound barred j) (l : j < 64) where
+  pub bind-none : (get_or H j held_notice).binding ≡ Unbound → Binds H F₀ F bound barred (j + 1)
+  bind-none x = record {
     small = omega arith;
     long = h.long;
     low = h.low;
     high = h.high;
-    are =
-        so_far (notice_by bound barred F) (λ i. get_or H i held_notice) h.are
-        (rw ((h.none j (omega arith) l).0, (h.none j (omega arith) l).1) (ap (λ a. record { binding = a }) (number-of-unbound b (sym y ∙ e) ∙ x)));
+    are = so_far (notice_by bound barred F) (λ i. get_or H i held_notice) h.are (rw ((h.none j (omega arith) l).0, (h.none j (omega arith) l).1) (ap (λ a. record { binding = a }) (sym x)));
     none = λ i o p. h.none i (omega arith) p;
   }
 
-  pub bind-bound : n ≡ 1 → (m : ℕ) → m ≡ binding_payload (binding_is b) → {s : ℕ} → PutBit bound j true s → Binds H F₀ (set F (96 + j) m) s barred (j + 1)
-  bind-bound e m z {s} p = record {
+  pub bind-bound : (m : ℕ) → (get_or H j held_notice).binding ≡ Bound m → {s : ℕ} → PutBit bound j true s → Binds H F₀ (set F (96 + j) m) s barred (j + 1)
+  bind-bound m x {s} p = record {
     small = omega arith;
     long = length-set F (96 + j) m ∙ h.long;
     low = λ i o. get_or-set_other F (96 + j) i m 0 (λ q. omega arith) ∙ h.low i o;
@@ -283,10 +289,10 @@ module _ {H : List Notice} {F₀ F : List ℕ} {bound barred j : ℕ} (b : Bindi
   }
     where
       new : notice_by s barred (set F (96 + j) m) j ≡ get_or H j held_notice
-      new = rw (within p l, (h.none j (omega arith) l).1, get_or-set_same F (96 + j) m 0 (omega (arith, h.long))) (ap (λ a. record { binding = a }) (ap Bound z ∙ number-of-bound b (sym y ∙ e) ∙ x))
+      new = rw (within p l, (h.none j (omega arith) l).1, get_or-set_same F (96 + j) m 0 (omega (arith, h.long))) (ap (λ a. record { binding = a }) (sym x))
 
-  pub bind-barred : n ≡ 2 → {s : ℕ} → PutBit barred j true s → Binds H F₀ F bound s (j + 1)
-  bind-barred e {s} p = record {
+  pub bind-barred : (get_or H j held_notice).binding ≡ Barred → {s : ℕ} → PutBit barred j true s → Binds H F₀ F bound s (j + 1)
+  bind-barred x {s} p = record {
     small = omega arith;
     long = h.long;
     low = h.low;
@@ -294,7 +300,7 @@ module _ {H : List Notice} {F₀ F : List ℕ} {bound barred j : ℕ} (b : Bindi
     are =
         so_far (notice_by bound s F) (λ i. get_or H i held_notice)
         (λ i o. ap (λ c. record { binding = binding_in (bit bound i) c (get_or F (96 + i) 0) }) (beside p i (omega arith) (λ q. omega arith)) ∙ h.are i o)
-        (rw (within p l) (ap (λ a. record { binding = a }) (number-of-barred b (sym y ∙ e) ∙ x)));
+        (rw (within p l) (ap (λ a. record { binding = a }) (sym x)));
     none = λ i o k. ((h.none i (omega arith) k).0, beside p i k (λ q. omega arith) ∙ (h.none i (omega arith) k).1);
   }
 

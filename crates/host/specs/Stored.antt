@@ -1,14 +1,14 @@
 -- What the functions that store a controller and tell an answer tell each other.
 -- Assumes nothing.
-use Rattle.std.specs.Prelude.{◌≡◌, Bool, List, ℕ, ◌+◌, ◌≤◌, ◌<◌, get_or, length}
+use Rattle.std.specs.Prelude.{◌≡◌, Bool, List, ℕ, ◌+◌, ◌≤◌, ◌<◌, get_or, length, Result}
 use Rattle.protocol.specs.Lists.{list_of}
 use Rattle.views.specs.declared.History.{History}
 use Rattle.evidence.specs.declared.Notice.{Notice}
 use Rattle.pool.specs.Pool.{record_in}
 use Rattle.engine.specs.declared.Answer.{Answer}
+use Rattle.engine.specs.declared.Refusal.{Refusal}
 use Rattle.engine.specs.declared.Controller.{Controller}
-use Rattle.engine.specs.declared.Outcome.{Outcome}
-use Rattle.engine.specs.Meaning.{controller_is}
+use Rattle.engine.specs.Meaning.{controller_is, Came}
 use Rattle.engine.specs.Promise.{unchanged, Meets}
 use Rattle.host.specs.Memory.{held_in, sender_in, notice_in, send_in, controller_at}
 use Rattle.host.specs.Host.{answer_number, value_words, no_statement}
@@ -36,12 +36,12 @@ pub record NoticeWords (F S : List ℕ) (H : List Notice) (P F' : List ℕ) : Ty
   pub sends : list_of 64 (send_in F') ≡ P
 
 -- The engine returned o on the controller of the words F: its answer was told, and the words mean its controller; or nothing was done, and they are as they were.
-pub record Finished (o : Outcome) (F : List ℕ) (answer : ℕ) (F' value : List ℕ) : Type 0 where
+pub record Finished (o : Came) (F : List ℕ) (answer : ℕ) (F' value : List ℕ) : Type 0 where
   pub answered : answer ≡ answer_number o.answer
   pub valued : value ≡ value_words o.answer
   pub held : answer < 4 → controller_at F' ≡ o.controller
   pub idle : 4 ≤ answer → F' ≡ F
 
 -- An addition of what is no statement answers a, for every controller that is set up or not.
-pub record NoneFor (ready : Bool) (a : Answer) : Type 0 where
+pub record NoneFor (ready : Bool) (a : Result Answer Refusal) : Type 0 where
   pub each : (c : Controller) → c.ready ≡ ready → (W R : List ℕ) → Meets W R c (no_statement (controller_is c) (record_in W R)) unchanged (record { answer = a; controller = c }) W R

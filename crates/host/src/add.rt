@@ -1,22 +1,24 @@
 // An addition by text.
+ghost use Rattle.std.specs.Prelude.{Err};
 ghost use Rattle.host.specs.Host.{AddsText};
 ghost use Rattle.host.specs.Stored.{NoneFor};
 
 use crate::answers::VALUES;
 use crate::held::FIELDS;
 use crate::{answers, held};
-use engine::{Answer, Refusal};
+use engine::Refusal;
 use pool::{POOL_WORDS, RECORD};
 use statements::BLOCK;
 
 // The refusal of what is no statement.
-fn unwritten(ready: bool) -> Answer
-    ensures { NoneFor ready result }
+fn unwritten(ready: bool) -> Refusal
+    ensures { NoneFor ready (Err result) }
 {
-    if !ready {
-        return Answer::Refused(Refusal::OutOfPlace);
+    if ready {
+        Refusal::BadStatement
+    } else {
+        Refusal::OutOfPlace
     }
-    Answer::Refused(Refusal::BadStatement)
 }
 
 // Adds the statement whose text `line` is, by the number of notices of the controller's ring. No addition changes a controller, so that its words are only read.
@@ -32,11 +34,9 @@ pub fn add_text(
     let ready = held::is_ready(fields);
     let notices = held::notice_count(fields);
     let mut block = [0u64; BLOCK];
-    let r = statements::read(line, notices, &mut block);
-    if !r.ok {
-        return answers::tell(unwritten(ready), value);
-    }
-    let st = r.statement;
-    let a = engine::add_statement(ready, notices, ids, words, st, &block);
-    answers::tell(a, value)
+    let Some(statement) = statements::read(line, notices, &mut block) else {
+        return answers::tell(Err(unwritten(ready)), value);
+    };
+    let answer = engine::add_statement(ready, notices, ids, words, statement, &block);
+    answers::tell(answer, value)
 }

@@ -1,5 +1,5 @@
 // A controller that is kept in lent memory: specs/Memory.antt says what each word stands for.
-ghost use Rattle.std.specs.Prelude.{◌≡◌, ◌<◌, length, set};
+ghost use Rattle.std.specs.Prelude.{◌≡◌, ◌+◌, ◌≤◌, get_or, ◌<◌, length, set};
 ghost use Rattle.protocol.specs.Lists.{list_of};
 ghost use Rattle.protocol.specs.Sets.{bit};
 ghost use Rattle.host.specs.Memory.{held_in, binding_in, entered_in, sender_in, notice_in, send_in, time_in, ready_in, notices_in, controller_at};
@@ -84,12 +84,12 @@ fn binding_in(bound: u64, barred: u64, j: usize, payload: u64) -> Binding
     ensures { result ≡ binding_in (bit bound j) (bit barred j) payload }
 {
     if statements::has(barred, j) {
-        return Binding::Barred;
+        Binding::Barred
+    } else if statements::has(bound, j) {
+        Binding::Bound(payload)
+    } else {
+        Binding::Unbound
     }
-    if statements::has(bound, j) {
-        return Binding::Bound(payload);
-    }
-    Binding::Unbound
 }
 
 // The views that were entered.
@@ -97,14 +97,11 @@ fn entered_in(fields: &[u64; FIELDS]) -> History
     ensures { result ≡ entered_in fields.now }
 {
     let mut views = [View { joined: 0, left: 0 }; View::LIMIT];
-    let mut i = 0usize;
-    while i < View::LIMIT {
-        let v = view_in(fields[VIEWS + i]);
-        views[i] = v;
-        i += 1;
+    for i in 0..View::LIMIT {
+        views[i] = view_in(fields[VIEWS + i]);
     }
     History {
-        views: views,
+        views,
         len: fields[ENTERED] as usize,
     }
 }
@@ -114,10 +111,8 @@ fn senders_in(fields: &[u64; FIELDS]) -> [u8; NOTICES]
     ensures { result ≡ list_of 64 (sender_in fields.now) }
 {
     let mut senders = [0u8; NOTICES];
-    let mut j = 0usize;
-    while j < NOTICES {
+    for j in 0..NOTICES {
         senders[j] = (fields[SENDERS + j] % 256) as u8;
-        j += 1;
     }
     senders
 }
@@ -134,71 +129,44 @@ fn notices_in(fields: &[u64; FIELDS]) -> [Notice; NOTICES]
     let some = statements::either(bound, barred);
     let mut j = statements::next_in(some, 0);
     while j < NOTICES {
-        let b = binding_in(bound, barred, j, fields[PAYLOADS + j]);
-        notices[j] = Notice { binding: b };
+        notices[j] = Notice {
+            binding: binding_in(bound, barred, j, fields[PAYLOADS + j]),
+        };
         j = statements::next_in(some, j + 1);
     }
     notices
 }
 
-// Their payloads to send.
-fn sends_in(fields: &[u64; FIELDS]) -> [u64; NOTICES]
-    ensures { result ≡ list_of 64 (send_in fields.now) }
+// The N words from word `from` on: the payloads to send, and the service windows, of which all eight are read whatever they hold, since a call reads only as many as the setup named.
+fn words_from<const N: usize>(fields: &[u64; FIELDS], from: usize) -> [u64; N]
+    requires { from + N ≤ 232 }
+    ensures { result ≡ list_of N (λ i. get_or fields.now (from + i) 0) }
 {
-    let mut sends = [0u64; NOTICES];
-    let mut j = 0usize;
-    while j < NOTICES {
-        sends[j] = fields[SENDS + j];
-        j += 1;
-    }
-    sends
-}
-
-// The service windows: all eight words, whatever they hold, since a call reads only as many as the setup named.
-fn times_in(fields: &[u64; FIELDS]) -> [u64; WINDOWS]
-    ensures { result ≡ list_of 8 (time_in fields.now) }
-{
-    let mut times = [0u64; WINDOWS];
-    let mut i = 0usize;
-    while i < WINDOWS {
-        times[i] = fields[TIMES + i];
-        i += 1;
-    }
-    times
+    let mut words = [0u64; N];
+    words.copy_from_slice(&fields[from..from + N]);
+    words
 }
 
 // The controller that the memory means.
 pub fn load(fields: &[u64; FIELDS]) -> Controller
     ensures { result ≡ controller_at fields.now }
 {
-    let entered = entered_in(fields);
-    let senders = senders_in(fields);
-    let held = notices_in(fields);
-    let sends = sends_in(fields);
-    let times = times_in(fields);
     Controller {
         ready: is_ready(fields),
         number: (fields[NUMBER] % 256) as u8,
         init: view_in(fields[INITIAL]),
         notices: notice_count(fields),
-        senders: senders,
-        entered: entered,
-        held: held,
-        sends: sends,
+        senders: senders_in(fields),
+        entered: entered_in(fields),
+        held: notices_in(fields),
+        sends: words_from(fields, SENDS),
         delivered: fields[DELIVERED],
         requested: fields[REQUESTED],
         joining: fields[JOINING] != 0,
         leaving: fields[LEAVING] != 0,
         windows: fields[WINDOW_COUNT] as usize,
-        times: times,
+        times: words_from(fields, TIMES),
     }
-}
-
-// A controller's number as a word, with its range.
-fn wide_number(k: u8) -> u64
-    ensures { (result ≡ k) × (result < 256) }
-{
-    k as u64
 }
 
 // The word that holds v, whatever its bits.
@@ -208,77 +176,48 @@ fn word_of(v: View) -> u64
     views::of_halves(v.joined, v.left)
 }
 
-// How many words there are. A proof that a word was written asks for it.
-fn size(words: &[u64; FIELDS]) -> usize
-    ensures { length words.now ≡ 232 }
-{
-    let s = &words[..];
-    s.len()
-}
-
 // The words of the views that were entered, and how many they are.
 fn put_entered(words: &mut [u64; FIELDS], entered: History)
-    requires { length words.old ≡ 232 }
     ensures { EnteredWords entered words.new }
 {
-    let views = entered.views;
     words[ENTERED] = entered.len as u64;
-    let mut i = 0usize;
-    while i < View::LIMIT {
-        let v = views[i];
-        words[VIEWS + i] = word_of(v);
-        i += 1;
+    for i in 0..View::LIMIT {
+        words[VIEWS + i] = word_of(entered.views[i]);
     }
 }
 
 // The words of the senders.
-fn put_senders(words: &mut [u64; FIELDS], senders: [u8; NOTICES])
-    requires { (length words.old ≡ 232) × (length senders ≡ 64) }
-    ensures { Column 32 64 sender_in senders words.old words.new }
+fn put_senders(words: &mut [u64; FIELDS], senders: &[u8; NOTICES])
+    ensures { Column 32 64 sender_in senders.now words.old words.new }
 {
-    let mut j = 0usize;
-    while j < NOTICES {
-        words[SENDERS + j] = wide_number(senders[j]);
-        j += 1;
+    for j in 0..NOTICES {
+        words[SENDERS + j] = u64::from(senders[j]);
     }
 }
 
-// The words of the payloads to send.
-fn put_sends(words: &mut [u64; FIELDS], sends: [u64; NOTICES])
-    requires { (length words.old ≡ 232) × (length sends ≡ 64) }
-    ensures { Column 160 64 send_in sends words.old words.new }
+// The N words from word `from` on.
+fn put_words<const N: usize>(words: &mut [u64; FIELDS], from: usize, list: &[u64; N])
+    requires { from + N ≤ 232 }
+    ensures { Column from N (λ X i. get_or X (from + i) 0) list.now words.old words.new }
 {
-    let mut j = 0usize;
-    while j < NOTICES {
-        words[SENDS + j] = sends[j];
-        j += 1;
-    }
+    words[from..from + N].copy_from_slice(list);
 }
 
 // The words of the bindings. The payload of a notice that is not bound is not read, so it is not written.
-fn put_bindings(words: &mut [u64; FIELDS], held: [Notice; NOTICES])
-    requires { (length words.old ≡ 232) × (length held ≡ 64) }
-    ensures { Column 96 64 notice_in held words.old words.new }
+fn put_bindings(words: &mut [u64; FIELDS], held: &[Notice; NOTICES])
+    ensures { Column 96 64 notice_in held.now words.old words.new }
 {
     let mut bound = 0u64;
     let mut barred = 0u64;
-    let mut j = 0usize;
-    while j < NOTICES {
-        let h = held[j];
-        let b = h.binding;
-        let n = statements::number_of(b);
-        if n == 0 {
-            j += 1;
-            continue;
+    for j in 0..NOTICES {
+        match held[j].binding {
+            Binding::Unbound => {}
+            Binding::Bound(payload) => {
+                words[PAYLOADS + j] = payload;
+                bound = statements::with_notice(bound, j);
+            }
+            Binding::Barred => barred = statements::with_notice(barred, j),
         }
-        if n == 1 {
-            words[PAYLOADS + j] = statements::bound_payload(b);
-            bound = statements::with_notice(bound, j);
-            j += 1;
-            continue;
-        }
-        barred = statements::with_notice(barred, j);
-        j += 1;
     }
     words[BOUND] = bound;
     words[BARRED] = barred;
@@ -287,48 +226,35 @@ fn put_bindings(words: &mut [u64; FIELDS], held: [Notice; NOTICES])
 // The words of the notices.
 fn put_notices(
     words: &mut [u64; FIELDS],
-    senders: [u8; NOTICES],
-    held: [Notice; NOTICES],
-    sends: [u64; NOTICES],
+    senders: &[u8; NOTICES],
+    held: &[Notice; NOTICES],
+    sends: &[u64; NOTICES],
 )
-    requires { (length words.old ≡ 232) × (length senders ≡ 64) × (length held ≡ 64) × (length sends ≡ 64) }
-    ensures { NoticeWords words.old senders held sends words.new }
+    ensures { NoticeWords words.old senders.now held.now sends.now words.new }
 {
     put_senders(words, senders);
-    put_sends(words, sends);
+    put_words(words, SENDS, sends);
     put_bindings(words, held);
 }
 
 // The words of the service windows, and how many they are.
-fn put_times(words: &mut [u64; FIELDS], windows: usize, times: [u64; WINDOWS])
-    requires { (length words.old ≡ 232) × (length times ≡ 8) }
-    ensures { Column 224 8 time_in times (set words.old 10 windows) words.new }
+fn put_times(words: &mut [u64; FIELDS], windows: usize, times: &[u64; WINDOWS])
+    ensures { Column 224 8 time_in times.now (set words.old 10 windows) words.new }
 {
     words[WINDOW_COUNT] = windows as u64;
-    let mut i = 0usize;
-    while i < WINDOWS {
-        words[TIMES + i] = times[i];
-        i += 1;
-    }
+    put_words(words, TIMES, times);
 }
 
 // The memory means c from now on.
 pub fn store(fields: &mut [u64; FIELDS], c: Controller)
     ensures { controller_at fields.new ≡ c }
 {
-    size(fields);
-    let init = c.init;
-    let entered = c.entered;
-    let senders = c.senders;
-    let held = c.held;
-    let sends = c.sends;
-    let times = c.times;
-    put_entered(fields, entered);
-    put_times(fields, c.windows, times);
-    put_notices(fields, senders, held, sends);
+    put_entered(fields, c.entered);
+    put_times(fields, c.windows, &c.times);
+    put_notices(fields, &c.senders, &c.held, &c.sends);
     fields[READY] = c.ready as u64;
-    fields[NUMBER] = wide_number(c.number);
-    fields[INITIAL] = word_of(init);
+    fields[NUMBER] = u64::from(c.number);
+    fields[INITIAL] = word_of(c.init);
     fields[COUNT] = c.notices as u64;
     fields[DELIVERED] = c.delivered;
     fields[REQUESTED] = c.requested;

@@ -21,8 +21,9 @@ pub fn name_too_long() -> io::Error
 pub fn open<R: Files>(files: &R, name: &[u8]) -> io::Result<R::File>
     ensures { ¬ (IsUtf8 name.now) → IsErrAnd result (λ e. error_kind e ≡ ErrorKind.InvalidInput) }
 {
-    match str::from_utf8(name) {
-        Ok(path) => File::open(files, path),
-        Err(_) => Err(io::Error::new(ErrorKind::InvalidInput, "The name is not UTF-8")),
-    }
+    let path = str::from_utf8(name).map_err(|_| io::Error::new(
+        ErrorKind::InvalidInput,
+        "The name is not UTF-8",
+    ))?;
+    File::open(files, path)
 }

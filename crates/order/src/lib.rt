@@ -22,18 +22,12 @@ fn requested(
     told: &[u64; BLOCK],
     sends: &[u64; NOTICES],
     s: Situation,
-) -> Action
+) -> Option<Action>
     ensures { Does (own_statements (record_in words.now own.now) ∷ lent.sends sends.now ∷ []) s (first_among (turn.rule8 ∷ rule9_at s.minute ∷ turn.rule10 ∷ [])) result }
 {
-    let eighth = rules::rule8(words, own, told, s);
-    if rules::acts(eighth) {
-        return eighth;
-    }
-    let ninth = rules::rule9(words, own, told, s);
-    if rules::acts(ninth) {
-        return ninth;
-    }
-    rules::rule10(words, own, told, sends, s)
+    rules::rule8(words, own, told, s)
+        .or_else(|| rules::rule9(words, own, told, s))
+        .or_else(|| rules::rule10(words, own, told, sends, s))
 }
 
 // The first of the rules from the fifth on that applies.
@@ -45,22 +39,13 @@ fn noticed(
     told: &[u64; BLOCK],
     sends: &[u64; NOTICES],
     s: Situation,
-) -> Action
+) -> Option<Action>
     ensures { Does (statements (record_in words.now ids.now) ∷ own_statements (record_in words.now own.now) ∷ lent.senders senders.now ∷ lent.told told.now ∷ lent.sends sends.now ∷ []) s (first_among (turn.rule5 ∷ turn.rule6 ∷ turn.rule7 ∷ turn.rule8 ∷ rule9_at s.minute ∷ turn.rule10 ∷ [])) result }
 {
-    let fifth = rules::rule5(words, ids, own, senders, told, s);
-    if rules::acts(fifth) {
-        return fifth;
-    }
-    let sixth = rules::rule6(words, own, told, s);
-    if rules::acts(sixth) {
-        return sixth;
-    }
-    let seventh = rules::rule7(told, s);
-    if rules::acts(seventh) {
-        return seventh;
-    }
-    requested(words, own, told, sends, s)
+    rules::rule5(words, ids, own, senders, told, s)
+        .or_else(|| rules::rule6(words, own, told, s))
+        .or_else(|| rules::rule7(told, s))
+        .or_else(|| requested(words, own, told, sends, s))
 }
 
 // The first of the rules from the third on that applies.
@@ -73,19 +58,13 @@ fn agreed(
     told: &[u64; BLOCK],
     sends: &[u64; NOTICES],
     s: Situation,
-) -> Action
+) -> Option<Action>
     requires { (0 < s.shown.count) × (s.shown.count ≤ 16) }
     ensures { Does (statements (record_in words.now ids.now) ∷ own_statements (record_in words.now own.now) ∷ candidate_views candidates.now ∷ lent.senders senders.now ∷ lent.told told.now ∷ lent.sends sends.now ∷ []) s (first_among (turn.rule3 ∷ turn.rule4 ∷ turn.rule5 ∷ turn.rule6 ∷ turn.rule7 ∷ turn.rule8 ∷ rule9_at s.minute ∷ turn.rule10 ∷ [])) result }
 {
-    let third = rules::rule3(words, own, told, s);
-    if rules::acts(third) {
-        return third;
-    }
-    let fourth = rules::rule4(words, own, candidates, told, s);
-    if rules::acts(fourth) {
-        return fourth;
-    }
-    noticed(words, ids, own, senders, told, sends, s)
+    rules::rule3(words, own, told, s)
+        .or_else(|| rules::rule4(words, own, candidates, told, s))
+        .or_else(|| noticed(words, ids, own, senders, told, sends, s))
 }
 
 // The first rule that applies.
@@ -99,19 +78,13 @@ pub fn first_rule(
     told: &[u64; BLOCK],
     sends: &[u64; NOTICES],
     s: Situation,
-) -> Action
+) -> Option<Action>
     requires { Settled (ring_is s.ring) (senders_of senders.now s.ring.notices) (record_in words.now ids.now) candidates.now greatest.now certs.now s.shown }
     ensures { Does (statements (record_in words.now ids.now) ∷ candidate_views candidates.now ∷ greatest_views greatest.now ∷ lent.senders senders.now ∷ lent.told told.now ∷ lent.sends sends.now ∷ []) s (first_rule_at s.minute) result }
 {
     let mut own = [0u16; RECORD];
     rules::own_of(words, ids, s.number, &mut own);
-    let first = rules::rule1(words, &own, greatest, s);
-    if rules::acts(first) {
-        return first;
-    }
-    let second = rules::rule2(words, ids, candidates, greatest, senders, certs, s);
-    if rules::acts(second) {
-        return second;
-    }
-    agreed(words, ids, &own, candidates, senders, told, sends, s)
+    rules::rule1(words, &own, greatest, s)
+        .or_else(|| rules::rule2(words, ids, candidates, greatest, senders, certs, s))
+        .or_else(|| agreed(words, ids, &own, candidates, senders, told, sends, s))
 }

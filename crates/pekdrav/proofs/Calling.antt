@@ -6,14 +6,12 @@ use native.Mathlib.Omega.{arith}
 use mathlib.Core.Path.{◌≡◌, sym, subst}
 use mathlib.Core.Bool.{Bool, true, false}
 use mathlib.Core.List.{List}
-use mathlib.Core.Option.{none}
 use Rattle.protocol.specs.Statement.{Stmt}
 use Rattle.protocol.specs.Controller as controller
 use Rattle.protocol.specs.Call as call
 use Rattle.protocol.specs.Run as run
 use Rattle.engine.specs.declared.Controller.{Controller}
-use Rattle.engine.specs.declared.Outcome.{Outcome}
-use Rattle.engine.specs.Meaning.{controller_is}
+use Rattle.engine.specs.Meaning.{controller_is, Came}
 use Rattle.engine.specs.Promise.{Starts, IsRefused, change_of, Called}
 use Rattle.host.specs.Statement.{IsStatement}
 use Rattle.pool.specs.Pool.{record_in}
@@ -31,7 +29,7 @@ barred c X = go c.ready
 
 module _ {F R F' R' : List ℕ} {n : ℕ} {value : List ℕ} where
   -- the engine's controller is the memory's
-  at-memory : {W W' : List ℕ} {k : run.Call} {Met : Outcome → Type 0} (h : Hosted Met F R n F' R' value) → Called W R (controller_at F) k h.outcome W' R' → HostCalled W F R k n value W' F' R'
+  at-memory : {W W' : List ℕ} {k : run.Call} {Met : Came → Type 0} (h : Hosted Met F R n F' R' value) → Called W R (controller_at F) k h.outcome W' R' → HostCalled W F R k n value W' F' R'
   at-memory {W} {W'} {k} h c = record {
     told = h.outcome.answer;
     answered = h.answered;

@@ -2,17 +2,16 @@
 -- Assumes nothing.
 use Rattle.std.specs.Prelude.{if◌then◌else◌}
 use mathlib.Core.Path.{◌≡◌, refl, sym, ap, ap₂, subst, ◌∙◌}
-use mathlib.Core.Bool.{Bool, true, false, not, ◌&&◌}
+use mathlib.Core.Bool.{true, false, not, ◌&&◌}
 use mathlib.Core.List.{List, [], ◌∷◌}
 use Prim.Native.Nat.{ℕ, ◌≤◌, ◌<◌}
 use mir.Val.{bool_byte}
-use native.Mathlib.Omega.{arith}
 use lib.Dec.{T, ltb}
-use lib.ListN.{length, set}
+use lib.ListN.{length}
 use borrow.Author.Tests.{lt-ltb, le-ltb}
 use Rattle.protocol.specs.View.{View, Ring}
 use Rattle.protocol.specs.Statement.{Stmt}
-use Rattle.protocol.specs.Evidence.{candidates, is_conflict, is_counted_on}
+use Rattle.protocol.specs.Evidence.{candidates, is_counted_on}
 use Rattle.protocol.specs.Count.{Count, count_quorum}
 use Rattle.protocol.specs.Signers.{store_set}
 use Rattle.evidence.specs.declared.Evidence.{Evidence}
@@ -21,11 +20,8 @@ use Rattle.pekdrav.specs.Counted.{count_words, judges, ToldWhere, stores_of}
 use Rattle.pekdrav.proofs.Told.{flag_is}
 
 -- two words, one after the other
-pub written : (out : List ℕ) (c : Count) → length out ≡ 2 → set (set out 0 (bool_byte c.reached)) 1 c.read ≡ count_words c
-written [] c e = absurd (omega arith)
-written (x ∷ []) c e = absurd (omega arith)
-written (x ∷ y ∷ []) c e = ap (λ n. n ∷ c.read ∷ []) (flag_is c.reached)
-written (x ∷ y ∷ z ∷ l) c e = absurd (omega arith)
+pub written : (c : Count) → bool_byte c.reached ∷ c.read ∷ [] ≡ count_words c
+written c = ap (λ n. n ∷ c.read ∷ []) (flag_is c.reached)
 
 pub settled : {R : Ring} {senders : List ℕ} {X : List Stmt} {C G P : List ℕ} {e : Evidence} → EvidenceOf R senders X C G P e → e.conflict ≡ false → e.many ≡ false → Settled R senders X C G P e
 settled of agree few = record { of = of; agree = agree; few = few }

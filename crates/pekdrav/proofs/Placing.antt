@@ -2,17 +2,18 @@
 -- Assumes nothing.
 use Prim.Native.Nat.{ℕ, ◌≤◌, ◌<◌}
 use mathlib.Core.Path.{◌≡◌, refl, ap₂, ◌∙◌}
-use mathlib.Core.Bool.{true, cond}
+use mathlib.Core.Bool.{cond}
 use mathlib.Core.List.{List}
 use lib.ListN.{length}
 use lib.Seq.{sets}
 use borrow.Author.Tests.{lt-ltb, le-ltb, le-leb}
+use Rattle.std.specs.Prelude.{Some, Result, Ok, Err}
+use Rattle.std.specs.Result.{result_unwrap_or}
 use Rattle.statements.specs.declared.Statement.{Statement}
-use Rattle.statements.specs.declared.ReadStatement.{ReadStatement}
 use Rattle.statements.specs.Meaning.{stmt_of}
 use Rattle.statements.specs.Promise.{ReadOf, is_writable, written_count, written}
 use Rattle.statements.specs.Text.{text}
-use Rattle.pool.specs.declared.Placed.{Placed}
+use Rattle.pool.specs.declared.Full.{Full}
 use Rattle.pool.specs.Pool.{stmt_at, pool_len}
 use Rattle.pool.specs.Changes.{Appended}
 use Rattle.host.specs.Statement.{IsStatement}
@@ -22,13 +23,17 @@ use Rattle.host.proofs.Written.{is-statement}
 pub stayed : (notices : ℕ) (S W : List ℕ) → (IsStatement notices S → ⊥) → AppendedText notices S W 513 W
 stayed notices S W f = record { went = λ s. absurd (f s); refused = λ g. (refl, refl) }
 
-pub went-in : (notices : ℕ) (S B : List ℕ) (r : ReadStatement) → ReadOf S notices B r → r.ok ≡ true
-    → (W W' : List ℕ) (placed : Placed) → Appended W W' r.statement B placed → (n : ℕ) → n ≡ place_number placed → AppendedText notices S W n W'
+place-is : (placed : Result ℕ Full) → result_unwrap_or placed 512 ≡ place_number placed
+place-is (Ok i) = refl
+place-is (Err full) = refl
+
+pub went-in : (notices : ℕ) (S B : List ℕ) (st : Statement) → ReadOf S notices B (Some st)
+    → (W W' : List ℕ) (placed : Result ℕ Full) → Appended W W' st B placed → (n : ℕ) → n ≡ result_unwrap_or placed 512 → AppendedText notices S W n W'
 unfolding is-statement
-went-in notices S B r p ok W W' placed a n e =
-    let s : IsStatement notices S = is-statement notices S B r p ok in
+went-in notices S B st p W W' placed a n e =
+    let s : IsStatement notices S = is-statement notices S B st p in
     record {
-      went = λ _. record { statement = r.statement; block = B; rules = s.rules; is = s.is; placed = placed; appended = a; answer = e };
+      went = λ _. record { statement = st; block = B; rules = s.rules; is = s.is; placed = placed; appended = a; answer = e ∙ place-is placed };
       refused = λ f. absurd (f s);
     }
 

@@ -6,13 +6,14 @@ use native.Mathlib.Decide.{dec_lt}
 use native.Mathlib.Omega.{arith}
 use mathlib.Core.Path.{◌≡◌, refl, sym, ap, ap₂, ◌∙◌}
 use mathlib.Core.Bool.{Bool, true, false, cond, not, ◌&&◌}
-use mathlib.Core.List.{List, [], ◌∷◌, ◌++◌, map, append-nil}
+use mathlib.Core.List.{List, [], ◌∷◌, ◌++◌, map, append_assoc, append-nil}
 use mathlib.Core.Option.{Option}
 use lib.Dec.{ltb}
-use lib.ListN.{length, get_or, replicate, length-append, length-map, get_or-map, get_or-eq_default, drop_of_length-le}
-use lib.Seq.{sets, sets-eq}
+use lib.ListN.{length, take, drop, get_or, replicate, length-append, length-map, get_or-map, get_or-eq_default, drop_of_length-le}
+use lib.Seq.{sets, sets-eq, drop-drop}
 use borrow.Author.Tests.{lt-ltb, le-ltb}
 use mir.Val.{bool_byte}
+use borrow.Rule.Slice.PartMut.{put_mid}
 use Rattle.text.proofs.Stores.{sets-append}
 use Rattle.views.specs.View.{view_of, views_of, word_of}
 use Rattle.views.proofs.Tables.{views-count}
@@ -22,7 +23,7 @@ use Rattle.protocol.specs.Sets.{bit, one, set_of}
 use Rattle.protocol.specs.Lists.{first, when, given, is_some, otherwise, list_of}
 use Rattle.protocol.specs.View.{View, Ring}
 use Rattle.protocol.specs.Statement.{Stmt}
-use Rattle.protocol.specs.Evidence.{wished, candidates, greatest, certificates, is_stored}
+use Rattle.protocol.specs.Evidence.{candidates, certificates, is_stored}
 use Rattle.protocol.proofs.Bits.{bit-zero, bit-set_of, bits-ext}
 use Rattle.protocol.proofs.Numbered.{list_of-length, list_of-at, list_of-cong}
 use Rattle.evidence.specs.declared.Evidence.{Evidence}
@@ -73,12 +74,13 @@ pub payloads-all : (certified : ℕ) (P : List ℕ) → list_of 64 (payload_in c
 unfolding payloads_in
 payloads-all certified P = list_of-cong 64 _ _ (λ i l. same-choice (bit certified i) (get_or P i 0))
 
-pub payload-at : (certified : ℕ) (P l : List ℕ) → l ≡ payloads_in certified P → (i : ℕ) → i < 64 → get_or l i 0 ≡ payload_in certified P i
-payload-at certified P l e i h = ap (λ k. get_or k i 0) (e ∙ sym (payloads-all certified P)) ∙ list_of-at 64 (payload_in certified P) i 0 h
-
-payloads-long : (certified : ℕ) (P : List ℕ) → length (payloads_in certified P) ≡ 64
+pub payloads-long : (certified : ℕ) (P : List ℕ) → length (payloads_in certified P) ≡ 64
 unfolding payloads_in
 payloads-long certified P = list_of-length 64 (λ i. if bit certified i then get_or P i 0 else 0)
+
+-- words that take the place of the last sixty-four
+pub last-written : (out vs : List ℕ) → length out ≡ 104 → length vs ≡ 64 → put_mid 40 64 out vs ≡ sets out 40 vs
+last-written out vs h e = ap (λ r. take 40 out ++ (vs ++ r)) (drop-drop 64 40 out) ∙ sym (sets-eq vs out 40 (omega arith) ∙ append_assoc (take 40 out) vs (drop (40 + length vs) out) ∙ ap (λ k. take 40 out ++ (vs ++ drop (40 + k) out)) e)
 
 -- ---- all hundred and four
 

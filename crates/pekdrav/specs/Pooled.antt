@@ -1,8 +1,7 @@
 -- What is promised of a pool whose statements go in and come out by their text.
 -- Assumes nothing.
-use Rattle.std.specs.Prelude.{ℕ, ◌≡◌, Bool, cond, ◌&&◌, List, T, ltb, leb, length}
-use Rattle.pool.specs.declared.Placed.{Placed}
-use Rattle.pool.specs.declared.Placed.TheVariants.{At, Full}
+use Rattle.std.specs.Prelude.{ℕ, ◌≡◌, Bool, cond, ◌&&◌, List, Result, Ok, Err, T, ltb, leb, length}
+use Rattle.pool.specs.declared.Full.{Full}
 use Rattle.pool.specs.Pool.{stmt_at, pool_len}
 use Rattle.pool.specs.Changes.{Appended}
 use Rattle.statements.specs.declared.Statement.{Statement}
@@ -13,9 +12,9 @@ use Rattle.std.proofs.lemmas.List.Edits.{sets}
 use Rattle.host.specs.Statement.{IsStatement}
 
 -- The number that is answered for where a statement went.
-abbrev pub place_number : Placed → ℕ
-place_number (At i) = i
-place_number Full = 512
+abbrev pub place_number : Result ℕ Full → ℕ
+place_number (Ok i) = i
+place_number (Err full) = 512
 
 -- The statement of S, in a ring with this number of notices, went into the pool W, as `placed` says, and W' is the memory then: `pooled_in` names every word of it.
 pub record Went (notices : ℕ) (S W W' : List ℕ) (r : ℕ) : Type 0 where
@@ -23,7 +22,7 @@ pub record Went (notices : ℕ) (S W W' : List ℕ) (r : ℕ) : Type 0 where
   pub block : List ℕ
   pub rules : T (keeps_rules notices (stmt_of statement block))
   pub is : S ≡ text (stmt_of statement block)
-  pub placed : Placed
+  pub placed : Result ℕ Full
   pub appended : Appended W W' statement block placed
   pub answer : r ≡ place_number placed
 

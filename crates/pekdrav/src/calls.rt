@@ -1,5 +1,5 @@
-// The engine's calls, one at a time, on a controller in lent memory. Its fields are one array and its record another, since the borrow checker covers no reference to a
-// struct; a host has both in one struct, and a thin wrapper around each of these. A call that has no use for its record is not lent it. Each answers 0 taken, 1 signed, 2 entered,
+// The engine's calls, one at a time, on a controller in lent memory. Its fields are one array and its record another, which are C's forms of
+// them; a host has both in one struct, and a thin wrapper around each of these. A call that has no use for its record is not lent it. Each answers 0 taken, 1 signed, 2 entered,
 // 3 delivered, 4 left, 5 quiet or 6 refused, and tells in `value` the pool number of what was signed, the entered view's word, the delivered payload, the refusal's number, or 0, and
 // beside it the notice that was delivered, or 0.
 ghost use Rattle.std.specs.Prelude.{List, ℕ};
@@ -44,8 +44,8 @@ pub extern "C" fn pekdrav_raw_controller_setup(
         notices: count as usize,
         windows: many as usize,
     };
-    let o = c.setup(ids, number, s, senders, windows);
-    host::finish(fields, o, value)
+    let called = c.setup(ids, number, s, senders, windows);
+    host::finish(fields, called, value)
 }
 
 #[unsafe(no_mangle)]
@@ -56,8 +56,8 @@ pub extern "C" fn pekdrav_raw_controller_join(
     ensures { (R : List ℕ) → Joins fields.old R result fields.new R value.new }
 {
     let c = host::load(fields);
-    let o = c.join();
-    host::finish(fields, o, value)
+    let called = c.join();
+    host::finish(fields, called, value)
 }
 
 #[unsafe(no_mangle)]
@@ -68,8 +68,8 @@ pub extern "C" fn pekdrav_raw_controller_leave(
     ensures { (R : List ℕ) → Leaves fields.old R result fields.new R value.new }
 {
     let c = host::load(fields);
-    let o = c.leave();
-    host::finish(fields, o, value)
+    let called = c.leave();
+    host::finish(fields, called, value)
 }
 
 #[unsafe(no_mangle)]
@@ -82,8 +82,8 @@ pub extern "C" fn pekdrav_raw_controller_send(
     ensures { (R : List ℕ) → Sends fields.old R notice payload result fields.new R value.new }
 {
     let c = host::load(fields);
-    let o = c.send(notice as u64, payload);
-    host::finish(fields, o, value)
+    let called = c.send(notice as u64, payload);
+    host::finish(fields, called, value)
 }
 
 // Adds the statement whose text `line` is in the controller's ring. No addition changes a controller, so its fields are only read.
@@ -114,6 +114,6 @@ pub extern "C" fn pekdrav_raw_controller_turn(
     ensures { TakesTurn words.old words.new fields.old ids.old minute result fields.new ids.new value.new }
 {
     let c = host::load(fields);
-    let o = c.turn_in(ids, words, keys, groups, minute);
-    host::finish(fields, o, value)
+    let called = c.turn_in(ids, words, keys, groups, minute);
+    host::finish(fields, called, value)
 }

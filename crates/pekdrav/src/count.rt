@@ -1,5 +1,5 @@
 // Quorums, counted in a record in lent memory: yes or no, and how many statements were read.
-ghost use Rattle.std.specs.Prelude.{◌≡◌, length};
+ghost use Rattle.std.specs.Prelude.{◌≡◌};
 ghost use Rattle.protocol.specs.Count.{count_quorum};
 ghost use Rattle.views.specs.View.{view_of, ring_of_word};
 ghost use Rattle.views.specs.Tally.{count_is};
@@ -17,25 +17,11 @@ use votes::Question;
 // How many words a count is told in.
 const WORDS: usize = 2;
 
-const REACHED: usize = 0;
-
-const READ: usize = 1;
-
-// How many words the memory has: a proof that each was written asks for it.
-fn room(out: &[u64; WORDS]) -> usize
-    ensures { length out.now ≡ 2 }
-{
-    let s = &out[..];
-    s.len()
-}
-
 // Tells a count.
 fn tell(out: &mut [u64; WORDS], c: Count)
     ensures { out.new ≡ count_words (count_is c) }
 {
-    room(out);
-    out[REACHED] = c.reached as u64;
-    out[READ] = c.read as u64;
+    *out = [c.reached as u64, c.read as u64];
 }
 
 // Counts those who signed a vote of a kind at a view: an agree-view (3) for the view `what`, an agree-history (4) for the first `length` views of `history`, an ack (7) or a store (8)
@@ -98,10 +84,7 @@ pub extern "C" fn pekdrav_raw_record_count_reports(
         &mut greatest,
         &mut certs,
     );
-    if e.conflict {
-        return 0;
-    }
-    if e.many {
+    if e.conflict || e.many {
         return 0;
     }
     tell(

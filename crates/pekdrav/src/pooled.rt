@@ -1,24 +1,14 @@
 // A pool whose statements go in and come out by their text.
-ghost use Rattle.std.specs.Prelude.{◌≡◌};
 ghost use Rattle.pool.specs.Changes.{Cleared};
-ghost use Rattle.pekdrav.specs.Pooled.{place_number, AppendedText, Texted};
+ghost use Rattle.pekdrav.specs.Pooled.{AppendedText, Texted};
 
-use pool::{CAPACITY, POOL_WORDS, Placed};
+use pool::{CAPACITY, POOL_WORDS};
 use statements::BLOCK;
 
 // What is answered for a statement that has no room, and for a line that is none.
 const POOL_FULL: u16 = CAPACITY as u16;
 
 const NO_STATEMENT: u16 = POOL_FULL + 1;
-
-fn place_number(p: Placed) -> u16
-    ensures { result ≡ place_number p }
-{
-    match p {
-        Placed::At(i) => i,
-        Placed::Full => POOL_FULL,
-    }
-}
 
 // The number of the statement that `line` is in a ring of so many notices, which goes to the end of the pool if it is not in it: its words and the number of
 // statements are written, and no other. `POOL_FULL`, and the pool as it was, where it is full; `NO_STATEMENT`, and the pool as it was, where
@@ -32,13 +22,10 @@ pub extern "C" fn pekdrav_pool_append(
     ensures { AppendedText notices line.now words.old result words.new }
 {
     let mut block = [0u64; BLOCK];
-    let r = statements::read(line, notices, &mut block);
-    if !r.ok {
+    let Some(statement) = statements::read(line, notices, &mut block) else {
         return NO_STATEMENT;
-    }
-    let st = r.statement;
-    let p = pool::append(words, st, &block);
-    place_number(p)
+    };
+    pool::append(words, statement, &block).unwrap_or(POOL_FULL)
 }
 
 // An empty pool.

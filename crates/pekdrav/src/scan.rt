@@ -17,10 +17,7 @@ fn is_at(words: &[u64; POOL_WORDS], n: u16, kind: u8, at: u64) -> bool
 {
     let k = pool::kind(words, n);
     let t = pool::at(words, n);
-    if at >= WORDS {
-        return false;
-    }
-    k * WORDS + t == kind as u64 * WORDS + at
+    at < WORDS && k * WORDS + t == kind as u64 * WORDS + at
 }
 
 // The set of those who signed a statement of this kind at this view, bit k for controller k, in a record.
@@ -34,18 +31,15 @@ pub extern "C" fn pekdrav_record_signers(
     ensures { IsSet result (signs (is_at kind (view_of at)) (record_in words.now ids.now)) }
 {
     let end = pool::record_length(ids);
-    let mut seen = 0u32;
-    let mut i = 0usize;
-    while i < end {
+    let mut seen = 0;
+    for i in 0..end {
         let n = ids[i];
         let hit = is_at(words, n, kind, at);
         // Most are passed over, so who signed is read only where it counts.
         if !hit {
-            i += 1;
             continue;
         }
         seen = views::note(seen, hit, pool::origin(words, n));
-        i += 1;
     }
     seen
 }

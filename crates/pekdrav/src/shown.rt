@@ -37,28 +37,10 @@ const PAYLOADS: usize = GREATEST + View::LIMIT;
 
 const TOLD_WORDS: usize = PAYLOADS + NOTICES;
 
-// A view's word, which is told as it is.
-fn told(v: u64) -> u64
-    ensures { result ≡ word_of (view_of v) }
-{
-    v
-}
-
 fn when(yes: bool, n: u64) -> u64
     ensures { result ≡ cond yes n 0 }
 {
-    if yes {
-        return n;
-    }
-    0
-}
-
-// How many words the memory has: a proof that each was written asks for it.
-fn room(out: &[u64; TOLD_WORDS]) -> usize
-    ensures { length out.now ≡ 104 }
-{
-    let s = &out[..];
-    s.len()
+    if yes { n } else { 0 }
 }
 
 // The first `n` of the views, and 0 after the last, in sixteen words.
@@ -66,10 +48,8 @@ fn tell(out: &mut [u64; TOLD_WORDS], from: usize, views: &[u64; View::LIMIT], n:
     requires { from ≤ 24 }
     ensures { out.new ≡ sets out.old from (sixteen (views_of views.now n)) }
 {
-    let mut i = 0usize;
-    while i < View::LIMIT {
-        out[from + i] = when((i as u64) < n, told(views[i]));
-        i += 1;
+    for i in 0..View::LIMIT {
+        out[from + i] = when((i as u64) < n, views[i]);
     }
 }
 
@@ -90,12 +70,7 @@ fn payloads_of(certified: u64, certs: &[u64; NOTICES]) -> [u64; NOTICES]
 fn tell_payloads(out: &mut [u64; TOLD_WORDS], certified: u64, certs: &[u64; NOTICES])
     ensures { out.new ≡ sets out.old 40 (payloads_in certified certs.now) }
 {
-    let payloads = payloads_of(certified, certs);
-    let mut j = 0usize;
-    while j < NOTICES {
-        out[PAYLOADS + j] = payloads[j];
-        j += 1;
-    }
+    out[PAYLOADS..].copy_from_slice(&payloads_of(certified, certs));
 }
 
 // Tells the evidence of a record, in the ring of this initial view and of the notices of the first `count` senders: in words 0 to 7 whether there is a conflict, whether there
@@ -116,7 +91,6 @@ pub extern "C" fn pekdrav_raw_record_evidence(
 )
     ensures { out.new ≡ told_of (ring_of_word init) (senders_of senders.now count) (record_in words.now ids.now) }
 {
-    room(out);
     let mut candidates = [0u64; View::LIMIT];
     let mut greatest = [0u64; View::LIMIT];
     let mut certs = [0u64; NOTICES];
@@ -141,7 +115,7 @@ pub extern "C" fn pekdrav_raw_record_evidence(
     let length = when(agreed, e.length as u64);
     out[CONFLICT] = e.conflict as u64;
     out[MANY] = (agreed & e.many) as u64;
-    out[WISHED] = told(e.wished);
+    out[WISHED] = e.wished;
     out[COUNT] = few;
     out[LENGTH] = length;
     out[CERTIFIED] = certified;

@@ -10,10 +10,8 @@ pub extern "C" fn pekdrav_statement_rewrite(line: &[u8], notices: usize, out: &m
     ensures { Again notices line.now out.old result out.new }
 {
     let mut block = [0u64; BLOCK];
-    let r = statements::read(line, notices, &mut block);
-    if !r.ok {
-        return 0;
+    match statements::read(line, notices, &mut block) {
+        Some(statement) => statements::write(statement, &block, out),
+        None => 0,
     }
-    let st = r.statement;
-    statements::write(st, &block, out)
 }

@@ -71,10 +71,7 @@ pub extern "C" fn pekdrav_raw_record_who_reported(
         &mut greatest,
         &mut certs,
     );
-    if e.conflict {
-        return 0;
-    }
-    if e.many {
+    if e.conflict || e.many {
         return 0;
     }
     *out = evidence::reporters(
@@ -151,7 +148,7 @@ pub extern "C" fn pekdrav_raw_record_store_set(
 ) -> u32
     ensures { result ≡ stores_of (ring_of_word init) (senders_of senders.now count) (record_in words.now ids.now) notice payload }
 {
-    if notice as usize >= statements::few(count as usize) {
+    if notice as usize >= usize::from(count).min(NOTICES) {
         return 0;
     }
     let mut candidates = [0u64; View::LIMIT];

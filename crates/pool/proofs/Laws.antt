@@ -1,19 +1,21 @@
 -- The views of a statement of the pool: as a list by index, whether a history has them all, and that each is one of the sixteen controllers.
 -- Assumes nothing.
-use mathlib.Core.Path.{◌≡◌, sym, ap, ◌∙◌}
-use mathlib.Core.Bool.{Bool, true, false, cond}
-use mathlib.Core.List.{List, [], ◌∷◌}
-use Prim.Native.Nat.{ℕ, ◌+◌, ◌<◌}
+use mathlib.Core.Path.{◌≡◌, refl, sym, ap, ◌∙◌}
+use mathlib.Core.Bool.{Bool, true, false, cond, ◌&&◌, and-false}
+use mathlib.Core.List.{List, [], ◌∷◌, map}
+use Prim.Native.Nat.{ℕ, ◌+◌, ◌≤◌, ◌<◌}
 use native.Mathlib.Omega.{arith}
-use lib.Dec.{eqb}
-use lib.ListN.{get_or}
+use lib.Dec.{eqb, leb}
+use borrow.Author.Tests.{le-leb}
+use Rattle.std.proofs.lemmas.List.{length-map}
+use lib.ListN.{length, get_or}
 use Rattle.protocol.specs.Lists.{any, all, list_of}
-use Rattle.protocol.specs.View.{View, same_view}
-use Rattle.protocol.specs.History.{holds}
-use Rattle.protocol.specs.Statement.{no_group, only, group_of, payload_of}
+use Rattle.protocol.specs.View.{View, same_view, has_members}
+use Rattle.protocol.specs.History.{holds, is_history}
+use Rattle.protocol.specs.Statement.{is_rising, no_group, only, group_of, payload_of}
 use Rattle.protocol.proofs.Bits.{Fits}
 use Rattle.protocol.proofs.Numbered.{list_of-at}
-use Rattle.views.specs.View.{view_of}
+use Rattle.views.specs.View.{view_of, view_in, ring_of_word}
 use Rattle.views.proofs.Tables.{all-zero, all_more, all-miss}
 use Rattle.views.proofs.Views.{fits_in}
 use Rattle.pool.specs.Pool.{at_from, view_from, payload_from, word, view_word, count_of, view_at, group_count, told_at, groups_at, stmt_at}
@@ -62,6 +64,10 @@ module _ (W : List ℕ) (n : ℕ) where
   unfolding stmt_at
   kind-small = omega arith
 
+  pub origin-small : (stmt_at W n).origin < 256
+  unfolding stmt_at
+  origin-small = omega arith
+
   pub at-fits : Fits 16 (stmt_at W n).at
   unfolding stmt_at
   at-fits = fits_in (word W n at_from)
@@ -91,3 +97,25 @@ module _ (W : List ℕ) (n : ℕ) where
 
   pub report-group : (j : ℕ) → eqb (stmt_at W n).kind 5 ≡ true → j < group_count W n → group_of (stmt_at W n) j ≡ told_at W n j
   report-group j e l = ap (λ k. get_or k j no_group) (report-groups e) ∙ list_of-at (group_count W n) (told_at W n) j no_group l
+
+-- ---- a history, by its tests
+
+pub history-none : (init : ℕ) (ws : List ℕ) → length ws ≡ 0 → false ≡ is_history (ring_of_word init) (map view_in ws)
+unfolding is_history
+history-none init [] e = refl
+history-none init (x ∷ ws) e = absurd (omega arith)
+
+pub history-tests : (init : ℕ) (ws : List ℕ) → 0 < length ws → length ws ≤ 16
+    → (same_view (view_in (get_or ws 0 0)) (view_of init) && (all (has_members 16) (map view_in ws) && is_rising 16 (map view_in ws))) ≡ is_history (ring_of_word init) (map view_in ws)
+unfolding is_history
+history-tests init [] l h = absurd (omega arith)
+history-tests init (x ∷ ws) l h =
+    shape (same_view (view_in x) (view_of init)) (all (has_members 16) (map view_in (x ∷ ws))) (is_rising 16 (map view_in (x ∷ ws))) (leb (length (map view_in (x ∷ ws))) 16)
+    (le-leb (length (map view_in (x ∷ ws))) 16 (omega (arith, length-map (x ∷ ws) view_in)))
+  where
+    shape : (a s r m : Bool) → m ≡ true → (a && (s && r)) ≡ (((a && r) && m) && s)
+    shape true true true m e = sym (ap (λ b. b && true) e)
+    shape true true false m e = refl
+    shape true false true m e = sym (and-false (true && m))
+    shape true false false m e = refl
+    shape false s r m e = refl

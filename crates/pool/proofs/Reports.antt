@@ -15,7 +15,7 @@ use lib.Seq.{sets, take_all}
 use borrow.Author.Tests.{eq-eqb, ne_eqb, lt-ltb, le-ltb}
 use Rattle.protocol.specs.Lists.{when, list_of}
 use Rattle.protocol.specs.Sets.{bit, set_of}
-use Rattle.protocol.specs.Statement.{Group, no_group, only, stored_number, tells, unbound, bound, barred, same_group, same_groups}
+use Rattle.protocol.specs.Statement.{Group, no_group, only, stored_number, tells, same_group, same_groups}
 use Rattle.protocol.proofs.Bits.{bit-and, bit-zero, bit-set_of}
 use Rattle.protocol.proofs.Numbered.{list_of-length, list_of-at, list_of-cong}
 use Rattle.protocol.proofs.Says.{is_true, from-true, says_map, says-unique, says-eqb}
@@ -25,7 +25,6 @@ use Rattle.views.proofs.Views.{fails}
 use Rattle.statements.specs.declared.Binding.{Binding}
 use Rattle.statements.specs.declared.Told.{Told}
 use Rattle.statements.specs.Block.{binding_is, told_is, block_word, bound_or_barred, binding_at, group_at, groups_of, TellsGroup}
-use Rattle.statements.specs.Sets.{Except}
 use Rattle.statements.proofs.NoticeSets.{same_set}
 use Rattle.statements.proofs.Tells.{groups-more as block_more}
 use Rattle.pool.specs.Pool.{payload_from, bound_from, barred_from, stored_from, told_from, head_at, word, group_count, told_bound, told_barred, told_stored, told_payload, told_kept, told_by, told_at, groups_at, stmt_at}
@@ -98,30 +97,6 @@ pub block-tellable : (B : List ℕ) (j : ℕ) → Tellable (group_at B j)
 unfolding group_at binding_at
 block-tellable B j = tellable (bit (block_word B 0) j) (bit (block_word B 1) j) (bit (block_word B 2) j) (block_word B (3 + 2 * j)) (block_word B (4 + 2 * j))
 
--- ---- the binding, by its tests
-
-barred-first : (y : Bool) (m : ℕ) → barred ≡ bound_or_barred y true m
-barred-first true m = refl
-barred-first false m = refl
-
--- w is the set that is barred, and v the one that is bound
-module _ (b x m j w v : ℕ) {r : Bool} (ew : w ≡ x) (er : r ≡ bit w j) where
-  in-barred : r ≡ bit x j
-  in-barred = er ∙ ap (λ y. bit y j) ew
-
-  pub barred-told : r ≡ true → barred ≡ bound_or_barred (bit b j) (bit x j) m
-  barred-told e = barred-first (bit b j) m ∙ ap (λ c. bound_or_barred (bit b j) c m) (sym e ∙ in-barred)
-
-  module _ {q : Bool} (out : r ≡ false) (ev : v ≡ b) (eq : q ≡ bit v j) where
-    in-bound : q ≡ bit b j
-    in-bound = eq ∙ ap (λ y. bit y j) ev
-
-    pub bound-told : (k : ℕ) → k ≡ m → q ≡ true → bound k ≡ bound_or_barred (bit b j) (bit x j) m
-    bound-told k ek e = ap bound ek ∙ ap₂ (λ y z. bound_or_barred y z m) (sym e ∙ in-bound) (sym out ∙ in-barred)
-
-    pub unbound-told : q ≡ false → unbound ≡ bound_or_barred (bit b j) (bit x j) m
-    unbound-told e = ap₂ (λ y z. bound_or_barred y z m) (sym e ∙ in-bound) (sym out ∙ in-barred)
-
 -- what is told, by its binding and what is stored
 pub told-made : (W : List ℕ) (n j : ℕ) (b : Binding) (s : Bool) (k w : ℕ) → binding_is b ≡ bound_or_barred (bit (told_bound W n) j) (bit (told_barred W n) j) (told_payload W n j) → w ≡ told_stored W n → s ≡ bit w j
     → k ≡ told_kept W n j → tells (binding_is b) (when s k) ≡ told_at W n j
@@ -130,23 +105,21 @@ told-made W n j b s k w eb ew es ek = ap₂ tells eb (ap₂ when (es ∙ ap (λ 
 
 -- ---- the same is told
 
--- the four fields tell
-pub group-tells : (a b : Group) (r : Bool) → a.binding ≡ b.binding → a.payload ≡ b.payload → a.stored ≡ b.stored → r ≡ eqb a.kept b.kept → r ≡ same_group a b
-group-tells a b r e f g q =
-    q ∙ says-unique (says_map (λ h i. record { binding = e i; payload = f i; stored = g i; kept = h i }) (ap (λ x. x.kept)) says-eqb) says-same-group
+-- the third field tells whether a payload is stored
 
-pub group-differs : {A : Type 0} (g : Group → A) (a b : Group) → (g a ≡ g b → ⊥) → false ≡ same_group a b
-group-differs g a b d = sym (fails says-same-group (λ e. d (ap g e)))
+pub stored-same : (s t : Bool) (k m : ℕ) → s ≡ t → stored_number (when s k) ≡ stored_number (when t m)
+stored-same true true k m e = refl
+stored-same true false k m e = absurd (true≢false e)
+stored-same false true k m e = absurd (true≢false (sym e))
+stored-same false false k m e = refl
 
--- the third field is 1 where a payload is stored
-pub stored-flag : (s : Bool) (k : ℕ) → cond s 1 0 ≡ stored_number (when s k)
-stored-flag true k = refl
-stored-flag false k = refl
+pub stored-other : (s t : Bool) (k m : ℕ) → (s ≡ t → ⊥) → stored_number (when s k) ≡ stored_number (when t m) → ⊥
+stored-other true true k m d e = d refl
+stored-other true false k m d e = omega arith
+stored-other false true k m d e = omega arith
+stored-other false false k m d e = d refl
 
 -- how many groups there are
-
-pub many-plain : (kind groups : ℕ) → (kind ≡ 5 → ⊥) → 1 ≡ groups_many kind groups
-many-plain kind groups n = sym (ap (λ b. cond b (min groups 64) 1) (ne_eqb kind 5 n))
 
 pub many-report : (kind groups r : ℕ) → kind ≡ 5 → r ≡ min groups 64 → r ≡ groups_many kind groups
 many-report kind groups r e q = q ∙ sym (ap (λ b. cond b (min groups 64) 1) (eq-eqb kind 5 e))
@@ -254,9 +227,6 @@ first-few x c l h = ap (λ p. x % p) power ∙ set-of-bits (x % 2 ^ c) (λ j. lt
 -- a set by what is asked of each
 pub set-cong : (p q : ℕ → Bool) → ((k : ℕ) → k < 64 → p k ≡ q k) → set_of 64 p ≡ set_of 64 q
 set-cong p q h = set-of-bits (set_of 64 p) q (set_of-lt 64 p) (λ k l. bit-set_of 64 p k l ∙ h k l)
-
-pub first-without : (x y c e r : ℕ) → Except x y e → r ≡ first_bits c (bit e) → r ≡ first_bits c (bit_without x y)
-first-without x y c e r h q = q ∙ set-cong _ _ (λ k m. ap (λ b. ltb k c && b) (h.bits k))
 
 -- ---- the sets of what is told of c notices
 

@@ -1,37 +1,43 @@
 -- Laws of comparing, finding and appending statements, and of what stays as it was.
 -- Assumes nothing.
-use Rattle.std.specs.Prelude.{if◌then◌else◌}
+use Rattle.std.specs.Prelude.{if◌then◌else◌, Result, Ok, Err, Some, None}
 use mathlib.Core.Path.{◌≡◌, refl, sym, ap, ap₂, subst, ◌∙◌}
-use mathlib.Core.Bool.{Bool, true, false, cond, not, ◌||◌, true≢false}
-use mathlib.Core.List.{List, [], ◌∷◌, ◌++◌}
+use mathlib.Core.Bool.{Bool, true, false, cond, not, ◌&&◌, ◌||◌, true≢false}
+use mathlib.Core.List.{List, [], ◌∷◌}
 use mathlib.Core.Option.{Option, some, none}
 use Prim.Native.Nat.{ℕ, zero, suc, ◌+◌, ◌*◌, ◌/◌, ◌%◌, ◌≤◌, ◌<◌, min}
-use native.Mathlib.Decide.{dec_lt}
-use native.Mathlib.Numerals.{add-one}
 use native.Mathlib.Omega.{arith}
 use lib.Dec.{eqb, leb}
 use lib.ListN.{length, get_or, set, replicate, length-set}
 use lib.Seq.{get_or-set_same}
-use borrow.Author.Tests.{eq-eqb, lt-ltb, le-ltb, le-leb, lt-leb, leb-false}
+use borrow.Author.Tests.{eq-eqb, eqb-true, lt-ltb, le-ltb, le-leb, lt-leb, leb-false}
 use Rattle.protocol.specs.Lists.{find, is_some, when, list_of}
 use Rattle.protocol.specs.Sets.{bit}
+use Rattle.protocol.specs.View.{same_view}
 use Rattle.protocol.specs.History.{same_views}
 use Rattle.protocol.specs.Statement.{Group, Stmt, only, tells, same_groups, same_stmt}
 use Rattle.protocol.proofs.Says.{is_true, from-true, says_map, says-unique}
 use Rattle.protocol.proofs.Numbered.{list_of-cong}
-use Rattle.protocol.proofs.Decided.{says-sames}
+use Rattle.protocol.proofs.Decided.{says-sames, says_same}
 use Rattle.protocol.proofs.Asked.{says-same-groups, says-same-stmt}
 use Rattle.views.specs.View.{view_of, view_in}
 use Rattle.views.specs.Held.{view_is}
-use Rattle.views.proofs.Views.{fails, same-yes, view-eqb, view-inj}
+use Rattle.views.specs.Options.{option_of}
+use Rattle.std.specs.List.{range_with_len, find as first_of}
+use Rattle.std.specs.Option.{option_map}
+use Rattle.std.specs.Prelude as Prelude
+use Rattle.std.proofs.lemmas.List.{map-id}
+use Rattle.std.proofs.lemmas.Iterator.Adapters.{option_map_id}
+use Rattle.views.proofs.Chains.{map-below, find-is}
+use Rattle.views.proofs.Options.{option-some, option-none}
+use Rattle.views.proofs.Views.{fails, same-yes, view-eqb}
 use Rattle.statements.specs.declared.Statement.{Statement}
-use Rattle.statements.specs.Block.{bound_or_barred}
+use Rattle.statements.specs.Block.{bound_or_barred, groups_of}
 use Rattle.statements.specs.Meaning.{first_views, stmt_of}
-use Rattle.pool.specs.declared.Found.TheVariants as found
-use Rattle.pool.specs.declared.Placed.TheVariants as placed
+use Rattle.pool.specs.declared.Full.{Full}
 use Rattle.pool.specs.Pool.{at_from, view_from, payload_from, bound_from, barred_from, stored_from, views_from, told_from, last_word, pool_words, head_at, word, view_word, count_of, view_at, group_count, told_payload, told_kept, told_by, told_at, groups_at, stmt_at, pool_len, pool_of}
-use Rattle.pool.specs.Steps.{head_of_held, is_other, Put, found_of}
-use Rattle.pool.specs.Changes.{head_of, owner, Beside, put_at, pool_number, placed_at, pooled_in, Appended, Cleared}
+use Rattle.pool.specs.Steps.{head_of_held, is_other, Sought, Put}
+use Rattle.pool.specs.Changes.{head_of, owner, Beside, put_at, pool_number, no_room, placed_at, pooled_in, Appended, Cleared}
 use Rattle.pool.proofs.Parts.{low_parts}
 use Rattle.pool.proofs.Writes.{stmts, owner-low, owner-view, owner-told, beside-put, beside-count, beside_same}
 
@@ -57,10 +63,6 @@ others-differ st B b key t r e g k v = fails says-same-stmt (λ q. true≢false 
 
 -- one with another view, or other views, is another
 
-pub view-other : (st : Statement) (B : List ℕ) (b : Stmt) (v w : ℕ) → view_of v ≡ view_is st.view → view_of w ≡ b.view → v < 18446744073709551616 → w < 18446744073709551616 → (w ≡ v → ⊥) → same_stmt (stmt_of st B) b ≡ false
-unfolding stmt_of
-view-other st B b v w e f p q d = sym (differs (λ s. s.view) (stmt_of st B) b (λ z. d (view-inj w v q p (f ∙ sym z ∙ sym e))))
-
 pub history-other : (st : Statement) (B : List ℕ) (b : Stmt) (r : Bool) → r ≡ same_views (first_views st.history.len st.history.views) b.views → r ≡ false → same_stmt (stmt_of st B) b ≡ false
 unfolding stmt_of
 history-other st B b r e t = sym (differs (λ s. s.views) (stmt_of st B) b (λ q. true≢false (sym (is_true (same_views (first_views st.history.len st.history.views) b.views) ((says-sames (first_views st.history.len st.history.views) b.views).complete q)) ∙ sym e ∙ t)))
@@ -77,78 +79,61 @@ groups-same {k} {l} r e t = (says-same-groups k l).sound (from-true (sym e ∙ t
 pub groups-other : (a b : Stmt) (r : Bool) → r ≡ same_groups a.groups b.groups → r ≡ false → false ≡ same_stmt a b
 groups-other a b r e t = differs (λ s. s.groups) a b (λ q. true≢false (sym (is_true (same_groups a.groups b.groups) ((says-same-groups a.groups b.groups).complete q)) ∙ sym e ∙ t))
 
--- ---- the first of a list
+-- the tests of a search tell whether statement b is the one that is sought
 
-abbrev or_else : {A : Type 0} → Option A → Option A → Option A
-or_else none b = b
-or_else (some a) b = some a
+both-tests : (x y : Bool) → (not x || not y) ≡ false → (x ≡ true) × (y ≡ true)
+both-tests true true e = (refl, refl)
+both-tests true false e = absurd (true≢false e)
+both-tests false y e = absurd (true≢false e)
 
-pick : {A : Type 0} (b : Bool) (x : A) (m n k : Option A) → m ≡ or_else n k → (if b then some x else m) ≡ or_else (if b then some x else n) k
-pick true x m n k e = refl
-pick false x m n k e = e
+alike : (b : Stmt) (key t : ℕ) → is_other b key t ≡ false → (head_of b ≡ key) × (b.at ≡ view_of t)
+unfolding is_other
+alike b key t e =
+    let p : (eqb (head_of b) key ≡ true) × (same_view b.at (view_of t) ≡ true) = both-tests (eqb (head_of b) key) (same_view b.at (view_of t)) e in
+    (eqb-true (head_of b) key p.0, says_same.sound (from-true p.1))
 
-module _ {A : Type 0} (p : A → Bool) where
-  find-append : (l k : List A) → find p (l ++ k) ≡ or_else (find p l) (find p k)
-  unfolding find
-  find-append [] k = refl
-  find-append (x ∷ l) k = pick (p x) x (find p (l ++ k)) (find p l) (find p k) (find-append l k)
+module _ (st : Statement) (B : List ℕ) (b : Stmt) (key t v : ℕ) (s : Sought st key t v) (small : (b.kind < 256) × (b.origin < 256)) where
+  -- statement b has the head and the at that are sought
+  module _ (eo : is_other b key t ≡ false) where
+    heads : b.kind + b.origin * 256 + b.notice * 65536 ≡ st.kind + st.origin * 256 + st.notice * 65536
+    unfolding head_of
+    heads = (alike b key t eo).0 ∙ s.head
 
-  find-one : (a : A) (b : Bool) → p a ≡ b → find p (a ∷ []) ≡ (if b then some a else none)
-  unfolding find
-  find-one a b e = ap (λ c. if c then some a else none) e
+    kinds : st.kind ≡ b.kind
+    kinds = omega (arith, heads, s.small)
 
-  find-next : (l : List A) (a : A) (b : Bool) → find p l ≡ none → p a ≡ b → find p (l ++ (a ∷ [])) ≡ (if b then some a else none)
-  find-next l a b e f = find-append l (a ∷ []) ∙ ap₂ or_else e (find-one a b f)
+    of-kind : same_groups (groups_of b.kind st.groups st.payload B) b.groups ≡ same_groups (groups_of st.kind st.groups st.payload B) b.groups
+    of-kind = ap (λ k. same_groups (groups_of k st.groups st.payload B) b.groups) (sym kinds)
 
-  find_at : (f : ℕ → A) (n i : ℕ) → i < n → find p (list_of i f) ≡ none → p (f i) ≡ true → find p (list_of n f) ≡ some (f i)
-  unfolding list_of
-  find_at f zero i l e t = absurd (omega arith)
-  find_at f (suc n) i l e t = elim (dec_lt i n) [
-    | yes m ↦ find-append (list_of n f) (f n ∷ []) ∙ ap (λ o. or_else o (find p (f n ∷ []))) (find_at f n i m e t)
-    | no m ↦ (let q : i ≡ n = omega arith in ap (λ k. find p (list_of k f ++ (f k ∷ []))) (sym q) ∙ find-next (list_of i f) (f i) true e t)
-  ]
-
-  find-more : (f : ℕ → A) (n : ℕ) → find p (list_of n f) ≡ none → p (f n) ≡ false → find p (list_of (n + 1) f) ≡ none
-  unfolding list_of
-  find-more f n e t = rw add-one (find-next (list_of n f) (f n) false e t)
+  pub sought : (not (is_other b key t) && (same_view b.view (view_of v) && (same_views (first_views st.history.len st.history.views) b.views && same_groups (groups_of b.kind st.groups st.payload B) b.groups))) ≡ same_stmt (stmt_of st B) b
+  unfolding stmt_of
+  sought = go (is_other b key t) refl (same_view b.view (view_of v)) refl (same_views (first_views st.history.len st.history.views) b.views) refl (same_groups (groups_of b.kind st.groups st.payload B) b.groups) refl
+    where
+      go : (o : Bool) → is_other b key t ≡ o → (y : Bool) → same_view b.view (view_of v) ≡ y → (h : Bool) → same_views (first_views st.history.len st.history.views) b.views ≡ h
+          → (g : Bool) → same_groups (groups_of b.kind st.groups st.payload B) b.groups ≡ g → (not o && (y && (h && g))) ≡ same_stmt (stmt_of st B) b
+      go true eo y ey h eh g eg = sym (others-differ st B b key t true (sym eo) refl s.head s.place)
+      go false eo false ey h eh g eg = differs (λ s. s.view) (stmt_of st B) b (λ q. true≢false (sym (same-yes b.view (view_of v) (sym q ∙ sym s.seen)) ∙ ey))
+      go false eo true ey false eh g eg = sym (history-other st B b false (sym eh) refl)
+      go false eo true ey true eh false eg = groups-other (stmt_of st B) b false (sym eg ∙ of-kind eo) refl
+      go false eo true ey true eh true eg =
+          views-tell (stmt_of st B) b true (kinds eo) (omega (arith, heads eo, s.small)) (sym s.place ∙ sym (alike b key t eo).1) (sym s.seen ∙ sym (says_same.sound (from-true ey))) (omega (arith, heads eo, s.small)) (groups-same true (sym eg ∙ of-kind eo) refl) (sym eh)
 
 -- ---- a number of the pool
 
-module _ (W : List ℕ) (s : Stmt) where
-  -- the first number below n whose statement is s
-  abbrev pub number_to : ℕ → Option ℕ
-  number_to n = find (λ i. same_stmt s (stmt_at W i)) (list_of n (λ i. i))
+-- the first number of the pool whose statement is s, as a range is searched for it
+pub found-in : (W : List ℕ) (s : Stmt) (n : ℕ) (r : Prelude.Option ℕ) → n ≡ pool_len W → option_map (λ x. x) r ≡ first_of (λ i. same_stmt s (stmt_at W i)) (range_with_len 0 n) → r ≡ option_of (pool_number W s)
+unfolding pool_number
+found-in W s n r e q =
+    sym (option_map_id r) ∙ q ∙ find-is (λ i. same_stmt s (stmt_at W i)) (range_with_len 0 n)
+    ∙ ap (λ l. option_of (find (λ i. same_stmt s (stmt_at W i)) l)) (sym (map-id (range_with_len 0 n)) ∙ map-below (λ i. i) n ∙ ap (λ k. list_of k (λ i. i)) e)
 
-  pub seek-none : number_to 0 ≡ none
-  unfolding list_of find
-  seek-none = refl
+-- there was room, or there was none
 
-  pub seek-more : (i : ℕ) (b : Bool) → number_to i ≡ none → b ≡ same_stmt s (stmt_at W i) → b ≡ false → number_to (i + 1) ≡ none
-  seek-more i b e f g = find-more (λ i. same_stmt s (stmt_at W i)) (λ i. i) i e (sym f ∙ g)
-
-  pub seek_found : (i n : ℕ) (b : Bool) → i < n → n ≡ pool_len W → number_to i ≡ none → b ≡ same_stmt s (stmt_at W i) → b ≡ true → found.At i ≡ found_of (pool_number W s)
-  unfolding pool_number
-  seek_found i n b l m e f g = ap found_of (sym (find_at (λ i. same_stmt s (stmt_at W i)) (λ i. i) (pool_len W) i (omega arith) e (sym f ∙ g)))
-
-  pub seek-all : (i : ℕ) → i ≡ pool_len W → number_to i ≡ none → found.Nothing ≡ found_of (pool_number W s)
-  unfolding pool_number
-  seek-all i e f = ap found_of (sym (rw e at f))
-
--- what was found is a number, or none
-
-pub full≢at : {n : ℕ} → placed.Full ≡ placed.At n → ⊥
+pub full≢at : {n : ℕ} → ◌≡◌ {A = Result ℕ Full} (Err no_room) (Ok n) → ⊥
 full≢at e = let z : ◌≡◌ {A = ℕ} 0 1 = cc in omega arith
 
-pub at-injective : {m n : ℕ} → placed.At m ≡ placed.At n → m ≡ n
+pub at-injective : {m n : ℕ} → ◌≡◌ {A = Result ℕ Full} (Ok m) (Ok n) → m ≡ n
 at-injective e = cc
-
-pub found_at : (o : Option ℕ) (i : ℕ) → found.At i ≡ found_of o → o ≡ some i
-found_at none i e = absurd (let n : ◌≡◌ {A = ℕ} 0 1 = cc in omega arith)
-found_at (some j) i e = cc
-
-pub found_none : (o : Option ℕ) → found.Nothing ≡ found_of o → o ≡ none
-found_none none e = refl
-found_none (some j) e = absurd (let n : ◌≡◌ {A = ℕ} 0 1 = cc in omega arith)
 
 -- ---- what stays as it was
 
@@ -222,9 +207,9 @@ module _ (W : List ℕ) (st : Statement) (B : List ℕ) where
   unfolding pooled_in
   stays o b e f = ap₂ (λ x y. pooled_as W (stmt_of st B) (is_some x || y)) e f
 
-  pub append-old : (i : ℕ) → found.At i ≡ found_of (pool_number W (stmt_of st B)) → Appended W W st B (placed.At i)
+  pub append-old : (i : ℕ) → Some i ≡ option_of (pool_number W (stmt_of st B)) → Appended W W st B (Ok i)
   append-old i e =
-      let o : pool_number W (stmt_of st B) ≡ some i = found_at (pool_number W (stmt_of st B)) i e in
+      let o : pool_number W (stmt_of st B) ≡ some i = option-some (pool_number W (stmt_of st B)) i e in
       record {
         answer = ap (λ x. placed_at x (pool_len W)) (sym o);
         is = sym (stays (some i) _ o refl);
@@ -233,25 +218,25 @@ module _ (W : List ℕ) (st : Statement) (B : List ℕ) where
         new = λ f l. absurd (let n : ◌≡◌ {A = ℕ} 0 1 = cc in omega arith);
       }
 
-  pub append-full : (n : ℕ) → found.Nothing ≡ found_of (pool_number W (stmt_of st B)) → n ≡ pool_len W → 512 ≤ n → Appended W W st B placed.Full
+  pub append-full : (n : ℕ) → None ≡ option_of (pool_number W (stmt_of st B)) → n ≡ pool_len W → 512 ≤ n → Appended W W st B (Err no_room)
   append-full n e q l =
-      let o : pool_number W (stmt_of st B) ≡ none = found_none (pool_number W (stmt_of st B)) e in
+      let o : pool_number W (stmt_of st B) ≡ none = option-none (pool_number W (stmt_of st B)) e in
       record {
-        answer = sym (ap (λ x. placed_at x (pool_len W)) o ∙ ap (λ b. if b then placed.At (pool_len W) else placed.Full) (le-ltb (pool_len W) 512 (omega arith)));
+        answer = sym (ap (λ x. placed_at x (pool_len W)) o ∙ ap (λ b. if b then Ok (pool_len W) else (Err no_room)) (le-ltb (pool_len W) 512 (omega arith)));
         is = sym (stays none true o (le-leb 512 (pool_len W) (omega arith)));
         old = λ j f. refl;
         full = λ l. refl;
         new = λ f h. absurd (omega arith);
       }
 
-  pub append-new : (n : ℕ) (U : List ℕ) → length W ≡ pool_words → found.Nothing ≡ found_of (pool_number W (stmt_of st B)) → n ≡ pool_len W → n < 512 → Put W U n st B → Appended W (set U last_word (n + 1)) st B (placed.At n)
+  pub append-new : (n : ℕ) (U : List ℕ) → length W ≡ pool_words → None ≡ option_of (pool_number W (stmt_of st B)) → n ≡ pool_len W → n < 512 → Put W U n st B → Appended W (set U last_word (n + 1)) st B (Ok n)
   append-new n U long e q l p =
-      let o : pool_number W (stmt_of st B) ≡ none = found_none (pool_number W (stmt_of st B)) e in
+      let o : pool_number W (stmt_of st B) ≡ none = option-none (pool_number W (stmt_of st B)) e in
       let u : U ≡ put_at W (pool_len W) (stmt_of st B) = p.is ∙ (let k : min n 511 ≡ pool_len W = omega arith in ap (λ k. put_at W k (stmt_of st B)) k) in
       let b : Beside W U (pool_len W) = subst (λ k. Beside W k (pool_len W)) (sym u) (beside-put W (pool_len W) (stmt_of st B) (omega arith)) in
       let c : Beside W (set U last_word (n + 1)) (pool_len W) = beside-count W U (pool_len W) (n + 1) b in
       record {
-        answer = sym (ap (λ x. placed_at x (pool_len W)) o ∙ ap (λ b. if b then placed.At (pool_len W) else placed.Full) (lt-ltb (pool_len W) 512 (omega arith)) ∙ ap placed.At (sym q));
+        answer = sym (ap (λ x. placed_at x (pool_len W)) o ∙ ap (λ b. if b then Ok (pool_len W) else (Err no_room)) (lt-ltb (pool_len W) 512 (omega arith)) ∙ ap Ok (sym q));
         is = ap₂ (λ k m. set k last_word (m + 1)) u q ∙ sym (stays none false o (lt-leb 512 (pool_len W) (omega arith)));
         old = λ i f. absurd (let z : ◌≡◌ {A = ℕ} 0 1 = cc in omega arith);
         full = λ h. absurd (omega arith);

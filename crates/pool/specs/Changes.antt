@@ -1,7 +1,7 @@
 -- What writing to the pool does, and where a statement is found in it.
 -- Every word after it is fixed: a statement is written in one way, and no other word changes, not even a place after its last view.
 -- Assumes nothing.
-use Rattle.std.specs.Prelude.{◌≡◌, Bool, cond, ◌||◌, List, ◌∷◌, [], ◌++◌, map, ℕ, ◌+◌, ◌-◌, ◌*◌, ◌/◌, ◌%◌, ◌≤◌, ◌<◌, min, eqb, leb, ltb, length, get_or, set, take, if◌then◌else◌}
+use Rattle.std.specs.Prelude.{◌≡◌, Bool, cond, ◌||◌, List, ◌∷◌, [], ◌++◌, map, ℕ, ◌+◌, ◌-◌, ◌*◌, ◌/◌, ◌%◌, ◌≤◌, ◌<◌, min, eqb, leb, ltb, length, get_or, set, take, if◌then◌else◌, Result, Ok, Err}
 use Rattle.std.proofs.Math.Option.{Option, some, none}
 use Rattle.std.proofs.lemmas.List.Edits.{sets}
 use Rattle.protocol.specs.Lists.{find, is_some, list_of}
@@ -10,8 +10,7 @@ use Rattle.protocol.specs.Statement.{Group, Stmt, no_group, same_stmt}
 use Rattle.views.specs.View.{word_of}
 use Rattle.statements.specs.declared.Statement.{Statement}
 use Rattle.statements.specs.Meaning.{stmt_of}
-use Rattle.pool.specs.declared.Placed.{Placed}
-use Rattle.pool.specs.declared.Placed.TheVariants as placed
+use Rattle.pool.specs.declared.Full.{Full}
 use Rattle.pool.specs.Pool.{at_from, view_from, payload_from, bound_from, barred_from, stored_from, views_from, told_from, last_word, pool_words, stmt_at, pool_len, pool_of, record_len, record_in}
 
 -- The statement that word i is of. It is 512 for the number of statements, which is of none.
@@ -79,10 +78,14 @@ put_at W n s =
 unfoldable pub pool_number : List ℕ → Stmt → Option ℕ
 pool_number W s = find (λ i. same_stmt s (stmt_at W i)) (list_of (pool_len W) (λ i. i))
 
+-- What a full pool answers.
+abbrev pub no_room : Full
+no_room = record {}
+
 -- Where a statement goes that was found there, in a pool of this length: its number is used again, or it goes to the end.
-abbrev pub placed_at : Option ℕ → ℕ → Placed
-placed_at none n = if ltb n 512 then placed.At n else placed.Full
-placed_at (some i) n = placed.At i
+abbrev pub placed_at : Option ℕ → ℕ → Result ℕ Full
+placed_at none n = if ltb n 512 then Ok n else Err no_room
+placed_at (some i) n = Ok i
 
 -- The memory W after s went into its pool: as before where s was in it or it is full.
 unfoldable pub pooled_in : List ℕ → Stmt → List ℕ
@@ -96,7 +99,7 @@ pub record Grown (W W' : List ℕ) (st : Statement) (B : List ℕ) : Type 0 wher
   pub beside : Beside W W' (pool_len W)
 
 -- st with the block B is in the pool where r says, and the pool has grown only where st was not in it and there was room.
-pub record Appended (W W' : List ℕ) (st : Statement) (B : List ℕ) (r : Placed) : Type 0 where
+pub record Appended (W W' : List ℕ) (st : Statement) (B : List ℕ) (r : Result ℕ Full) : Type 0 where
   pub answer : r ≡ placed_at (pool_number W (stmt_of st B)) (pool_len W)
   pub is : W' ≡ pooled_in W (stmt_of st B)
   pub old : (i : ℕ) → pool_number W (stmt_of st B) ≡ some i → W' ≡ W

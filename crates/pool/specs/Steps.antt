@@ -1,16 +1,14 @@
 -- What the functions of a search and of a write tell each other.
 -- Assumes nothing.
-use Rattle.std.specs.Prelude.{◌≡◌, Bool, true, cond, not, ◌&&◌, ◌||◌, List, ℕ, ◌+◌, ◌*◌, ◌/◌, ◌%◌, ◌≤◌, min, eqb, ltb}
-use Rattle.std.proofs.Math.Option.{Option, some, none}
+use Rattle.std.specs.Prelude.{◌≡◌, Bool, true, cond, not, ◌&&◌, ◌||◌, List, ℕ, ◌+◌, ◌*◌, ◌/◌, ◌%◌, ◌≤◌, ◌<◌, min, eqb, ltb}
 use Rattle.protocol.specs.Sets.{bit, set_of}
 use Rattle.protocol.specs.View.{same_view}
 use Rattle.protocol.specs.Statement.{Stmt}
 use Rattle.views.specs.View.{view_of}
+use Rattle.views.specs.Held.{view_is}
 use Rattle.statements.specs.declared.Statement.{Statement}
 use Rattle.statements.specs.Block.{group_at}
 use Rattle.statements.specs.Meaning.{stmt_of}
-use Rattle.pool.specs.declared.Found.{Found}
-use Rattle.pool.specs.declared.Found.TheVariants as found
 use Rattle.pool.specs.Pool.{told_at, stmt_at}
 use Rattle.pool.specs.Changes.{head_by, head_of, put_at}
 
@@ -34,6 +32,13 @@ groups_many kind groups = cond (eqb kind 5) (min groups 64) 1
 abbrev pub head_of_held : Statement → ℕ
 head_of_held st = head_by st.kind st.origin st.notice
 
+-- key, at and view are the numbers of the head of st, of its at and of its view. Its kind and its origin are bytes.
+pub record Sought (st : Statement) (key at view : ℕ) : Type 0 where
+  pub head : key ≡ head_of_held st
+  pub place : view_of at ≡ view_is st.at
+  pub seen : view_of view ≡ view_is st.view
+  pub small : (st.kind < 256) × (st.origin < 256)
+
 abbrev pub head_word_of_held : Statement → ℕ
 head_word_of_held st = head_of_held st + min st.history.len 16 * 16777216 + groups_many st.kind st.groups * 4294967296
 
@@ -53,7 +58,3 @@ SaysAlike r B W n = r ≡ true → (j : ℕ) → group_at B j ≡ told_at W n j
 pub record Put (W W' : List ℕ) (n : ℕ) (st : Statement) (B : List ℕ) : Type 0 where
   pub is : W' ≡ put_at W (min n 511) (stmt_of st B)
   pub there : st.history.len ≤ 16 → stmt_at W' n ≡ stmt_of st B
-
-abbrev pub found_of : Option ℕ → Found
-found_of none = found.Nothing
-found_of (some i) = found.At i

@@ -1,29 +1,27 @@
 // What the views of one statement are, and whether two statements have the same.
-ghost use Rattle.std.specs.Prelude.{◌≡◌};
-ghost use Rattle.protocol.specs.Lists.{any};
-ghost use Rattle.protocol.specs.View.{same_view};
+ghost use Rattle.std.specs.Prelude.{◌≡◌, ◌<◌, map, length};
+ghost use Rattle.protocol.specs.Lists.{any, all};
+ghost use Rattle.protocol.specs.View.{same_view, has_members};
 ghost use Rattle.protocol.specs.History.{same_views, is_history, top};
-ghost use Rattle.views.specs.View.{view_of, ring_of_word};
+ghost use Rattle.protocol.specs.Statement.{is_rising};
+ghost use Rattle.views.specs.View.{view_of, view_in, ring_of_word};
 ghost use Rattle.pool.specs.Pool.{stmt_at};
 
 use crate::{POOL_WORDS, read};
+
+// Whether the word w of a statement is the view t.
+pub fn is_view(w: u64, t: u64) -> bool
+    ensures { result ≡ same_view (view_in w) (view_of t) }
+{
+    views::narrow(w) == t
+}
 
 // Whether statements i and j name the same views.
 pub fn same_views(words: &[u64; POOL_WORDS], i: u16, j: u16) -> bool
     ensures { result ≡ same_views (stmt_at words.now i).views (stmt_at words.now j).views }
 {
-    let n = read::count(words, i);
-    if n != read::count(words, j) {
-        return false;
-    }
-    let mut p = 0usize;
-    while p < n {
-        if read::nth(words, i, p) != read::nth(words, j, p) {
-            return false;
-        }
-        p += 1;
-    }
-    true
+    let (a, b) = (read::view_words(words, i), read::view_words(words, j));
+    a.len() == b.len() && a.iter().zip(b).all(|(u, v)| is_view(*u, views::narrow(*v)))
 }
 
 // The top of the views of statement n.
@@ -41,41 +39,30 @@ pub fn top_view(words: &[u64; POOL_WORDS], n: u16, init: u64) -> u64
 pub fn has_view(words: &[u64; POOL_WORDS], n: u16, t: u64) -> bool
     ensures { result ≡ any (same_view (view_of t)) (stmt_at words.now n).views }
 {
-    let c = read::count(words, n);
-    let mut p = 0usize;
-    while p < c {
-        if t == read::nth(words, n, p) {
-            return true;
-        }
-        p += 1;
-    }
-    false
+    read::view_words(words, n).iter().any(|w| is_view(*w, t))
+}
+
+// Whether these views, of which there are some, rise strictly.
+fn rise(listed: &[u64]) -> bool
+    requires { 0 < length listed.now }
+    ensures { result ≡ is_rising 16 (map view_in listed.now) }
+{
+    listed
+        .windows(2)
+        .all(|pair| views::below_view(pair[0], pair[1]))
+}
+
+// Whether each of these views has members.
+fn have_members(listed: &[u64]) -> bool
+    ensures { result ≡ all (has_members 16) (map view_in listed.now) }
+{
+    listed.iter().all(|v| views::has_members(*v))
 }
 
 // Whether the views of statement n are a history.
 pub fn is_history(words: &[u64; POOL_WORDS], n: u16, init: u64) -> bool
     ensures { result ≡ is_history (ring_of_word init) (stmt_at words.now n).views }
 {
-    let c = read::count(words, n);
-    if c == 0 {
-        return false;
-    }
-    if read::nth(words, n, 0) != init {
-        return false;
-    }
-    if !views::has_members(init) {
-        return false;
-    }
-    let mut p = 1usize;
-    while p < c {
-        let v = read::nth(words, n, p);
-        if !views::below_view(read::nth(words, n, p - 1), v) {
-            return false;
-        }
-        if !views::has_members(v) {
-            return false;
-        }
-        p += 1;
-    }
-    true
+    let listed = read::view_words(words, n);
+    !listed.is_empty() && is_view(listed[0], init) && have_members(listed) && rise(listed)
 }

@@ -9,10 +9,10 @@ mod seek;
 mod write;
 
 pub use compare::{has_view, is_history, same_views, top_view};
-pub use listed::{record_clear, record_holds, record_length, record_push, record_room};
+pub use listed::{Record, record_clear, record_holds, record_length, record_push};
 pub use read::{
-    at, barred, bound, count, groups, head, kind, limit, notice, nth, origin, payload, pool_len,
-    stored, told_kept, told_payload, view,
+    at, barred, bound, count, groups, head, kind, notice, nth, origin, payload, pool_len, stored,
+    told_kept, told_payload, view,
 };
 pub use report::told;
 pub use seek::{append, find, same_at};
@@ -25,9 +25,6 @@ pub const CAPACITY: usize = 512;
 
 // The highest number of a statement. One above it counts as this.
 const HIGHEST: usize = CAPACITY - 1;
-
-// The kind of a report.
-const REPORT: u8 = 5;
 
 // Where the columns after the heads start: a word of each statement. The payload is that of every kind but a report, and the last three are the sets of what a report tells.
 const AT: usize = CAPACITY;
@@ -73,16 +70,6 @@ const GROUPS: u64 = 4294967296;
 // Kind, origin and notice in one number are below this.
 const KEY: u64 = NOTICE * BYTE;
 
-// Where a statement is.
-#[derive(Clone, Copy)]
-pub enum Found {
-    At(u16),
-    Nothing,
-}
-
-// Where a statement went.
-#[derive(Clone, Copy)]
-pub enum Placed {
-    At(u16),
-    Full,
-}
+// A pool with the most statements has no room for one more.
+#[derive(Clone, Copy, Debug, PartialEq, Eq)]
+pub struct Full;

@@ -1,6 +1,8 @@
 // The fields of statement n, and the number of statements.
-ghost use Rattle.std.specs.Prelude.{◌≡◌, ◌<◌, ◌≤◌, min, length};
-ghost use Rattle.views.specs.View.{view_of};
+#![tactic(auto, unfolding(crate::specs::Pool::head_at, crate::specs::Pool::word, crate::specs::Pool::view_word, crate::specs::Pool::stmt_at, crate::specs::Pool::count_of, crate::specs::Pool::group_count, crate::specs::Pool::told_payload, crate::specs::Pool::told_kept, crate::specs::Pool::pool_len))]
+
+ghost use Rattle.std.specs.Prelude.{◌≡◌, ◌<◌, ◌≤◌, min, map, length};
+ghost use Rattle.views.specs.View.{view_of, view_in};
 ghost use Rattle.pool.specs.Pool.{payload_from, views_from, pool_words, head_at, word, view_at, stmt_at, count_of, group_count, told_bound, told_barred, told_stored, told_payload, told_kept, pool_len};
 ghost use Rattle.pool.specs.Changes.{head_of};
 
@@ -11,23 +13,11 @@ use crate::{
 use statements::NOTICES;
 use views::View;
 
-// How many words the memory has. A proof that a word was written asks for it.
-pub fn size(words: &[u64; POOL_WORDS]) -> usize
-    ensures { (result ≡ pool_words) × (length words.now ≡ pool_words) }
-{
-    let s = &words[..];
-    s.len()
-}
-
 // Where statement n is in its column. The number is bounded first, since the compiler then reads each column in one step.
 pub fn slot(n: u16) -> usize
     ensures { (result ≡ min n 511) × (result ≤ 511) }
 {
-    let s = n as usize;
-    if s < HIGHEST {
-        return s;
-    }
-    HIGHEST
+    usize::from(n).min(HIGHEST)
 }
 
 // The head of statement n.
@@ -70,16 +60,6 @@ pub fn payload(words: &[u64; POOL_WORDS], n: u16) -> u64
     field(words, n, PAYLOAD)
 }
 
-// What x stands for where it is at most `most`.
-fn capped(x: u64, most: u64) -> u64
-    ensures { result ≡ min x most }
-{
-    if x < most {
-        return x;
-    }
-    most
-}
-
 pub fn at(words: &[u64; POOL_WORDS], n: u16) -> u64
     ensures { view_of result ≡ (stmt_at words.now n).at }
 {
@@ -103,8 +83,17 @@ pub fn view(words: &[u64; POOL_WORDS], n: u16) -> u64
 pub fn count(words: &[u64; POOL_WORDS], n: u16) -> usize
     ensures { (result ≡ count_of words.now n) × (result ≤ 16) }
 {
-    let w = head_word(words, n) / COUNT % BYTE;
-    capped(w, View::LIMIT as u64) as usize
+    let count = (head_word(words, n) / COUNT % BYTE) as usize;
+    count.min(View::LIMIT)
+}
+
+// The words of the views of statement n. Their bits that stand for no controller are not read.
+pub fn view_words(words: &[u64; POOL_WORDS], n: u16) -> &[u64]
+    ensures means { map view_in result.now ≡ (stmt_at words.now n).views }
+    ensures few { length result.now ≤ 16 }
+{
+    let start = VIEWS + slot(n) * View::LIMIT;
+    &words[start..start + count(words, n)]
 }
 
 // View p of statement n.
@@ -115,26 +104,19 @@ pub fn nth(words: &[u64; POOL_WORDS], n: u16, p: usize) -> u64
     views::narrow(words[VIEWS + slot(n) * View::LIMIT + p])
 }
 
-// How many statements a record of length len has.
-pub fn limit(len: u64) -> usize
-    ensures { (result ≡ min len 512) × (result ≤ 512) }
-{
-    capped(len, CAPACITY as u64) as usize
-}
-
 // How many statements the pool has.
 pub fn pool_len(words: &[u64; POOL_WORDS]) -> usize
     ensures { (result ≡ pool_len words.now) × (result ≤ 512) }
 {
-    limit(words[LAST])
+    words[LAST].min(CAPACITY as u64) as usize
 }
 
 // Of how many notices report n tells.
 pub fn groups(words: &[u64; POOL_WORDS], n: u16) -> usize
     ensures { (result ≡ group_count words.now n) × (result ≤ 64) }
 {
-    let w = head_word(words, n) / GROUPS % BYTE;
-    capped(w, NOTICES as u64) as usize
+    let groups = (head_word(words, n) / GROUPS % BYTE) as usize;
+    groups.min(NOTICES)
 }
 
 // The notices of which report n tells that they are bound. One that is barred too counts as barred.

@@ -9,8 +9,8 @@ ghost use Rattle.pool.specs.Pool.{pool_words, told_bound, told_barred, told_payl
 ghost use Rattle.pool.specs.Changes.{told_words, groups_in};
 ghost use Rattle.pool.specs.Steps.{groups_many, first_bits, bit_without, SaysAlike};
 
-use crate::{BARRED, BOUND, PAIRS, PAYLOAD, POOL_WORDS, REPORT, STORED, TOLD, read};
-use statements::{BLOCK, Binding, NOTICES, Told};
+use crate::{BARRED, BOUND, PAIRS, PAYLOAD, POOL_WORDS, STORED, TOLD, read};
+use statements::{BLOCK, Binding, Kind, NOTICES, Told};
 
 // ---- what the pool tells
 
@@ -20,12 +20,12 @@ fn binding(words: &[u64; POOL_WORDS], n: u16, j: usize) -> Binding
     ensures { binding_is result ≡ bound_or_barred (bit (told_bound words.now n) j) (bit (told_barred words.now n) j) (told_payload words.now n j) }
 {
     if statements::has(read::barred(words, n), j) {
-        return Binding::Barred;
+        Binding::Barred
+    } else if statements::has(read::bound(words, n), j) {
+        Binding::Bound(read::told_payload(words, n, j))
+    } else {
+        Binding::Unbound
     }
-    if statements::has(read::bound(words, n), j) {
-        return Binding::Bound(read::told_payload(words, n, j));
-    }
-    Binding::Unbound
 }
 
 // What report n tells of notice j.
@@ -33,9 +33,8 @@ pub fn told(words: &[u64; POOL_WORDS], n: u16, j: usize) -> Told
     requires { j < 64 }
     ensures { told_is result ≡ told_at words.now n j }
 {
-    let b = binding(words, n, j);
     Told {
-        binding: b,
+        binding: binding(words, n, j),
         stored: statements::has(read::stored(words, n), j),
         kept: read::told_kept(words, n, j),
     }
@@ -54,42 +53,21 @@ fn binding_number(b: Binding) -> u64
     }
 }
 
-// 1 for true, 0 for false.
-fn flag(yes: bool) -> u64
-    ensures { result ≡ cond yes 1 0 }
-{
-    if yes {
-        return 1;
-    }
-    0
-}
-
 // The payload that is kept, or 0.
 fn kept_payload(stored: bool, kept: u64) -> u64
     ensures { result ≡ kept_payload (when stored kept) }
 {
-    if stored {
-        return kept;
-    }
-    0
+    if stored { kept } else { 0 }
 }
 
 // Whether the same is told.
 fn same_told(a: Told, b: Told) -> bool
     ensures { result ≡ same_group (told_is a) (told_is b) }
 {
-    let p = a.binding;
-    let q = b.binding;
-    if binding_number(p) != binding_number(q) {
-        return false;
-    }
-    if statements::bound_payload(p) != statements::bound_payload(q) {
-        return false;
-    }
-    if flag(a.stored) != flag(b.stored) {
-        return false;
-    }
-    kept_payload(a.stored, a.kept) == kept_payload(b.stored, b.kept)
+    binding_number(a.binding) == binding_number(b.binding)
+        && statements::bound_payload(a.binding) == statements::bound_payload(b.binding)
+        && a.stored == b.stored
+        && kept_payload(a.stored, a.kept) == kept_payload(b.stored, b.kept)
 }
 
 // A word of the block.
@@ -112,14 +90,10 @@ fn same_each(words: &[u64; POOL_WORDS], n: u16, c: usize, block: &[u64; BLOCK]) 
     requires { c ≤ 64 }
     ensures { result ≡ same_groups (list_of c (group_at block.now)) (list_of c (told_at words.now n)) }
 {
-    let mut j = 0usize;
-    while j < c {
-        let a = statements::told_at(block, j);
-        let b = told(words, n, j);
-        if !same_told(a, b) {
+    for j in 0..c {
+        if !same_told(statements::told_at(block, j), told(words, n, j)) {
             return false;
         }
-        j += 1;
     }
     true
 }
@@ -128,12 +102,9 @@ fn same_each(words: &[u64; POOL_WORDS], n: u16, c: usize, block: &[u64; BLOCK]) 
 fn same_bars(words: &[u64; POOL_WORDS], n: u16, block: &[u64; BLOCK]) -> bool
     ensures { SaysAlike result block.now words.now n }
 {
-    if word(block, 1) != read::barred(words, n) {
-        return false;
-    }
     let bound = word(block, 0) | read::bound(words, n);
     let stored = word(block, 2) | read::stored(words, n);
-    (bound | stored) == 0
+    word(block, 1) == read::barred(words, n) && (bound | stored) == 0
 }
 
 // Whether report n tells of the first c notices what the block does.
@@ -141,45 +112,35 @@ fn same_report(words: &[u64; POOL_WORDS], n: u16, c: usize, block: &[u64; BLOCK]
     requires { c ≤ 64 }
     ensures { result ≡ same_groups (list_of c (group_at block.now)) (list_of c (told_at words.now n)) }
 {
-    if same_bars(words, n, block) {
-        return true;
-    }
-    same_each(words, n, c, block)
+    same_bars(words, n, block) || same_each(words, n, c, block)
 }
 
 // How many groups a statement of this kind has. A number of them above 64 counts as 64.
 pub fn many(kind: u8, groups: usize) -> usize
     ensures { (result ≡ groups_many kind groups) × (result ≤ 64) }
 {
-    if kind != REPORT {
-        return 1;
+    if kind == Kind::Report as u8 {
+        groups.min(NOTICES)
+    } else {
+        1
     }
-    if groups < NOTICES {
-        return groups;
-    }
-    NOTICES
 }
 
-// Whether statement n, which is of this kind, has just these groups.
+// Whether statement n has just these groups, where it is a report, or else this payload.
 pub fn same_groups(
     words: &[u64; POOL_WORDS],
     n: u16,
-    kind: u8,
     groups: usize,
     payload: u64,
     block: &[u64; BLOCK],
 ) -> bool
-    requires { kind ≡ (stmt_at words.now n).kind }
-    ensures { result ≡ same_groups (groups_of kind groups payload block.now) (stmt_at words.now n).groups }
+    ensures { result ≡ same_groups (groups_of (stmt_at words.now n).kind groups payload block.now) (stmt_at words.now n).groups }
 {
-    if kind != REPORT {
+    if read::kind(words, n) != Kind::Report as u64 {
         return payload == read::payload(words, n);
     }
-    let c = many(kind, groups);
-    if c != read::groups(words, n) {
-        return false;
-    }
-    same_report(words, n, c, block)
+    let c = groups.min(NOTICES);
+    c == read::groups(words, n) && same_report(words, n, c, block)
 }
 
 // ---- writing
@@ -205,16 +166,14 @@ fn bits_without(x: u64, y: u64, c: usize) -> u64
 
 // What the block tells of the first c notices, payload and kept of each, from word s on.
 fn put_pairs(words: &mut [u64; POOL_WORDS], s: usize, c: usize, block: &[u64; BLOCK])
-    requires { (length words.old ≡ pool_words) × (s + 128 < pool_words) × (c ≤ 64) }
+    requires room { s + 128 < pool_words }
+    requires few { c ≤ 64 }
     ensures { words.new ≡ sets words.old s (told_words (list_of c (group_at block.now))) }
 {
-    let mut j = 0usize;
-    while j < c {
+    for j in 0..c {
         let t = statements::told_at(block, j);
-        let b = t.binding;
-        words[s + 2 * j] = statements::bound_payload(b);
+        words[s + 2 * j] = statements::bound_payload(t.binding);
         words[s + 2 * j + 1] = kept_payload(t.stored, t.kept);
-        j += 1;
     }
 }
 
@@ -227,10 +186,10 @@ pub fn put_groups(
     payload: u64,
     block: &[u64; BLOCK],
 )
-    requires { (length words.old ≡ pool_words) × (s ≤ 511) }
+    requires { s ≤ 511 }
     ensures { words.new ≡ groups_in words.old s kind (groups_of kind groups payload block.now) }
 {
-    if kind != REPORT {
+    if kind != Kind::Report as u8 {
         words[s + PAYLOAD] = payload;
         return;
     }
@@ -248,10 +207,7 @@ pub fn get_told(words: &[u64; POOL_WORDS], n: u16, c: usize, block: &mut [u64; B
     requires { c ≤ 64 }
     ensures { list_of c (group_at block.new) ≡ list_of c (told_at words.now n) }
 {
-    let mut j = 0usize;
-    while j < c {
-        let t = told(words, n, j);
-        statements::tell(block, j, t);
-        j += 1;
+    for j in 0..c {
+        statements::tell(block, j, told(words, n, j));
     }
 }

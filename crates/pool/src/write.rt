@@ -14,16 +14,11 @@ use views::{History, View};
 
 // The views of h from word s on. The places after the last are left as they are.
 fn put_views(words: &mut [u64; POOL_WORDS], s: usize, h: History)
-    requires { (length words.old ≡ pool_words) × (s + 16 ≤ told_from) }
+    requires { s + 16 ≤ told_from }
     ensures { words.new ≡ sets words.old s (map word_of (views_is h)) }
 {
-    let n = h.count();
-    let views = h.views;
-    let mut p = 0usize;
-    while p < n {
-        let v = views[p];
-        words[s + p] = v.word();
-        p += 1;
+    for p in 0..h.count() {
+        words[s + p] = h.views[p].word();
     }
 }
 
@@ -31,26 +26,20 @@ fn put_views(words: &mut [u64; POOL_WORDS], s: usize, h: History)
 fn head_word(st: Statement) -> u64
     ensures { result ≡ head_word_of_held st }
 {
-    let h = st.history;
-    let key = seek::head_of(st);
-    let c = h.count() as u64;
-    let g = report::many(st.kind, st.groups) as u64;
-    key + c * COUNT + g * GROUPS
+    let views = st.history.count() as u64;
+    let groups = report::many(st.kind, st.groups) as u64;
+    seek::head_of(st) + views * COUNT + groups * GROUPS
 }
 
 // Statement n is st with its block from now on. Where st has more than 16 views, only 16 are kept.
 pub fn put(words: &mut [u64; POOL_WORDS], n: u16, st: Statement, block: &[u64; BLOCK])
     ensures { Put words.old words.new n st block.now }
 {
-    read::size(words);
     let s = read::slot(n);
-    let t = st.at;
-    let v = st.view;
-    let h = st.history;
     words[s] = head_word(st);
-    words[s + AT] = t.word();
-    words[s + VIEW] = v.word();
-    put_views(words, VIEWS + s * View::LIMIT, h);
+    words[s + AT] = st.at.word();
+    words[s + VIEW] = st.view.word();
+    put_views(words, VIEWS + s * View::LIMIT, st.history);
     report::put_groups(words, s, st.kind, st.groups, st.payload, block);
 }
 
@@ -58,7 +47,6 @@ pub fn put(words: &mut [u64; POOL_WORDS], n: u16, st: Statement, block: &[u64; B
 pub fn clear(words: &mut [u64; POOL_WORDS])
     ensures { Cleared words.old words.new }
 {
-    read::size(words);
     words[LAST] = 0;
 }
 
@@ -66,37 +54,28 @@ pub fn clear(words: &mut [u64; POOL_WORDS])
 fn get_views(words: &[u64; POOL_WORDS], n: u16) -> History
     ensures { (first_views result.len result.views ≡ (stmt_at words.now n).views) × (result.len ≤ 16) }
 {
-    let c = read::count(words, n);
+    let len = read::count(words, n);
     let mut views = [View { joined: 0, left: 0 }; View::LIMIT];
-    let mut p = 0usize;
-    while p < c {
-        let v = View::of_word(read::nth(words, n, p));
-        views[p] = v;
-        p += 1;
+    for p in 0..len {
+        views[p] = View::of_word(read::nth(words, n, p));
     }
-    History {
-        views: views,
-        len: c,
-    }
+    History { views, len }
 }
 
 // Statement n. The block tells what it does, where it is a report.
 pub fn get(words: &[u64; POOL_WORDS], n: u16, block: &mut [u64; BLOCK]) -> Statement
     ensures { (stmt_of result block.new ≡ stmt_at words.now n) × (result.history.len ≤ 16) }
 {
-    let c = read::groups(words, n);
-    let t = View::of_word(read::at(words, n));
-    let v = View::of_word(read::view(words, n));
-    let h = get_views(words, n);
-    report::get_told(words, n, c, block);
+    let groups = read::groups(words, n);
+    report::get_told(words, n, groups, block);
     Statement {
         kind: read::kind(words, n) as u8,
         origin: read::origin(words, n) as u8,
-        at: t,
-        view: v,
+        at: View::of_word(read::at(words, n)),
+        view: View::of_word(read::view(words, n)),
         notice: read::notice(words, n) as u8,
-        groups: c,
+        groups,
         payload: read::payload(words, n),
-        history: h,
+        history: get_views(words, n),
     }
 }

@@ -27,6 +27,7 @@ use Rattle.views.proofs.Views.{passes, fails, size-most}
 use Rattle.pool.specs.Pool.{record_up_to}
 use Rattle.pool.proofs.Laws.{view-fits}
 use Rattle.tables.specs.Index.{key_at}
+use Rattle.sealing.specs.declared.verdict.Verdict.{Verdict}
 use Rattle.ranking.specs.Slots.{view_scale, choice_mark, Stands, Slots, Clash, occupied, Broken, Listed}
 use Rattle.ranking.specs.Ranking.{AllFit, MarkedChoices, CandidatesOf}
 use Rattle.ranking.proofs.Members.{Climbs, same-members}
@@ -87,7 +88,7 @@ module _ (init : ℕ) (X : List Stmt) (fits : AllFit X) where
   level-apart p q d e (inl w) = omega (arith, grows p q d w)
   level-apart p q d e (inr w) = omega (arith, grows q p (λ h. d (sym h)) w)
 
-module _ (init : ℕ) (X : List Stmt) (K M : List ℕ) (n : ℕ) (choices : MarkedChoices init X K M n) where
+module _ (init : ℕ) (X : List Stmt) (K : List ℕ) (M : List Verdict) (n : ℕ) (choices : MarkedChoices init X K M n) where
   abbrev all : List View
   all = candidates (ring_of_word init) X
 
@@ -125,7 +126,7 @@ module _ (init : ℕ) (X : List Stmt) (K M : List ℕ) (n : ℕ) (choices : Mark
     in-slots : all ⊆ shown
     in-slots v m = go (choices.complete v (member v m))
       where
-        go : (v ≡ view_of init) ⊎ ((c : ℕ) × (c < n) × (choice_mark M c ≡ 1) × (view_of (key_at K 0 c) ≡ v)) → v ∈ shown
+        go : (v ≡ view_of init) ⊎ ((c : ℕ) × (c < n) × (choice_mark M c ≡ true) × (view_of (key_at K 0 c) ≡ v)) → v ∈ shown
         go (inl e) = subst (λ v. v ∈ shown) (sym e) (word init (inl refl))
         go (inr (c, l, k, e)) = subst (λ v. v ∈ shown) e (word (key_at K 0 c) (inr (c, l, k, refl)))
 

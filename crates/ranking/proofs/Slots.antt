@@ -1,6 +1,7 @@
 -- Laws of the slots, by any scale: each is what one step of a function of candidates or of histories needs.
 -- Assumes nothing.
 use Rattle.std.specs.Prelude.{if◌then◌else◌}
+use Rattle.std.specs.Prelude.{Option, Some, is_some, unwrap_or}
 use mathlib.Core.Path.{◌≡◌, refl, sym, ap, ap₂, subst, ◌∙◌}
 use mathlib.Core.Logic.{◌≢◌, ◌⊎◌, inl, inr}
 use mathlib.Core.Bool.{Bool, true, false, not}
@@ -41,17 +42,17 @@ module _ (Q : Scale) where
   abbrev key : ℕ → ℕ
   key v = Q.size (thing v)
 
-  module _ (base : ℕ) (F M : ℕ → ℕ) where
+  module _ (base : ℕ) (F : ℕ → ℕ) (M : ℕ → Bool) where
     later : (c : ℕ) {v : ℕ} → Stands Q base F M c v → Stands Q base F M (c + 1) v
     later c (inl e) = inl e
     later c (inr (a, l, m, e)) = inr (a, omega arith, m, e)
 
     -- what stands with one more stood before, or is that one
-    split : (c : ℕ) {v : ℕ} → Stands Q base F M (c + 1) v → Stands Q base F M c v ⊎ ((M c ≡ 1) × (F c ≡ v))
+    split : (c : ℕ) {v : ℕ} → Stands Q base F M (c + 1) v → Stands Q base F M c v ⊎ ((M c ≡ true) × (F c ≡ v))
     split c (inl e) = inl (inl e)
     split c {v} (inr (a, l, m, e)) = elim (dec_lt a c) [
       | yes h ↦ inl (inr (a, h, m, e))
-      | no h ↦ (let q : a ≡ c = omega arith in inr (subst (λ a. (M a ≡ 1) × (F a ≡ v)) q (m, e)))
+      | no h ↦ (let q : a ≡ c = omega arith in inr (subst (λ a. (M a ≡ true) × (F a ≡ v)) q (m, e)))
     ]
 
     pub slots-first : key base < slots → Slots Q base F M 0 (replicate slots base)
@@ -61,19 +62,19 @@ module _ (Q : Scale) where
         only v (inl e) = ap thing (get_or-replicate slots (key v) base 0 (subst (λ v. key v < slots) (sym e) h) ∙ sym e)
         only v (inr (a, l, _, _)) = absurd (omega arith)
 
-    pub slots-skip : (c : ℕ) {S : List ℕ} → (M c ≡ 1 → ⊥) → Slots Q base F M c S → Slots Q base F M (c + 1) S
+    pub slots-skip : (c : ℕ) {S : List ℕ} → (M c ≡ true → ⊥) → Slots Q base F M c S → Slots Q base F M (c + 1) S
     slots-skip c {S} n s = record { long = s.long; sound = λ k l. later c (s.sound k l); complete = λ v t. go v (split c t) }
       where
-        go : (v : ℕ) → Stands Q base F M c v ⊎ ((M c ≡ 1) × (F c ≡ v)) → thing (get_or S (key v) 0) ≡ thing v
+        go : (v : ℕ) → Stands Q base F M c v ⊎ ((M c ≡ true) × (F c ≡ v)) → thing (get_or S (key v) 0) ≡ thing v
         go v (inl t) = s.complete v t
         go v (inr (m, _)) = absurd (n m)
 
     -- the marked word c is v, and u is in the slot of its size
-    module _ (c : ℕ) {S : List ℕ} (k u v : ℕ) (marked : M c ≡ 1) (is : v ≡ F c) (sized : k ≡ key v) (slot : u ≡ get_or S k 0) where
+    module _ (c : ℕ) {S : List ℕ} (k u v : ℕ) (marked : M c ≡ true) (is : v ≡ F c) (sized : k ≡ key v) (slot : u ≡ get_or S k 0) where
       pub slots_same : thing u ≡ thing v → Slots Q base F M c S → Slots Q base F M (c + 1) S
       slots_same e s = record { long = s.long; sound = λ j l. later c (s.sound j l); complete = λ w t. go w (split c t) }
         where
-          go : (w : ℕ) → Stands Q base F M c w ⊎ ((M c ≡ 1) × (F c ≡ w)) → thing (get_or S (key w) 0) ≡ thing w
+          go : (w : ℕ) → Stands Q base F M c w ⊎ ((M c ≡ true) × (F c ≡ w)) → thing (get_or S (key w) 0) ≡ thing w
           go w (inl t) = s.complete w t
           go w (inr (m, f)) =
               let q : w ≡ v = sym f ∙ sym is in
@@ -92,7 +93,7 @@ module _ (Q : Scale) where
           before : (w : ℕ) → thing (get_or S (key w) 0) ≡ thing w → key w ≢ k
           before w f e = free (ap (λ x. key x) (slot ∙ ap (λ j. get_or S j 0) (sym e)) ∙ ap Q.size f ∙ e)
 
-          go : (w : ℕ) → Stands Q base F M c w ⊎ ((M c ≡ 1) × (F c ≡ w)) → thing (get_or (set S k v) (key w) 0) ≡ thing w
+          go : (w : ℕ) → Stands Q base F M c w ⊎ ((M c ≡ true) × (F c ≡ w)) → thing (get_or (set S k v) (key w) 0) ≡ thing w
           go w (inl t) = let f = s.complete w t in ap thing (get_or-set_other S k (key w) v 0 (before w f)) ∙ f
           go w (inr (m, f)) =
               let q : w ≡ v = sym f ∙ sym is in
@@ -303,3 +304,10 @@ module _ (S : List ℕ) where
     many = ap (ltb 16) (sym (listed-length c) ∙ ap (λ k. length (shown k)) e);
     views = λ h. c.views ∙ ap shown e;
   }
+
+-- where the last of the chain is m, the one of slot k goes on it
+pub chain_on : (Q : Scale) {S : List ℕ} {k z m : ℕ} {last : Option ℕ} → last ≡ Some m → z ≡ Q.size (Q.thing (get_or S k 0)) → z ≡ k → Chain Q S k (is_some last) (unwrap_or last 0) → ((u : Q.Thing) → Q.Under u u)
+    → ((u x y : Q.Thing) → Q.Under u x → Q.Under x y → Q.Under u y) → Q.Under (Q.thing m) (Q.thing (get_or S k 0)) → Chain Q S (k + 1) true (get_or S k 0)
+chain_on Q {S} {k} e sized here c same trans step =
+    subst (λ b. Chain Q S (k + 1) b (get_or S k 0)) (ap is_some e)
+    (chain_more Q _ _ _ _ _ _ refl sized here c same trans (ap is_some e) (subst (λ u. Q.Under (Q.thing (unwrap_or u 0)) (Q.thing (get_or S k 0))) (sym e) step))

@@ -30,8 +30,9 @@ use Rattle.views.proofs.Tables.{views-count}
 use Rattle.views.proofs.Views.{passes, fails}
 use Rattle.pool.specs.Pool.{count_of, view_at, stmt_at}
 use Rattle.pool.proofs.Laws.{views-of}
+use Rattle.sealing.specs.declared.verdict.Verdict.{Verdict}
 use Rattle.ranking.specs.Slots.{history_scale, start_scale, number_in, seal_mark, Starts, Stands, Slots, Clash, occupied, Broken, Chain}
-use Rattle.ranking.specs.Ranking.{FirstMarked, ChainOf, PassedOf, SkippedOf, MarkedAgreements, HistoriesOf}
+use Rattle.ranking.specs.Ranking.{Unmarked, ChainOf, PassedOf, SkippedOf, MarkedAgreements, HistoriesOf}
 use Rattle.ranking.proofs.Members.{Climbs, list_of-in, same-members}
 use Rattle.ranking.proofs.Slots.{views-put, occupied-in, occupied-out, occupied-wide}
 use Rattle.ranking.proofs.Skips.{starts-same, unpassed}
@@ -70,14 +71,10 @@ same-held H v m = m
 pub held-trans : (K H G : List View) → Holds H K → Holds G H → Holds G K
 held-trans K H G p q v m = q v (p v m)
 
-pub links-stop : (W S : List ℕ) (last : ℕ) (steady : Bool) → Broken (history_scale W) S 17 → ChainOf W S false steady last
-links-stop W S last steady b = record { good = λ t. absurd (subst (λ b. T (not b)) t tt); bad = λ f. b; starts = λ t. absurd (subst (λ b. T (not b)) t tt) }
-
-pub links_end : (W S : List ℕ) (k last : ℕ) (some steady : Bool) → k ≡ 17 → Chain (history_scale W) S k some last → (steady ≡ true → Chain (start_scale W) S k some last) → ChainOf W S true steady last
+pub links_end : (W S : List ℕ) (k last : ℕ) (some steady : Bool) → k ≡ 17 → Chain (history_scale W) S k some last → (steady ≡ true → Chain (start_scale W) S k some last) → ChainOf W S steady last
 links_end W S k last some steady e c d = record {
-  good = λ t. (some, subst (λ k. Chain (history_scale W) S k some last) e c);
-  bad = λ f. absurd (subst T f tt);
-  starts = λ t h. (some, subst (λ k. Chain (start_scale W) S k some last) e (d h));
+  chain = (some, subst (λ k. Chain (history_scale W) S k some last) e c);
+  starts = λ h. (some, subst (λ k. Chain (start_scale W) S k some last) e (d h));
 }
 
 -- the history of the initial view
@@ -180,18 +177,18 @@ module _ (init : ℕ) (X : List Stmt) where
 
   -- ---- the agreements that are marked
 
-  module _ (W R M : List ℕ) (n : ℕ) (agreements : MarkedAgreements init X W R M n) where
+  module _ (W R : List ℕ) (M : List Verdict) (n : ℕ) (agreements : MarkedAgreements init X W R M n) where
     -- none is marked
-    pub alone : (out : List ℕ) (r : ℕ) → length out ≡ 16 → r ≡ n → FirstMarked M n r → HistoriesOf init X (set out 0 init) (record { conflict = false; length = 1; skipped = 0 })
-    alone out r w e f =
+    pub alone : (out : List ℕ) → length out ≡ 16 → Unmarked M n → HistoriesOf init X (set out 0 init) (record { conflict = false; length = 1; skipped = 0 })
+    alone out w f =
         let g : Sealed (ring_of_word init) X (views_of (set out 0 init) 1) = start (alone-views out init w) in
         greatest 1 0 (set out 0 init) g (λ K k. start-in (only K k) g) (λ H h K k. inr (start-in (only H h) k))
         (λ u m i l q. bit-zero i ∙ sym (none-skipped g (λ H h. subst (Starts (views_of (set out 0 init) 1)) (sym (only H h)) (starts-init g)) u m))
       where
         only : (K : List View) → Sealed (ring_of_word init) X K → K ≡ view_of init ∷ []
-        only K k = elim (agreements.complete K k) [ inl q ↦ q | inr (a, l, m, _) ↦ absurd (f.none a (omega arith) m) ]
+        only K k = elim (agreements.complete K k) [ inl q ↦ q | inr (a, l, m, _) ↦ absurd (f.none a l m) ]
 
-    module _ (a base : ℕ) (l : a < n) (m : seal_mark M a ≡ 1) (is : base ≡ number_in R a) where
+    module _ (a base : ℕ) (l : a < n) (m : seal_mark M a ≡ true) (is : base ≡ number_in R a) where
       stands-sealed : (w : ℕ) → Stands (history_scale W) base (number_in R) (seal_mark M) n w → Sealed (ring_of_word init) X (stmt_at W w).views
       stands-sealed w (inl e) = subst (λ x. Sealed (ring_of_word init) X (stmt_at W x).views) (sym (e ∙ is)) (agreements.sound a l m)
       stands-sealed w (inr (c, h, k, e)) = subst (λ x. Sealed (ring_of_word init) X (stmt_at W x).views) e (agreements.sound c h k)

@@ -1,6 +1,6 @@
 -- What the candidates in order and the greatest sealed history are of.
 -- Assumes nothing.
-use Rattle.std.specs.Prelude.{◌≡◌, ◌⊎◌, Bool, true, false, not, ◌||◌, List, [], ◌∷◌, ℕ, ◌≤◌, ◌<◌, ltb, length, get_or}
+use Rattle.std.specs.Prelude.{◌≡◌, ◌⊎◌, Bool, true, false, not, ◌||◌, List, [], ◌∷◌, ℕ, ◌<◌, ltb, length, get_or}
 use Rattle.protocol.specs.Sets.{bit}
 use Rattle.protocol.specs.Lists.{◌∈◌, any, pairwise}
 use Rattle.protocol.specs.View.{View, Ring, comparable}
@@ -11,21 +11,25 @@ use Rattle.protocol.proofs.Bits.{Fits}
 use Rattle.views.specs.View.{view_of, ring_of_word, views_of}
 use Rattle.pool.specs.Pool.{stmt_at}
 use Rattle.tables.specs.Index.{key_at}
-use Rattle.ranking.specs.Slots.{history_scale, start_scale, number_in, choice_mark, seal_mark, Broken, Chain}
+use Rattle.sealing.specs.declared.verdict.Verdict.{Verdict}
+use Rattle.ranking.specs.Slots.{history_scale, start_scale, number_in, choice_mark, seal_mark, Chain}
 use Rattle.ranking.specs.declared.Ranked.{Ranked}
 use Rattle.ranking.specs.declared.Summit.{Summit}
 
--- r is the first of n agreements that is marked, or n.
-pub record FirstMarked (M : List ℕ) (n r : ℕ) : Type 0 where
-  pub most : r ≤ n
-  pub none : (a : ℕ) → a < r → seal_mark M a ≡ 1 → ⊥
-  pub is : r < n → seal_mark M r ≡ 1
+-- None of n agreements is marked.
+pub record Unmarked (M : List Verdict) (n : ℕ) : Type 0 where
+  pub none : (a : ℕ) → a < n → seal_mark M a ≡ true → ⊥
+
+-- r is the first of n agreements that is marked.
+pub record FirstMarked (M : List Verdict) (n r : ℕ) : Type 0 where
+  pub most : r < n
+  pub none : (a : ℕ) → a < r → seal_mark M a ≡ true → ⊥
+  pub is : seal_mark M r ≡ true
 
 -- The histories in the slots are a chain that ends with that of statement `last`; or they are none. Where it is steady, each starts with the one before.
-pub record ChainOf (W S : List ℕ) (whole steady : Bool) (last : ℕ) : Type 0 where
-  pub good : whole ≡ true → (some : Bool) × Chain (history_scale W) S 17 some last
-  pub bad : whole ≡ false → Broken (history_scale W) S 17
-  pub starts : whole ≡ true → steady ≡ true → (some : Bool) × Chain (start_scale W) S 17 some last
+pub record ChainOf (W S : List ℕ) (steady : Bool) (last : ℕ) : Type 0 where
+  pub chain : (some : Bool) × Chain (history_scale W) S 17 some last
+  pub starts : steady ≡ true → (some : Bool) × Chain (start_scale W) S 17 some last
 
 -- r is the set `seen`, and the places too, among the first n words of a list, of the views that the history H passes over.
 pub record PassedToo (R : Ring) (H : List View) (list : List ℕ) (n seen r : ℕ) : Type 0 where
@@ -46,9 +50,9 @@ AllFit X = (s : Stmt) → s ∈ X → Fits 16 s.view
 
 module _ (init : ℕ) (X : List Stmt) where
   -- The candidates are the initial view and the views of the choices before n that are marked. What statements are for fits, so that two candidates of one size are apart.
-  pub record MarkedChoices (K M : List ℕ) (n : ℕ) : Type 0 where
-    pub sound : (c : ℕ) → c < n → choice_mark M c ≡ 1 → Candidate (ring_of_word init) X (view_of (key_at K 0 c))
-    pub complete : (v : View) → Candidate (ring_of_word init) X v → (v ≡ view_of init) ⊎ ((c : ℕ) × (c < n) × (choice_mark M c ≡ 1) × (view_of (key_at K 0 c) ≡ v))
+  pub record MarkedChoices (K : List ℕ) (M : List Verdict) (n : ℕ) : Type 0 where
+    pub sound : (c : ℕ) → c < n → choice_mark M c ≡ true → Candidate (ring_of_word init) X (view_of (key_at K 0 c))
+    pub complete : (v : View) → Candidate (ring_of_word init) X v → (v ≡ view_of init) ⊎ ((c : ℕ) × (c < n) × (choice_mark M c ≡ true) × (view_of (key_at K 0 c) ≡ v))
     pub fits : AllFit X
 
   -- What is said of the candidates, which C lists, is right.
@@ -58,9 +62,9 @@ module _ (init : ℕ) (X : List Stmt) where
     pub views : r.conflict ≡ false → r.many ≡ false → views_of C r.count ≡ candidates (ring_of_word init) X
 
   -- The sealed histories are that of the initial view and those of the agreements before n that are marked.
-  pub record MarkedAgreements (W R M : List ℕ) (n : ℕ) : Type 0 where
-    pub sound : (a : ℕ) → a < n → seal_mark M a ≡ 1 → Sealed (ring_of_word init) X (stmt_at W (number_in R a)).views
-    pub complete : (H : List View) → Sealed (ring_of_word init) X H → (H ≡ view_of init ∷ []) ⊎ ((a : ℕ) × (a < n) × (seal_mark M a ≡ 1) × ((stmt_at W (number_in R a)).views ≡ H))
+  pub record MarkedAgreements (W R : List ℕ) (M : List Verdict) (n : ℕ) : Type 0 where
+    pub sound : (a : ℕ) → a < n → seal_mark M a ≡ true → Sealed (ring_of_word init) X (stmt_at W (number_in R a)).views
+    pub complete : (H : List View) → Sealed (ring_of_word init) X H → (H ≡ view_of init ∷ []) ⊎ ((a : ℕ) × (a < n) × (seal_mark M a ≡ true) × ((stmt_at W (number_in R a)).views ≡ H))
 
   -- What is said of the sealed histories, of which G is the greatest, is right: which of its views are skipped, by their places.
   pub record HistoriesOf (G : List ℕ) (r : Summit) : Type 0 where

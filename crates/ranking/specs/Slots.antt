@@ -7,6 +7,9 @@ use Rattle.protocol.specs.History.{Holds}
 use Rattle.views.specs.View.{view_of, views_of}
 use Rattle.pool.specs.Pool.{stmt_at}
 use Rattle.tables.specs.Index.{number_at}
+use Rattle.sealing.specs.declared.verdict.Verdict.{Verdict}
+use Rattle.sealing.specs.declared.verdict.Verdict.TheVariants.{Unknown}
+use Rattle.sealing.specs.Verdict.{is_yes}
 
 -- What a word stands for, the sizes of such things, above which none is, and when one lies under another.
 pub record Scale : Type 1 where
@@ -37,21 +40,21 @@ start_scale W = record { Thing = List View; thing = λ n. (stmt_at W n).views; s
 abbrev pub number_in : List ℕ → ℕ → ℕ
 number_in R a = number_at R 1 a
 
--- The verdicts on them: 1 marks a choice of a candidate, and an agreement that seals its history.
+-- The verdicts on them: a yes marks a choice of a candidate, and an agreement that seals its history.
 
-abbrev pub choice_mark : List ℕ → ℕ → ℕ
-choice_mark M c = get_or M c 0
+abbrev pub choice_mark : List Verdict → ℕ → Bool
+choice_mark M c = is_yes (get_or M c Unknown)
 
-abbrev pub seal_mark : List ℕ → ℕ → ℕ
-seal_mark M a = get_or M (512 + a) 0
+abbrev pub seal_mark : List Verdict → ℕ → Bool
+seal_mark M a = is_yes (get_or M (512 + a) Unknown)
 
 module _ (Q : Scale) where
   open Q use {Thing, thing, slots, Under}
 
-  module _ (base : ℕ) (F M : ℕ → ℕ) (n : ℕ) where
+  module _ (base : ℕ) (F : ℕ → ℕ) (M : ℕ → Bool) (n : ℕ) where
     -- The base, or a word before n that is marked.
     abbrev pub Stands : ℕ → Type 0
-    Stands v = (v ≡ base) ⊎ ((c : ℕ) × (c < n) × (M c ≡ 1) × (F c ≡ v))
+    Stands v = (v ≡ base) ⊎ ((c : ℕ) × (c < n) × (M c ≡ true) × (F c ≡ v))
 
     -- Each of them is in the slot of its size, and nothing else is in a slot. (A slot in which another size stands is free.)
     pub record Slots (S : List ℕ) : Type 0 where

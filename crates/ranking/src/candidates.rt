@@ -1,5 +1,5 @@
 // The candidates, the smaller first. Comparable views differ in size, so a slot for each size holds them.
-ghost use Rattle.std.specs.Prelude.{◌≡◌, List, ◌≤◌, ◌<◌, get_or, length};
+ghost use Rattle.std.specs.Prelude.{◌≡◌, List, ◌≤◌, ◌<◌, length};
 ghost use Rattle.protocol.specs.View.{size};
 ghost use Rattle.protocol.specs.Statement.{Stmt};
 ghost use Rattle.views.specs.View.{view_of};
@@ -7,20 +7,14 @@ ghost use Rattle.tables.specs.Index.{key_at};
 ghost use Rattle.ranking.specs.Slots.{view_scale, choice_mark, Slots, Filled, Compared, Listed};
 ghost use Rattle.ranking.specs.Ranking.{MarkedChoices, CandidatesOf};
 
-use crate::{MEMO, Ranked};
+use crate::Ranked;
+use sealing::{MEMO, Verdict};
 use tables::KEYS;
 use views::View;
+use votes::CHOICES;
 
 // Views have this many sizes: from 0 to all joined and all left.
 const SIZES: usize = 2 * View::WIDTH as usize + 1;
-
-// The view that choice c, a row of table 0, is for.
-fn view_at(keys: &[u64; KEYS], c: usize) -> u64
-    requires { c < 512 }
-    ensures { result ≡ key_at keys.now 0 c }
-{
-    tables::key(keys, 0, c)
-}
 
 // The size of v.
 fn size_of(v: u64) -> usize
@@ -34,24 +28,13 @@ fn slot_size(v: u64, init: u64, least: usize) -> usize
     requires { (least ≡ size 16 (view_of init)) × (least ≤ 32) }
     ensures { (result ≡ size 16 (view_of v)) × (result ≤ 32) }
 {
-    if v == init {
-        return least;
-    }
-    size_of(v)
-}
-
-// What slot k holds.
-fn slot_at(slots: &[u64; SIZES], k: usize) -> u64
-    requires { k < 33 }
-    ensures { result ≡ get_or slots.now k 0 }
-{
-    slots[k]
+    if v == init { least } else { size_of(v) }
 }
 
 // Puts the views of the marked choices into the slots of their sizes; false where two of one size differ.
 fn fill_slots(
     keys: &[u64; KEYS],
-    memo: &[u8; MEMO],
+    memo: &[Verdict; MEMO],
     choices: usize,
     init: u64,
     slots: &mut [u64; SIZES],
@@ -59,24 +42,20 @@ fn fill_slots(
     requires { (choices ≤ 512) × Slots view_scale init (key_at keys.now 0) (choice_mark memo.now) 0 slots.old }
     ensures { Filled view_scale init (key_at keys.now 0) (choice_mark memo.now) choices slots.new result }
 {
-    let mut c = 0usize;
-    while c < choices {
-        if memo[c] != 1 {
-            c += 1;
+    for c in 0..choices {
+        if !memo[c].is_yes() {
             continue;
         }
-        let v = view_at(keys, c);
+        let v = tables::key(keys, CHOICES, c);
         let k = size_of(v);
-        let u = slot_at(slots, k);
+        let u = slots[k];
         if u == v {
-            c += 1;
             continue;
         }
         if size_of(u) == k {
             return false;
         }
         slots[k] = v;
-        c += 1;
     }
     true
 }
@@ -86,26 +65,18 @@ fn compare_slots(slots: &[u64; SIZES], init: u64, least: usize) -> bool
     requires { (least ≡ size 16 (view_of init)) × (least ≤ 32) }
     ensures { Compared slots.now result }
 {
-    let mut some = false;
-    let mut last = 0u64;
-    let mut k = 0usize;
-    while k < SIZES {
-        let v = slot_at(slots, k);
+    let mut last = None;
+    for k in 0..SIZES {
+        let v = slots[k];
         if slot_size(v, init, least) != k {
-            k += 1;
             continue;
         }
-        if !some {
-            some = true;
-            last = v;
-            k += 1;
-            continue;
+        if let Some(u) = last {
+            if !views::within_view(u, v) {
+                return false;
+            }
         }
-        if !views::within_view(last, v) {
-            return false;
-        }
-        last = v;
-        k += 1;
+        last = Some(v);
     }
     true
 }
@@ -116,11 +87,9 @@ fn list_slots(slots: &[u64; SIZES], init: u64, least: usize, out: &mut [u64; Vie
     ensures { Listed slots.now out.new result }
 {
     let mut n = 0usize;
-    let mut k = 0usize;
-    while k < SIZES {
-        let v = slot_at(slots, k);
+    for k in 0..SIZES {
+        let v = slots[k];
         if slot_size(v, init, least) != k {
-            k += 1;
             continue;
         }
         if n == View::LIMIT {
@@ -128,7 +97,6 @@ fn list_slots(slots: &[u64; SIZES], init: u64, least: usize, out: &mut [u64; Vie
         }
         out[n] = v;
         n += 1;
-        k += 1;
     }
     n
 }
@@ -136,7 +104,7 @@ fn list_slots(slots: &[u64; SIZES], init: u64, least: usize, out: &mut [u64; Vie
 // The candidates of a record, of whose choices, so many, `memo` marks those that are of candidates, into `out`.
 pub fn rank(
     keys: &[u64; KEYS],
-    memo: &[u8; MEMO],
+    memo: &[Verdict; MEMO],
     choices: usize,
     init: u64,
     out: &mut [u64; View::LIMIT],
@@ -144,17 +112,9 @@ pub fn rank(
     requires { choices ≤ 512 }
     ensures { (X : List Stmt) → MarkedChoices init X keys.now memo.now choices → CandidatesOf init X out.new result }
 {
-    views::list_room(out);
     let mut slots = [init; SIZES];
-    if !fill_slots(keys, memo, choices, init, &mut slots) {
-        return Ranked {
-            conflict: true,
-            many: false,
-            count: 0,
-        };
-    }
     let least = size_of(init);
-    if !compare_slots(&slots, init, least) {
+    if !fill_slots(keys, memo, choices, init, &mut slots) || !compare_slots(&slots, init, least) {
         return Ranked {
             conflict: true,
             many: false,

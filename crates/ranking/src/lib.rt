@@ -6,11 +6,6 @@ mod histories;
 
 pub use candidates::rank;
 pub use histories::climb;
-use tables::KEYS;
-
-// A verdict for each row of the two tables.
-const MEMO: usize = KEYS;
-
 // How many candidates are listed, or that two of them are incomparable; `many` where there are more than sixteen.
 #[derive(Clone, Copy)]
 pub struct Ranked {

@@ -3,11 +3,12 @@
 use mathlib.Core.Path.{◌≡◌, refl, sym, ap, ap₂, subst, ◌∙◌}
 use mathlib.Core.Bool.{Bool, true, false, not, ◌&&◌}
 use mathlib.Core.List.{List, [], ◌∷◌}
+use Rattle.std.specs.Prelude as code
+use Rattle.std.specs.Prelude.{Some, None}
 use mathlib.Core.Option.{Option, some, none}
 use Prim.Native.Nat.{ℕ, ◌-◌, ◌<◌, min}
 use native.Mathlib.Omega.{arith}
-use denote.Enum.Declared.{tag_of}
-use types.Run.{OneOf, miss}
+use lib.Dec.{eqb}
 use lib.ListN.{get_or}
 use Rattle.protocol.specs.Lists.{any, find, when, given, is_some, list_of}
 use Rattle.protocol.specs.View.{View, same_view, member, has_members, below}
@@ -30,45 +31,44 @@ use Rattle.evidence.specs.Notices.{senders_of}
 use Rattle.evidence.proofs.Turns.{reported-turn}
 use Rattle.rules.specs.declared.Situation.{Situation}
 use Rattle.rules.specs.declared.Action.{Action}
-use Rattle.rules.specs.declared.Action.TheVariants.{Rest, Report, Enter, AgreeView, AgreeHistory, Ack, Store, Deliver, Join, Leave, Prepare}
-use Rattle.rules.specs.Actions.{statement_of, action_is, acts, Makes}
+use Rattle.rules.specs.declared.Action.TheVariants.{Report, Enter, AgreeView, AgreeHistory, Ack, Store, Deliver, Join, Leave, Prepare}
+use Rattle.rules.specs.Actions.{statement_of, action_is, answer_is, Makes}
 use Rattle.rules.specs.Rules.{own_at, report_due, Owns, SituationOf, ToldOf, Lent, statements, own_statements, candidate_views, greatest_views, senders, AllLent, Rule, merged_by, Does}
-use Rattle.rules.specs.contracts.Action as action
 use Rattle.rules.proofs.Scans.{owns-same, owns-at}
 
 -- ---- tests one after the other
 
 -- a, if every test passes
-unfoldable pub each : List Bool → Action → Action
-each [] a = a
+unfoldable pub each : List Bool → Action → code.Option Action
+each [] a = Some a
 each (true ∷ l) a = each l a
-each (false ∷ l) a = Rest
+each (false ∷ l) a = None
 
-pub stop : (b : Bool) (l : List Bool) (a : Action) → b ≡ false → Rest ≡ each (b ∷ l) a
+pub stop : (b : Bool) (l : List Bool) (a : Action) → b ≡ false → None ≡ each (b ∷ l) a
 unfolding each
 stop b l a e = rw e
 
-pub go : (b : Bool) (l : List Bool) (a r : Action) → b ≡ true → r ≡ each l a → r ≡ each (b ∷ l) a
+pub go : (b : Bool) (l : List Bool) (a : Action) (r : code.Option Action) → b ≡ true → r ≡ each l a → r ≡ each (b ∷ l) a
 unfolding each
 go b l a r e f = rw e f
 
-pub done : (a : Action) → a ≡ each [] a
+pub done : (a : Action) → Some a ≡ each [] a
 unfolding each
 done a = refl
 
-module _ (s : Situation) (H : List View) (B : List ℕ) (b : ℕ → Binding) (a : Action) {x : turn.Action} (is : some x ≡ action_is s H B b a) where
-  all2 : (p q : Bool) → when (p && q) x ≡ action_is s H B b (each (p ∷ q ∷ []) a)
+module _ (s : Situation) (H : List View) (B : List ℕ) (b : ℕ → Binding) (a : Action) {x : turn.Action} (is : some x ≡ answer_is s H B b (Some a)) where
+  all2 : (p q : Bool) → when (p && q) x ≡ answer_is s H B b (each (p ∷ q ∷ []) a)
   unfolding each action_is
   all2 true true = is
   all2 true false = refl
   all2 false q = refl
 
-  pub all3 : (p q r : Bool) → when (p && q && r) x ≡ action_is s H B b (each (p ∷ q ∷ r ∷ []) a)
+  pub all3 : (p q r : Bool) → when (p && q && r) x ≡ answer_is s H B b (each (p ∷ q ∷ r ∷ []) a)
   unfolding each action_is
   all3 true q r = all2 q r
   all3 false q r = refl
 
-  all4 : (p q r o : Bool) → when (p && q && r && o) x ≡ action_is s H B b (each (p ∷ q ∷ r ∷ o ∷ []) a)
+  all4 : (p q r o : Bool) → when (p && q && r && o) x ≡ answer_is s H B b (each (p ∷ q ∷ r ∷ o ∷ []) a)
   unfolding each action_is
   all4 true q r o = all3 q r o
   all4 false q r o = refl
@@ -78,52 +78,14 @@ unfolding find
 find-cong p q [] h = refl
 find-cong p q (a ∷ l) h = rw (h a, find-cong p q l h)
 
--- ---- actions by their tags
-
--- all but the first act
-pub acts-else : (a : Action) → (a ≡ Rest → ⊥) → true ≡ acts a
-acts-else Rest k = absurd (k refl)
-acts-else (Report u) k = refl
-acts-else (Enter v) k = refl
-acts-else AgreeView k = refl
-acts-else AgreeHistory k = refl
-acts-else (Ack j m) k = refl
-acts-else (Store j m) k = refl
-acts-else (Deliver j m) k = refl
-acts-else Join k = refl
-acts-else Leave k = refl
-acts-else (Prepare j m) k = refl
-
--- all but four sign, and do nothing else
-pub signs-else : (s : Situation) (H : List View) (B : List ℕ) (b : ℕ → Binding) (a : Action) → OneOf (1 ∷ 3 ∷ 4 ∷ 6 ∷ 8 ∷ 9 ∷ 10 ∷ []) (tag_of action.the_type a)
-    → action_is s H B b a ≡ some (turn.sign (statement_of s H B a))
-unfolding action_is
-signs-else s H B b Rest k = absurd (miss (1 ∷ 3 ∷ 4 ∷ 6 ∷ 8 ∷ 9 ∷ 10 ∷ []) 0 tt k)
-signs-else s H B b (Report u) k = refl
-signs-else s H B b (Enter v) k = absurd (miss (1 ∷ 3 ∷ 4 ∷ 6 ∷ 8 ∷ 9 ∷ 10 ∷ []) 2 tt k)
-signs-else s H B b AgreeView k = refl
-signs-else s H B b AgreeHistory k = refl
-signs-else s H B b (Ack j m) k = absurd (miss (1 ∷ 3 ∷ 4 ∷ 6 ∷ 8 ∷ 9 ∷ 10 ∷ []) 5 tt k)
-signs-else s H B b (Store j m) k = refl
-signs-else s H B b (Deliver j m) k = absurd (miss (1 ∷ 3 ∷ 4 ∷ 6 ∷ 8 ∷ 9 ∷ 10 ∷ []) 7 tt k)
-signs-else s H B b Join k = refl
-signs-else s H B b Leave k = refl
-signs-else s H B b (Prepare j m) k = refl
-
 -- whether something is done
-pub acts-is : (s : Situation) (H : List View) (B : List ℕ) (b : ℕ → Binding) (a : Action) → is_some (action_is s H B b a) ≡ acts a
-unfolding action_is
-acts-is s H B b Rest = refl
-acts-is s H B b (Report u) = refl
-acts-is s H B b (Enter v) = refl
-acts-is s H B b AgreeView = refl
-acts-is s H B b AgreeHistory = refl
-acts-is s H B b (Ack j m) = refl
-acts-is s H B b (Store j m) = refl
-acts-is s H B b (Deliver j m) = refl
-acts-is s H B b Join = refl
-acts-is s H B b Leave = refl
-acts-is s H B b (Prepare j m) = refl
+pub acts-is : (s : Situation) (H : List View) (B : List ℕ) (b : ℕ → Binding) (r : code.Option Action) → is_some (answer_is s H B b r) ≡ code.is_some r
+acts-is s H B b None = refl
+acts-is s H B b (Some a) = refl
+
+-- an action is something that is done
+pub acts-else : (s : Situation) (H : List View) (B : List ℕ) (b : ℕ → Binding) (a : Action) → true ≡ is_some (answer_is s H B b (Some a))
+acts-else s H B b a = refl
 
 -- ---- what is signed
 
@@ -136,10 +98,6 @@ module _ (s : Situation) (H : List View) {a : Action} {st : Statement} where
 
   pub report-made : {u : held.View} → a ≡ Report u → Makes s H (Report u) st → Makes s H a st
   report-made e m = record { means = λ B. m.means B ∙ ap (statement_of s H B) (sym e); short = m.short }
-
-  pub rest-made : a ≡ Rest → Made (join s.number) st → Makes s H a st
-  unfolding statement_of
-  rest-made = by-action (Rest) (λ B. refl)
 
   pub enter-made : {v : held.View} → a ≡ Enter v → Made (join s.number) st → Makes s H a st
   unfolding statement_of
@@ -203,32 +161,42 @@ own-asked X b k kind u q e = not-asked (λ x. any (own_at k kind x) X) e q
 pub top-asked : (b : Bool) (t : View) {u v : View} {r : Bool} → v ≡ u → b ≡ same_view v t → b ≡ r → not (same_view u t) ≡ not r
 top-asked b t q e = not-asked (λ x. same_view x t) e q
 
+-- the same by the library's tests of both words
+
+pub top-equal : (b : Bool) (t : View) {u v : View} {r : Bool} → v ≡ u → b ≡ (eqb v.joined t.joined && eqb v.left t.left) → b ≡ r → not (same_view u t) ≡ not r
+unfolding same_view
+top-equal b t q e = top-asked b t q e
+
+pub top-differs : (b : Bool) (t : View) {u v : View} {r : Bool} → v ≡ u → b ≡ not (eqb v.joined t.joined && eqb v.left t.left) → b ≡ r → not (same_view u t) ≡ r
+unfolding same_view
+top-differs b t q e f = sym (ap (λ x. not (same_view x t)) q) ∙ sym e ∙ f
+
 -- whether the view u, which v is, has members
 pub members-asked : (b c : Bool) {u v : View} → v ≡ u → b ≡ has_members 16 v → b ≡ c → has_members 16 u ≡ c
 members-asked b c q e f = ap (has_members 16) (sym q) ∙ sym e ∙ f
 
 -- ---- the rules
 
--- what the action a has the controller d do
-abbrev pub doing : Situation → Controller → List Stmt → List ℕ → Action → Option turn.Action
-doing s d X B a = action_is s (candidates d.ring X) B (merged_by d X) a
+-- what the answer of a rule has the controller d do
+abbrev pub doing : Situation → Controller → List Stmt → List ℕ → code.Option Action → Option turn.Action
+doing s d X B r = answer_is s (candidates d.ring X) B (merged_by d X) r
 
 -- the rule has every controller whose situation s is, and of whom L is lent, do a, and no merged binding matters
-abbrev pub IsAny : List Lent → Situation → Rule → Action → Type 0
-IsAny L s rule a = (d : Controller) (X : List Stmt) (B : List ℕ) (b : ℕ → Binding) → SituationOf d X s → AllLent s d X L → rule d X ≡ action_is s (candidates d.ring X) B b a
+abbrev pub IsAny : List Lent → Situation → Rule → code.Option Action → Type 0
+IsAny L s rule a = (d : Controller) (X : List Stmt) (B : List ℕ) (b : ℕ → Binding) → SituationOf d X s → AllLent s d X L → rule d X ≡ answer_is s (candidates d.ring X) B b a
 
 -- the same where it may matter
-abbrev pub Is : List Lent → Situation → Rule → Action → Type 0
+abbrev pub Is : List Lent → Situation → Rule → code.Option Action → Type 0
 Is L s rule a = (d : Controller) (X : List Stmt) (B : List ℕ) → SituationOf d X s → ToldOf d X B → AllLent s d X L → rule d X ≡ doing s d X B a
 
-pub does : {L : List Lent} {s : Situation} {rule : Rule} {a r : Action} → Is L s rule a → r ≡ a → Does L s rule r
+pub does : {L : List Lent} {s : Situation} {rule : Rule} {a r : code.Option Action} → Is L s rule a → r ≡ a → Does L s rule r
 does {s = s} f e = record { means = λ d X B k t h. ap (doing s d X B) e ∙ sym (f d X B k t h) }
 
-pub does-any : {L : List Lent} {s : Situation} {rule : Rule} {a r : Action} → IsAny L s rule a → r ≡ a → Does L s rule r
+pub does-any : {L : List Lent} {s : Situation} {rule : Rule} {a r : code.Option Action} → IsAny L s rule a → r ≡ a → Does L s rule r
 does-any f e = does (λ d X B k t h. f d X B (merged_by d X) k h) e
 
 -- where the record is lent, it is the one that is asked of
-pub with-record : (L : List Lent) {s : Situation} (rule : Rule) (a : Action) (Z : List Stmt)
+pub with-record : (L : List Lent) {s : Situation} (rule : Rule) (a : code.Option Action) (Z : List Stmt)
     → ((d : Controller) (B : List ℕ) → SituationOf d Z s → ToldOf d Z B → AllLent s d Z L → rule d Z ≡ doing s d Z B a) → Is (statements Z ∷ L) s rule a
 with-record L {s} rule a Z f d X B k t h = subst (λ X. SituationOf d X s → ToldOf d X B → AllLent s d X L → rule d X ≡ doing s d X B a) h.0 (f d B) k t h.1
 
@@ -265,11 +233,11 @@ module _ (Y : List Stmt) (s : Situation) where
     unfolding turn.rule1
     reporting o e d X B k l h = rw (find-cong _ _ _ (λ u. due-cong d X k u ∙ due-own h.0 u), ← h.1.0, ← e, told-whole s d X B k l, k.wished, k.number)
 
-    pub first-none : none ≡ find (report_due Y n t) (views_in G s.shown.length) → Is (own_statements Y ∷ greatest_views G ∷ []) s turn.rule1 Rest
+    pub first-none : none ≡ find (report_due Y n t) (views_in G s.shown.length) → Is (own_statements Y ∷ greatest_views G ∷ []) s turn.rule1 None
     unfolding action_is
     first-none e d X B k l h = reporting none e d X B k l h
 
-    pub first_on : (u : held.View) → some (view_is u) ≡ find (report_due Y n t) (views_in G s.shown.length) → Is (own_statements Y ∷ greatest_views G ∷ []) s turn.rule1 (Report u)
+    pub first_on : (u : held.View) → some (view_is u) ≡ find (report_due Y n t) (views_in G s.shown.length) → Is (own_statements Y ∷ greatest_views G ∷ []) s turn.rule1 (Some (Report u))
     unfolding action_is statement_of
     first_on u e d X B k l h = reporting (some (view_is u)) e d X B k l h
 
@@ -283,7 +251,7 @@ module _ (Y : List Stmt) (s : Situation) where
     newest u h = last_some _ s.shown.count u (λ e. omega arith)
 
     agreeing : (d : Controller) (X : List Stmt) (B : List ℕ) (b : ℕ → Binding) → SituationOf d X s → Owns X Y n → (H : List View) → H ≡ candidates d.ring X → (v : View) → v ≡ last d.ring.init H
-        → turn.rule4 d X ≡ action_is s H B b (each (s.stands ∷ not (same_view v t) ∷ not (any (same_stmt (agree_history n t H)) Y) ∷ []) AgreeHistory)
+        → turn.rule4 d X ≡ answer_is s H B b (each (s.stands ∷ not (same_view v t) ∷ not (any (same_stmt (agree_history n t H)) Y) ∷ []) AgreeHistory)
     unfolding turn.rule4 turn.has_signed action_is statement_of
     agreeing d X B b k y H e v q = rw (owns-same y (agree_history n t H) refl, q, e, k.stands, k.top, k.number) (all3 s (candidates d.ring X) B b AgreeHistory refl _ _ _)
 
@@ -291,7 +259,7 @@ module _ (Y : List Stmt) (s : Situation) where
         → IsAny (own_statements Y ∷ candidate_views C ∷ []) s turn.rule4 (each (s.stands ∷ not (same_view (view_in (get_or C (s.shown.count - 1) 0)) t) ∷ not (any (same_stmt (agree_history n t K)) Y) ∷ []) AgreeHistory)
     fourth {K} q l d X B b k h =
         agreeing d X B b k h.0 (candidates d.ring X) refl (view_in (get_or C (s.shown.count - 1) 0)) (newest d.ring.init l ∙ ap (last d.ring.init) h.1.0)
-        ∙ ap (λ K. action_is s (candidates d.ring X) B b (each (s.stands ∷ not (same_view (view_in (get_or C (s.shown.count - 1) 0)) t) ∷ not (any (same_stmt (agree_history n t K)) Y) ∷ []) AgreeHistory)) (sym (q ∙ h.1.0))
+        ∙ ap (λ K. answer_is s (candidates d.ring X) B b (each (s.stands ∷ not (same_view (view_in (get_or C (s.shown.count - 1) 0)) t) ∷ not (any (same_stmt (agree_history n t K)) Y) ∷ []) AgreeHistory)) (sym (q ∙ h.1.0))
 
   pub eighth : IsAny (own_statements Y ∷ []) s turn.rule8 (each (s.joining ∷ not (any (same_stmt (join n)) Y) ∷ []) Join)
   unfolding turn.rule8 turn.has_signed action_is statement_of
@@ -300,7 +268,7 @@ module _ (Y : List Stmt) (s : Situation) where
 -- ---- rule 2
 
 module _ (X : List Stmt) (S : List ℕ) (s : Situation) where
-  abbrev Is2 : Action → Type 0
+  abbrev Is2 : code.Option Action → Type 0
   Is2 a = Is (statements X ∷ senders S ∷ []) s turn.rule2 a
 
   entering : (d : Controller) → SituationOf d X s → (reported : Bool) → turn.is_reported d X ≡ reported
@@ -313,23 +281,23 @@ module _ (X : List Stmt) (S : List ℕ) (s : Situation) where
   in-ring d k l b e = reported-turn d X ∙ ap₂ (λ x y. reported_all x y X) k.ring l ∙ sym e
 
   module _ (inside : Bool) (i : inside ≡ member (view_is s.top) s.number) where
-    pub outside : inside ≡ false → Is2 Rest
+    pub outside : inside ≡ false → Is2 None
     unfolding action_is
-    outside f = with-record (senders S ∷ []) turn.rule2 Rest X (λ d B k t h. entering d k (turn.is_reported d X) refl ∙ rw (sym i ∙ f))
+    outside f = with-record (senders S ∷ []) turn.rule2 None X (λ d B k t h. entering d k (turn.is_reported d X) refl ∙ rw (sym i ∙ f))
 
     module _ (f : inside ≡ true) where
-      pub entered-already : s.entered ≡ true → Is2 Rest
+      pub entered-already : s.entered ≡ true → Is2 None
       unfolding action_is
-      entered-already g = with-record (senders S ∷ []) turn.rule2 Rest X (λ d B k t h. entering d k (turn.is_reported d X) refl ∙ rw (sym i ∙ f, g))
+      entered-already g = with-record (senders S ∷ []) turn.rule2 None X (λ d B k t h. entering d k (turn.is_reported d X) refl ∙ rw (sym i ∙ f, g))
 
       module _ (g : s.entered ≡ false) (reported : Bool) (e : reported ≡ reported_all (ring_is s.ring) (senders_of S s.ring.notices) X) where
-        pub not-reported : reported ≡ false → Is2 Rest
+        pub not-reported : reported ≡ false → Is2 None
         unfolding action_is
-        not-reported b = with-record (senders S ∷ []) turn.rule2 Rest X (λ d B k t h. entering d k reported (in-ring d k h.0 reported e) ∙ rw (sym i ∙ f, g, b))
+        not-reported b = with-record (senders S ∷ []) turn.rule2 None X (λ d B k t h. entering d k reported (in-ring d k h.0 reported e) ∙ rw (sym i ∙ f, g, b))
 
-        pub enters : reported ≡ true → Is2 (Enter s.top)
+        pub enters : reported ≡ true → Is2 (Some (Enter s.top))
         unfolding action_is
-        enters b = with-record (senders S ∷ []) turn.rule2 (Enter s.top) X (λ d B k t h. entering d k reported (in-ring d k h.0 reported e) ∙ rw (sym i ∙ f, g, b))
+        enters b = with-record (senders S ∷ []) turn.rule2 (Some (Enter s.top)) X (λ d B k t h. entering d k reported (in-ring d k h.0 reported e) ∙ rw (sym i ∙ f, g, b))
 
 -- ---- the parts of a rule
 

@@ -4,13 +4,14 @@ use Rattle.std.specs.Prelude.{if◌then◌else◌}
 use mathlib.Core.Path.{◌≡◌, refl, sym, ap, ap₂, subst, ◌∙◌}
 use mathlib.Core.Bool.{Bool, true, false, not, ◌&&◌, ◌||◌, and-true, and-false, true≢false, false≢true}
 use mathlib.Core.List.{List, [], ◌∷◌}
+use Rattle.std.specs.Prelude as code
+use Rattle.std.specs.Prelude.{Some, None, MatchOption}
 use mathlib.Core.Option.{Option, some, none}
 use Prim.Native.Nat.{ℕ, zero, suc, ◌+◌, ◌*◌, ◌≤◌, ◌<◌, min}
 use native.Mathlib.Decide.{dec_lt}
 use native.Mathlib.Omega.{arith}
-use lib.Dec.{eqb, leb}
+use lib.Dec.{eqb}
 use lib.ListN.{length, get_or}
-use borrow.Author.Tests.{le-leb, lt-leb}
 use Rattle.protocol.specs.Sets.{bit, every, set_of}
 use Rattle.protocol.specs.Lists.{any, find, when, given, is_some, least}
 use Rattle.protocol.specs.View.{View, same_view, member}
@@ -27,38 +28,46 @@ use Rattle.statements.specs.declared.Binding.TheVariants.{Unbound, Bound, Barred
 use Rattle.statements.specs.declared.Told.{Told}
 use Rattle.statements.specs.Block.{block_word, bound_or_barred, binding_is, told_is, binding_at, group_at}
 use Rattle.statements.specs.Sets.{Common, Union, Except, Next}
-use Rattle.statements.proofs.NoticeSets.{least-none}
+use Rattle.statements.proofs.NoticeSets as sets
 use Rattle.evidence.specs.Notices.{senders_of}
-use Rattle.rules.specs.declared.OptionalPayload.{OptionalPayload}
-use Rattle.rules.specs.declared.OptionalPayload.TheVariants.{Nothing, Payload}
 use Rattle.rules.specs.declared.Situation.{Situation}
 use Rattle.rules.specs.declared.Action.{Action}
-use Rattle.rules.specs.declared.Action.TheVariants.{Rest, Ack, Store, Deliver, Leave, Prepare}
-use Rattle.rules.specs.Payloads.{payload_is}
-use Rattle.rules.specs.Actions.{statement_of, action_is, acts}
-use Rattle.rules.specs.Rules.{own_of, own_of_at, prepared_by, prepared_in, sent_by, first_prepare, ack_for, ackable, AcksDue, PreparedOutside, may_leave, Owns, Marks, Least, SituationOf, ToldOf, SendsOf, Lent, statements, own_statements, senders, told, sends, AllLent, Rule, rule9_at, merged_by, Does}
+use Rattle.rules.specs.declared.Action.TheVariants.{Ack, Store, Deliver, Leave, Prepare}
+use Rattle.views.specs.Options.{option_of}
+use Rattle.views.proofs.Options.{option-some, option-none}
+use Rattle.rules.specs.Actions.{statement_of, action_is}
+use Rattle.rules.specs.Rules.{own_of, own_of_at, prepared_by, prepared_in, sent_by, first_prepare, ack_for, ackable, AcksDue, PreparedOutside, may_leave, Owns, Marks, Misses, Least, SituationOf, ToldOf, SendsOf, Lent, statements, own_statements, senders, told, sends, AllLent, Rule, rule9_at, Does}
 use Rattle.rules.proofs.Scans.{owns-same, owns_of, owns-of-at}
-use Rattle.rules.proofs.Applied.{each, doing, IsAny, all3, acts-is}
+use Rattle.rules.proofs.Applied.{each, doing, IsAny, all3}
 
 -- ---- the least notice
 
 first_some : {A : Type 0} (n r : ℕ) (f : ℕ → Option A) (o : Option A) → r < n → ((i : ℕ) → i < r → f i ≡ none) → f r ≡ o → is_some o ≡ true → least n f ≡ o
 first_some n r f none l h e y = absurd (false≢true y)
-first_some n r f (some a) l h e y = least_first n f r l (least-none r f h) e
+first_some n r f (some a) l h e y = least_first n f r l (sets.least-none r f h) e
 
-pub least-outside : (set n j : ℕ) → Next set 0 j → n ≤ j → Least set n 64
-least-outside set n j k h = record { before = λ i l m. k.none i (omega arith) (omega arith); here = λ l. absurd (omega arith) }
+pub least-none : (set n j : ℕ) → Next set 0 j → min n 64 ≤ j → Misses set n
+least-none set n j k h = record { none = λ i l. k.none i (omega arith) (omega arith) }
 
-pub least-within : (set n j : ℕ) → Next set 0 j → j < n → Least set n j
-least-within set n j k h = record { before = λ i l m. k.none i (omega arith) m; here = λ l. (h, (k.here l).1) }
+pub least-some : (set n j : ℕ) → Next set 0 j → j < min n 64 → Least set n j
+least-some set n j k h = record { below = omega arith; notice = omega arith; has = (k.here (omega arith)).1; before = λ i m. k.none i (omega arith) m }
+
+-- where there is none, none is below n
+abbrev pub LeastOf : ℕ → ℕ → code.Option ℕ → Type 0
+LeastOf set n r = MatchOption r (Misses set n) (Least set n)
 
 -- What a rule has a controller do of one notice.
 abbrev For : Type 0
 For = Controller → List Stmt → ℕ → Option turn.Action
 
+-- the answer r, if the set has the notice
+abbrev pub answered : Bool → code.Option Action → code.Option Action
+answered true r = r
+answered false r = None
+
 -- the rule has every controller whose situation s is, and of whom L is lent, do of notice i what A gives, if the set has i
-abbrev pub IsAt : List Lent → Situation → For → ℕ → (ℕ → Action) → Type 0
-IsAt L s f set A = (d : Controller) (X : List Stmt) (B : List ℕ) → SituationOf d X s → ToldOf d X B → AllLent s d X L → (i : ℕ) → i < length d.senders → f d X i ≡ doing s d X B (each (bit set i ∷ []) (A i))
+abbrev pub IsAt : List Lent → Situation → For → ℕ → (ℕ → code.Option Action) → Type 0
+IsAt L s f set A = (d : Controller) (X : List Stmt) (B : List ℕ) → SituationOf d X s → ToldOf d X B → AllLent s d X L → (i : ℕ) → i < length d.senders → f d X i ≡ doing s d X B (answered (bit set i) (A i))
 
 -- the rule rests of every notice
 abbrev RestsAt : List Lent → Situation → For → Type 0
@@ -68,26 +77,22 @@ abbrev By : Rule → For → Type 0
 By rule f = (d : Controller) (X : List Stmt) → rule d X ≡ least (length d.senders) (f d X)
 
 module _ (L : List Lent) (s : Situation) (rule : Rule) (f : For) (by : By rule f) where
-  all_rest : RestsAt L s f → Does L s rule Rest
-  unfolding action_is
-  all_rest h = record { means = λ d X B k t l. sym (by d X ∙ least-none (length d.senders) (f d X) (h d X k l)) }
+  all_rest : RestsAt L s f → Does L s rule None
+  all_rest h = record { means = λ d X B k t l. sym (by d X ∙ sets.least-none (length d.senders) (f d X) (h d X k l)) }
 
-  module _ (set : ℕ) (A : ℕ → Action) (at : IsAt L s f set A) {r : ℕ} (m : Least set s.ring.notices r) where
-    rests : (d : Controller) (X : List Stmt) (B : List ℕ) → SituationOf d X s → ToldOf d X B → AllLent s d X L → (i : ℕ) → i < length d.senders → i < r → f d X i ≡ none
-    unfolding each action_is
-    rests d X B k t l i h e = at d X B k t l i h ∙ ap (λ b. doing s d X B (each (b ∷ []) (A i))) (m.before i (omega (arith, k.notices)) e)
+  module _ (set : ℕ) (A : ℕ → code.Option Action) (at : IsAt L s f set A) where
+    rests : (d : Controller) (X : List Stmt) (B : List ℕ) → SituationOf d X s → ToldOf d X B → AllLent s d X L → (i : ℕ) → i < length d.senders → bit set i ≡ false → f d X i ≡ none
+    rests d X B k t l i h e = at d X B k t l i h ∙ ap (λ b. doing s d X B (answered b (A i))) e
 
-    pub least-rests : 64 ≤ r → Does L s rule Rest
-    unfolding action_is
-    least-rests g = record { means = λ d X B k t l. sym (by d X ∙ least-none (length d.senders) (f d X) (λ i h. rests d X B k t l i h (omega (arith, k.notices)))) }
+    pub least-rests : Misses set s.ring.notices → Does L s rule None
+    least-rests m = record { means = λ d X B k t l. sym (by d X ∙ sets.least-none (length d.senders) (f d X) (λ i h. rests d X B k t l i h (m.none i (omega (arith, k.notices))))) }
 
-    pub least-acts : (a : Action) → r < 64 → a ≡ A r → acts a ≡ true → Does L s rule a
-    unfolding each
-    least-acts a g e y = record {
+    pub least-acts : {r : ℕ} → Least set s.ring.notices r → (a : Action) → Some a ≡ A r → Does L s rule (Some a)
+    least-acts {r} m a e = record {
       means = λ d X B k t l.
-          (let h : r < length d.senders = omega (arith, k.notices, (m.here g).0) in
-          sym (by d X ∙ first_some (length d.senders) r (f d X) (doing s d X B a) h (λ i j. rests d X B k t l i (omega (arith, h)) j)
-          (at d X B k t l r h ∙ ap (λ b. doing s d X B (each (b ∷ []) (A r))) (m.here g).1 ∙ ap (doing s d X B) (sym e)) (acts-is s (candidates d.ring X) B (merged_by d X) a ∙ y)));
+          (let h : r < length d.senders = omega (arith, k.notices, m.below, m.notice) in
+          sym (by d X ∙ first_some (length d.senders) r (f d X) (doing s d X B (Some a)) h (λ i j. rests d X B k t l i (omega (arith, h)) (m.before i j))
+          (at d X B k t l r h ∙ ap (λ b. doing s d X B (answered b (A r))) m.has ∙ ap (doing s d X B) (sym e)) refl));
     }
 
 -- ---- one notice
@@ -115,8 +120,7 @@ module _ {A : Type 0} where
   if_none false o e = refl
 
 -- the rule asks for a certificate or a request, which c says there is, and then for p
-on-notice : (s : Situation) (d : Controller) (X : List Stmt) (B : List ℕ) (a : Action) {x : turn.Action} (on c p : Bool) → some x ≡ doing s d X B a → on ≡ (c && p) → (if c then when p x else none) ≡ doing s d X B (each (on ∷ []) a)
-unfolding each action_is
+on-notice : (s : Situation) (d : Controller) (X : List Stmt) (B : List ℕ) (a : Action) {x : turn.Action} (on c p : Bool) → some x ≡ doing s d X B (Some a) → on ≡ (c && p) → (if c then when p x else none) ≡ doing s d X B (answered on (Some a))
 on-notice s d X B a on true true is e = rw e is
 on-notice s d X B a on true false is e = rw e
 on-notice s d X B a on false p is e = rw e
@@ -153,14 +157,14 @@ module _ (Y : List Stmt) (C : List ℕ) (s : Situation) where
   unfolding turn.rule6_for
   storing d X k t i h = by-certificate (turn.certificate d X i) (bit s.shown.certified i) (group_at C i).kept _ (k.certificate i h) (kept-is t i h)
 
-  pub sixth-none : s.shown.certified ≡ 0 → Does L6 s turn.rule6 Rest
+  pub sixth-none : s.shown.certified ≡ 0 → Does L6 s turn.rule6 None
   sixth-none e = all_rest L6 s turn.rule6 turn.rule6_for by6 (λ d X k l i h. storing d X k l.1.0 i h ∙ if-false _ _ _ (ap (λ x. bit x i) e ∙ bit-zero i))
 
-  pub sixth-off : s.stands ≡ false → Does L6 s turn.rule6 Rest
+  pub sixth-off : s.stands ≡ false → Does L6 s turn.rule6 None
   sixth-off e = all_rest L6 s turn.rule6 turn.rule6_for by6 (λ d X k l i h. storing d X k l.1.0 i h ∙ if_none (bit s.shown.certified i) _ (ap (λ b. when (b && not (turn.own d X (stores_at (turn.T d X) i))) (turn.sign (store d.number (turn.T d X) i (group_at C i).kept))) (k.stands ∙ e)))
 
   pub sixth : {stored set : ℕ} → s.stands ≡ true → Marks (own_of_at s.number 8 (view_is s.top)) Y stored → Except s.shown.certified stored set
-      → IsAt L6 s turn.rule6_for set (λ i. Store i (group_at C i).kept)
+      → IsAt L6 s turn.rule6_for set (λ i. Some (Store i (group_at C i).kept))
   unfolding turn.own action_is statement_of
   sixth {stored} {set} e m x d X B k t l i h =
       storing d X k l.1.0 i h
@@ -193,14 +197,14 @@ module _ (C : List ℕ) (s : Situation) where
       given-same (turn.certificate d X i) _ (λ m. when (may_deliver s.active s.left i) (turn.deliver i m)) (λ m e. rw (k.left, k.stored i m h e, k.active, k.delivered i h))
       ∙ by-certificate (turn.certificate d X i) (bit s.shown.certified i) (group_at C i).kept _ (k.certificate i h) (kept-is t i h)
 
-  pub seventh-idle : s.active ≡ false → Does L7 s turn.rule7 Rest
+  pub seventh-idle : s.active ≡ false → Does L7 s turn.rule7 None
   seventh-idle e = all_rest L7 s turn.rule7 turn.rule7_for by7 (λ d X k l i h. delivering d X k l.0 i h ∙ if_none (bit s.shown.certified i) _ (ap (λ b. when (may_deliver b s.left i) (turn.deliver i (group_at C i).kept)) e))
 
-  pub seventh-left : s.active ≡ true → s.left ≡ true → Does L7 s turn.rule7 Rest
+  pub seventh-left : s.active ≡ true → s.left ≡ true → Does L7 s turn.rule7 None
   seventh-left e f = all_rest L7 s turn.rule7 turn.rule7_for by7 (λ d X k l i h. delivering d X k l.0 i h ∙ if_none (bit s.shown.certified i) _ (ap₂ (λ a b. when (may_deliver a b i) (turn.deliver i (group_at C i).kept)) e f))
 
   pub seventh : {both set : ℕ} → s.active ≡ true → s.left ≡ false → Common s.shown.certified s.shown.stored both → Except both s.delivered set
-      → IsAt L7 s turn.rule7_for set (λ i. Deliver i (group_at C i).kept)
+      → IsAt L7 s turn.rule7_for set (λ i. Some (Deliver i (group_at C i).kept))
   unfolding action_is
   seventh {both} {set} e f b x d X B k t l i h =
       delivering d X k l.0 i h
@@ -237,10 +241,10 @@ module _ (Y : List Stmt) (P : List ℕ) (s : Situation) where
   sending d X k t i h = ap (λ o. given o (λ m. when (turn.stands d X && not (turn.has_signed d X (leave d.number)) && not (turn.has_signed d X (prepare d.number i m))) (turn.sign (prepare d.number i m)))) (t.at i h)
       ∙ by-request (bit s.requested i) (get_or P i 0) _
 
-  pub tenth-none : s.requested ≡ 0 → Does L10 s turn.rule10 Rest
+  pub tenth-none : s.requested ≡ 0 → Does L10 s turn.rule10 None
   tenth-none e = all_rest L10 s turn.rule10 turn.rule10_for by10 (λ d X k l i h. sending d X k l.1.0 i h ∙ if-false _ _ _ (ap (λ x. bit x i) e ∙ bit-zero i))
 
-  pub tenth-off : s.stands ≡ false → Does L10 s turn.rule10 Rest
+  pub tenth-off : s.stands ≡ false → Does L10 s turn.rule10 None
   unfolding may_send
   tenth-off e = all_rest L10 s turn.rule10 turn.rule10_for by10 (λ d X k l i h. sending d X k l.1.0 i h ∙ if_none (bit s.requested i) _ (ap (λ b. when (may_send d X b i) (turn.sign (prepare d.number i (get_or P i 0)))) (k.stands ∙ e)))
 
@@ -257,12 +261,12 @@ module _ (Y : List Stmt) (P : List ℕ) (s : Situation) where
   off-when a true q r e = rw e
   off-when a false q r e = refl
 
-  pub tenth-left : not (any (same_stmt (leave s.number)) Y) ≡ false → Does L10 s turn.rule10 Rest
+  pub tenth-left : not (any (same_stmt (leave s.number)) Y) ≡ false → Does L10 s turn.rule10 None
   unfolding may_send
   tenth-left e = all_rest L10 s turn.rule10 turn.rule10_for by10 (λ d X k l i h. sending d X k l.1.0 i h ∙ if_none (bit s.requested i) _ (off-when (turn.sign (prepare d.number i (get_or P i 0))) (turn.stands d X) (not (turn.has_signed d X (leave d.number))) (not (turn.has_signed d X (prepare d.number i (get_or P i 0)))) (ap not (leaving-is d X k l.0) ∙ e)))
 
   pub tenth : {sent set : ℕ} → s.stands ≡ true → not (any (same_stmt (leave s.number)) Y) ≡ true → Marks (sent_by s.number P) Y sent → Except s.requested sent set
-      → IsAt L10 s turn.rule10_for set (λ i. Prepare i (get_or P i 0))
+      → IsAt L10 s turn.rule10_for set (λ i. Some (Prepare i (get_or P i 0)))
   unfolding may_send action_is statement_of
   tenth {sent} {set} e f m x d X B k t l i h =
       sending d X k l.1.0 i h
@@ -298,18 +302,19 @@ not-waiting false true = refl
 not-waiting false false = refl
 
 -- no notice of the first n is waited for
-module _ (n delivered certified k : ℕ) (Y : List Stmt) {prepared either waiting r : ℕ} (m : Marks (own_of k 6) Y prepared) (u : Union certified prepared either) (x : Except either delivered waiting) (l : Least waiting n r) where
+module _ (n delivered certified k : ℕ) (Y : List Stmt) {prepared either waiting : ℕ} (m : Marks (own_of k 6) Y prepared) (u : Union certified prepared either) (x : Except either delivered waiting) where
   waited : (i : ℕ) → i < min n 64 → (bit delivered i || not (bit certified i || any (own_of k 6 i) Y)) ≡ not (bit waiting i)
   waited i h =
       ap (λ b. bit delivered i || not (bit certified i || b)) (sym (m.bits i (omega arith))) ∙ ap (λ b. bit delivered i || not b) (sym (u.bits i))
       ∙ not-waiting (bit delivered i) (bit either i) ∙ ap not (sym (x.bits i))
 
-  pub leave-may : leb 64 r ≡ may_leave (min n 64) delivered certified k Y
+  -- b tells whether there is none
+  pub leave-may : (r : code.Option ℕ) (b : Bool) → LeastOf waiting n r → code.is_some r ≡ not b → b ≡ may_leave (min n 64) delivered certified k Y
   unfolding may_leave
-  leave-may = elim (dec_lt r 64) [
-    | yes h ↦ (let (b, o) = l.here h in lt-leb 64 r h ∙ sym (every-not _ (min n 64) r (omega arith) (waited r (omega arith) ∙ ap not o)))
-    | no h ↦ le-leb 64 r (omega arith) ∙ sym (every-all _ (min n 64) (λ i j. waited i j ∙ ap not (l.before i j (omega arith))))
-  ]
+  leave-may None true l e = sym (every-all _ (min n 64) (λ i j. waited i j ∙ ap not (l.none i j)))
+  leave-may None false l e = absurd (false≢true e)
+  leave-may (Some r) true l e = absurd (true≢false e)
+  leave-may (Some r) false l e = sym (every-not _ (min n 64) r (omega (arith, l.below, l.notice)) (waited r (omega (arith, l.below, l.notice)) ∙ ap not l.has))
 
 module _ (Y : List Stmt) (s : Situation) (d : Controller) (X : List Stmt) (k : SituationOf d X s) (y : Owns X Y s.number) where
   one-waits : (i : ℕ) → i < length d.senders → (d.delivered i || not (turn.is_kept d X i)) ≡ (bit s.delivered i || not (bit s.shown.certified i || any (own_of s.number 6 i) Y))
@@ -345,22 +350,22 @@ module _ (S : List ℕ) (X : List Stmt) (t : View) (C : List ℕ) (j : ℕ) wher
     told-as : (b : bindings.Binding) → g.binding ≡ b → binding_of (group_at C j) ≡ binding_is b
     told-as b f = ap binding_of (sym e) ∙ binding-told (binding_is g.binding) (when g.stored g.kept) ∙ ap binding_is f
 
-    pub ack-bound : (m : ℕ) → g.binding ≡ Bound m → some m ≡ ackable S X t C j
-    ack-bound m f = sym (by-binding (bound m) (told-as (Bound m) f))
+    pub ack-bound : (m : ℕ) → g.binding ≡ Bound m → Some m ≡ option_of (ackable S X t C j)
+    ack-bound m f = ap option_of (sym (by-binding (bound m) (told-as (Bound m) f)))
 
-    pub ack-barred : g.binding ≡ Barred → none ≡ ackable S X t C j
-    ack-barred f = sym (by-binding barred (told-as Barred f))
+    pub ack-barred : g.binding ≡ Barred → None ≡ option_of (ackable S X t C j)
+    ack-barred f = ap option_of (sym (by-binding barred (told-as Barred f)))
 
     module _ (f : g.binding ≡ Unbound) (b : Bool) (is : b ≡ member t (get_or S j 0)) where
       as_member : (y : Bool) → b ≡ y → ackable S X t C j ≡ given (find (prepared_by (get_or S j 0) j) X) (λ s. when y (payload_of s))
       as_member y h = by-binding unbound (told-as Unbound f) ∙ ap (λ y. given (find (prepared_by (get_or S j 0) j) X) (λ s. when y (payload_of s))) (sym is ∙ h)
 
-      pub ack-outside : b ≡ false → none ≡ ackable S X t C j
-      ack-outside h = sym (as_member false h ∙ given_nothing (find (prepared_by (get_or S j 0) j) X))
+      pub ack-outside : b ≡ false → None ≡ option_of (ackable S X t C j)
+      ack-outside h = ap option_of (sym (as_member false h ∙ given_nothing (find (prepared_by (get_or S j 0) j) X)))
 
-      pub ack-first : (r : OptionalPayload) → b ≡ true → payload_is r ≡ first_prepare (get_or S j 0) j X → payload_is r ≡ ackable S X t C j
+      pub ack-first : (r : code.Option ℕ) → b ≡ true → r ≡ option_of (first_prepare (get_or S j 0) j X) → r ≡ option_of (ackable S X t C j)
       unfolding first_prepare
-      ack-first r h q = q ∙ sym (as_member true h)
+      ack-first r h q = q ∙ ap option_of (sym (as_member true h))
 
 -- ---- the set of notices of which there is something to ack
 
@@ -369,8 +374,9 @@ unfolding set_of
 all-bits i h = bit-set_of 64 (λ k. true) i h
 
 module _ (S : List ℕ) (X : List Stmt) (t : View) (set n : ℕ) where
-  pub outside-none : {outside r : ℕ} → Except 18446744073709551615 set outside → Least outside n r → 64 ≤ r → PreparedOutside S X t set n 0
-  outside-none x l g = record { bits = λ i h e. absurd (true≢false (sym (x.bits i ∙ ap₂ (λ a b. a && not b) (all-bits i (omega arith)) e) ∙ l.before i h (omega arith))) }
+  pub outside-none : {outside : ℕ} (r : code.Option ℕ) → Except 18446744073709551615 set outside → LeastOf outside n r → code.is_some r ≡ false → PreparedOutside S X t set n 0
+  outside-none None x l g = record { bits = λ i h e. absurd (true≢false (sym (x.bits i ∙ ap₂ (λ a b. a && not b) (all-bits i (omega arith)) e) ∙ l.none i h)) }
+  outside-none (Some r) x l g = absurd (true≢false g)
 
   pub outside-some : {r : ℕ} → Marks (prepared_in t S) X r → PreparedOutside S X t set n r
   outside-some m = record { bits = λ i h e. m.bits i (omega arith) }
@@ -420,9 +426,9 @@ unfolding turn.rule5
 by5 d X = refl
 
 -- what is done of notice i where o is to be acked
-abbrev pub ack_of : ℕ → Option ℕ → Action
-ack_of i none = Rest
-ack_of i (some m) = Ack i m
+abbrev pub ack_of : ℕ → Option ℕ → code.Option Action
+ack_of i none = None
+ack_of i (some m) = Some (Ack i m)
 
 module _ (X Y : List Stmt) (S C : List ℕ) (s : Situation) where
   abbrev L5 : List Lent
@@ -451,19 +457,18 @@ module _ (X Y : List Stmt) (S C : List ℕ) (s : Situation) where
   acking d k l i h = ap (λ o. given o (λ m. when (turn.stands d X && not (turn.own d X (acks_at (turn.T d X) i))) (turn.bind_and_sign i m (ack d.number (turn.T d X) i m)))) (to-ack-is d k l.1.0 l.1.1.0 i h)
 
   -- where the record is lent, it is the one that is asked of
-  fixed : (f : For) (set : ℕ) (A : ℕ → Action)
-      → ((d : Controller) (B : List ℕ) → SituationOf d X s → AllLent s d X (own_statements Y ∷ senders S ∷ told C ∷ []) → (i : ℕ) → i < length d.senders → f d X i ≡ doing s d X B (each (bit set i ∷ []) (A i)))
+  fixed : (f : For) (set : ℕ) (A : ℕ → code.Option Action)
+      → ((d : Controller) (B : List ℕ) → SituationOf d X s → AllLent s d X (own_statements Y ∷ senders S ∷ told C ∷ []) → (i : ℕ) → i < length d.senders → f d X i ≡ doing s d X B (answered (bit set i) (A i)))
       → IsAt L5 s f set A
   fixed f set A g d Z B k b h =
-      subst (λ Z. SituationOf d Z s → AllLent s d Z (own_statements Y ∷ senders S ∷ told C ∷ []) → (i : ℕ) → i < length d.senders → f d Z i ≡ doing s d Z B (each (bit set i ∷ []) (A i))) h.0 (g d B) k h.1
+      subst (λ Z. SituationOf d Z s → AllLent s d Z (own_statements Y ∷ senders S ∷ told C ∷ []) → (i : ℕ) → i < length d.senders → f d Z i ≡ doing s d Z B (answered (bit set i) (A i))) h.0 (g d B) k h.1
 
-  pub fifth-off : s.stands ≡ false → Does L5 s turn.rule5 Rest
+  pub fifth-off : s.stands ≡ false → Does L5 s turn.rule5 None
   fifth-off e = all_rest L5 s turn.rule5 turn.rule5_for by5 (λ d Z k h. subst (λ Z. SituationOf d Z s → AllLent s d Z (own_statements Y ∷ senders S ∷ told C ∷ []) → (i : ℕ) → i < length d.senders → turn.rule5_for d Z i ≡ none) h.0
       (λ k l i h. acking d k l i h ∙ given-none (ackable S X t C i) _ (λ m. ap (λ b. when (b && not (turn.own d X (acks_at (turn.T d X) i))) (turn.bind_and_sign i m (ack d.number (turn.T d X) i m))) (k.stands ∙ e))) k h.1)
 
-  ack-given : (d : Controller) (B : List ℕ) (i : ℕ) (x : ℕ → turn.Action) → ((m : ℕ) → some (x m) ≡ doing s d X B (Ack i m)) → (o : Option ℕ) (on q p : Bool) → on ≡ (q && is_some o) → p ≡ q
-      → given o (λ m. when p (x m)) ≡ doing s d X B (each (on ∷ []) (ack_of i o))
-  unfolding each action_is
+  ack-given : (d : Controller) (B : List ℕ) (i : ℕ) (x : ℕ → turn.Action) → ((m : ℕ) → some (x m) ≡ doing s d X B (Some (Ack i m))) → (o : Option ℕ) (on q p : Bool) → on ≡ (q && is_some o) → p ≡ q
+      → given o (λ m. when p (x m)) ≡ doing s d X B (answered on (ack_of i o))
   ack-given d B i x is none on q p e f = rw (e, and-false q)
   ack-given d B i x is (some m) on true p e f = rw (e, f) (is m)
   ack-given d B i x is (some m) on false p e f = rw (e, f)
@@ -476,39 +481,38 @@ module _ (X Y : List Stmt) (S C : List ℕ) (s : Situation) where
         ∙ ack-given d B i (λ m. turn.bind_and_sign i m (ack d.number (turn.T d X) i m)) (λ m. ap₂ (λ n v. some (turn.bind_and_sign i m (ack n v i m))) k.number k.top) (ackable S X t C i) (bit due i) (not (bit acked i)) _
         (a.bits i (omega (arith, k.notices))) (ap₂ (λ p q. p && not q) (k.stands ∙ e) (at-marked k l.0 7 i m h)))
 
-    module _ {r : ℕ} (l : Least due s.ring.notices r) (g : r < 64) where
-      pub fifth-acks : s.stands ≡ true → (p : ℕ) → payload_is (Payload p) ≡ ackable S X t C r → Does L5 s turn.rule5 (Ack r p)
-      fifth-acks e p q = least-acts L5 s turn.rule5 turn.rule5_for by5 due (λ i. ack_of i (ackable S X t C i)) (fifth e) l (Ack r p) g (ap (ack_of r) q) refl
+    module _ {r : ℕ} (l : Least due s.ring.notices r) where
+      pub fifth-acks : s.stands ≡ true → (p : ℕ) → Some p ≡ option_of (ackable S X t C r) → Does L5 s turn.rule5 (Some (Ack r p))
+      fifth-acks e p q = least-acts L5 s turn.rule5 turn.rule5_for by5 due (λ i. ack_of i (ackable S X t C i)) (fifth e) l (Ack r p) (ap (ack_of r) (sym (option-some (ackable S X t C r) p q)))
 
       -- there is something to ack of a notice in the set
-      pub fifth-never : payload_is Nothing ≡ ackable S X t C r → ⊥
-      fifth-never q = false≢true (sym (and-false (not (bit acked r))) ∙ ap (λ o. not (bit acked r) && is_some o) q ∙ sym (a.bits r (omega (arith, (l.here g).0))) ∙ (l.here g).1)
+      pub fifth-never : None ≡ option_of (ackable S X t C r) → ⊥
+      fifth-never q =
+          false≢true (sym (and-false (not (bit acked r))) ∙ ap (λ o. not (bit acked r) && is_some o) (sym (option-none (ackable S X t C r) q)) ∙ sym (a.bits r (omega (arith, l.below, l.notice))) ∙ l.has)
 
-    pub fifth-rests : {r : ℕ} → s.stands ≡ true → Least due s.ring.notices r → 64 ≤ r → Does L5 s turn.rule5 Rest
-    fifth-rests e l g = least-rests L5 s turn.rule5 turn.rule5_for by5 due (λ i. ack_of i (ackable S X t C i)) (fifth e) l g
+    pub fifth-rests : s.stands ≡ true → Misses due s.ring.notices → Does L5 s turn.rule5 None
+    fifth-rests e l = least-rests L5 s turn.rule5 turn.rule5_for by5 due (λ i. ack_of i (ackable S X t C i)) (fifth e) l
 
 -- ---- rules 6, 7 and 10 by the least
 
-module _ (Y : List Stmt) (C : List ℕ) (s : Situation) {stored set r : ℕ} (e : s.stands ≡ true) (m : Marks (own_of_at s.number 8 (view_is s.top)) Y stored) (x : Except s.shown.certified stored set)
-    (l : Least set s.ring.notices r) where
-  pub sixth-rests : 64 ≤ r → Does (L6 Y C s) s turn.rule6 Rest
-  sixth-rests g = least-rests (L6 Y C s) s turn.rule6 turn.rule6_for by6 set (λ i. Store i (group_at C i).kept) (sixth Y C s e m x) l g
+module _ (Y : List Stmt) (C : List ℕ) (s : Situation) {stored set : ℕ} (e : s.stands ≡ true) (m : Marks (own_of_at s.number 8 (view_is s.top)) Y stored) (x : Except s.shown.certified stored set) where
+  pub sixth-rests : Misses set s.ring.notices → Does (L6 Y C s) s turn.rule6 None
+  sixth-rests l = least-rests (L6 Y C s) s turn.rule6 turn.rule6_for by6 set (λ i. Some (Store i (group_at C i).kept)) (sixth Y C s e m x) l
 
-  pub sixth-stores : (p : ℕ) → r < 64 → p ≡ (group_at C r).kept → Does (L6 Y C s) s turn.rule6 (Store r p)
-  sixth-stores p g q = least-acts (L6 Y C s) s turn.rule6 turn.rule6_for by6 set (λ i. Store i (group_at C i).kept) (sixth Y C s e m x) l (Store r p) g (ap (Store r) q) refl
+  pub sixth-stores : {r : ℕ} → Least set s.ring.notices r → (p : ℕ) → p ≡ (group_at C r).kept → Does (L6 Y C s) s turn.rule6 (Some (Store r p))
+  sixth-stores {r} l p q = least-acts (L6 Y C s) s turn.rule6 turn.rule6_for by6 set (λ i. Some (Store i (group_at C i).kept)) (sixth Y C s e m x) l (Store r p) (ap (λ x. Some (Store r x)) q)
 
-module _ (C : List ℕ) (s : Situation) {both set r : ℕ} (e : s.active ≡ true) (f : s.left ≡ false) (b : Common s.shown.certified s.shown.stored both) (x : Except both s.delivered set)
-    (l : Least set s.ring.notices r) where
-  pub seventh-rests : 64 ≤ r → Does (L7 C s) s turn.rule7 Rest
-  seventh-rests g = least-rests (L7 C s) s turn.rule7 turn.rule7_for by7 set (λ i. Deliver i (group_at C i).kept) (seventh C s e f b x) l g
+module _ (C : List ℕ) (s : Situation) {both set : ℕ} (e : s.active ≡ true) (f : s.left ≡ false) (b : Common s.shown.certified s.shown.stored both) (x : Except both s.delivered set) where
+  pub seventh-rests : Misses set s.ring.notices → Does (L7 C s) s turn.rule7 None
+  seventh-rests l = least-rests (L7 C s) s turn.rule7 turn.rule7_for by7 set (λ i. Some (Deliver i (group_at C i).kept)) (seventh C s e f b x) l
 
-  pub seventh-delivers : (p : ℕ) → r < 64 → p ≡ (group_at C r).kept → Does (L7 C s) s turn.rule7 (Deliver r p)
-  seventh-delivers p g q = least-acts (L7 C s) s turn.rule7 turn.rule7_for by7 set (λ i. Deliver i (group_at C i).kept) (seventh C s e f b x) l (Deliver r p) g (ap (Deliver r) q) refl
+  pub seventh-delivers : {r : ℕ} → Least set s.ring.notices r → (p : ℕ) → p ≡ (group_at C r).kept → Does (L7 C s) s turn.rule7 (Some (Deliver r p))
+  seventh-delivers {r} l p q = least-acts (L7 C s) s turn.rule7 turn.rule7_for by7 set (λ i. Some (Deliver i (group_at C i).kept)) (seventh C s e f b x) l (Deliver r p) (ap (λ x. Some (Deliver r x)) q)
 
-module _ (Y : List Stmt) (P : List ℕ) (s : Situation) {sent set r : ℕ} (e : s.stands ≡ true) (f : not (any (same_stmt (leave s.number)) Y) ≡ true) (m : Marks (sent_by s.number P) Y sent)
-    (x : Except s.requested sent set) (l : Least set s.ring.notices r) where
-  pub tenth-rests : 64 ≤ r → Does (L10 Y P s) s turn.rule10 Rest
-  tenth-rests g = least-rests (L10 Y P s) s turn.rule10 turn.rule10_for by10 set (λ i. Prepare i (get_or P i 0)) (tenth Y P s e f m x) l g
+module _ (Y : List Stmt) (P : List ℕ) (s : Situation) {sent set : ℕ} (e : s.stands ≡ true) (f : not (any (same_stmt (leave s.number)) Y) ≡ true) (m : Marks (sent_by s.number P) Y sent)
+    (x : Except s.requested sent set) where
+  pub tenth-rests : Misses set s.ring.notices → Does (L10 Y P s) s turn.rule10 None
+  tenth-rests l = least-rests (L10 Y P s) s turn.rule10 turn.rule10_for by10 set (λ i. Some (Prepare i (get_or P i 0))) (tenth Y P s e f m x) l
 
-  pub tenth-prepares : r < 64 → Does (L10 Y P s) s turn.rule10 (Prepare r (get_or P r 0))
-  tenth-prepares g = least-acts (L10 Y P s) s turn.rule10 turn.rule10_for by10 set (λ i. Prepare i (get_or P i 0)) (tenth Y P s e f m x) l (Prepare r (get_or P r 0)) g refl refl
+  pub tenth-prepares : {r : ℕ} → Least set s.ring.notices r → Does (L10 Y P s) s turn.rule10 (Some (Prepare r (get_or P r 0)))
+  tenth-prepares {r} l = least-acts (L10 Y P s) s turn.rule10 turn.rule10_for by10 set (λ i. Some (Prepare i (get_or P i 0))) (tenth Y P s e f m x) l (Prepare r (get_or P r 0)) refl

@@ -2,15 +2,19 @@
 -- Assumes nothing.
 use Rattle.std.specs.Prelude.{if◌then◌else◌}
 use mathlib.Core.Path.{◌≡◌, refl, sym, ap, ap₂, subst, ◌∙◌}
-use mathlib.Core.Bool.{Bool, true, false, ◌&&◌, ◌||◌, and-false, and_comm, and_assoc, true≢false}
+use mathlib.Core.Bool.{Bool, true, false, ◌&&◌, ◌||◌, and-false, and_comm, and_assoc, or-false, true≢false}
 use mathlib.Core.List.{List, [], ◌∷◌, ◌++◌, append-nil}
+use Rattle.std.specs.Prelude.{Some, None}
+use Rattle.views.specs.Options.{option_of}
 use mathlib.Core.Option.{some, none}
 use Prim.Native.Nat.{ℕ, zero, suc, ◌+◌, ◌≤◌, ◌<◌, min}
 use native.Mathlib.Decide.{dec_lt, ℕ_discrete}
 use native.Mathlib.Numerals.{add-one}
 use native.Mathlib.Omega.{arith}
 use lib.Dec.{eqb}
-use lib.ListN.{length, get_or, set, length-set}
+use lib.ListN.{length, get_or, take, set, length-set}
+use lib.Seq.{length-take-le}
+use Rattle.std.proofs.lemmas.List.{get_or-take}
 use borrow.Author.Tests.{eq-eqb, ne_eqb, eqb-true}
 use Rattle.protocol.specs.Sets.{bit}
 use Rattle.protocol.specs.Lists.{any, filter, find, list_of, put}
@@ -26,12 +30,43 @@ use Rattle.views.specs.Held.{view_is, held_at, views_is}
 use Rattle.views.proofs.Tables.{any-zero, any-more}
 use Rattle.views.proofs.Held.{views-of, cut-is}
 use Rattle.statements.specs.Sets.{PutBit}
-use Rattle.pool.specs.Pool.{word, payload_from, record_up_to}
+use Rattle.pool.specs.Pool.{stmt_at, word, payload_from, record_up_to, record_len}
 use Rattle.pool.proofs.Laws.{plain-payload}
 use Rattle.pool.proofs.Records as records
 use Rattle.evidence.proofs.Listing.{any-among}
 use Rattle.protocol.proofs.Says.{from-true}
 use Rattle.rules.specs.Rules.{own_kind, own_at, own_of, own_of_at, prepared_by, prepared_in, sent_by, Owns, Marks, Picks, first_prepare}
+
+-- ---- a loop over the front of a list
+
+module _ (n : ℕ) (l : List ℕ) (i : ℕ) (few : n ≤ length l) where
+  module _ (h : i < length (take n l)) where
+    pub front-below : i < n
+    front-below = omega (arith, length-take-le n l few)
+
+    pub front-at : get_or (take n l) i 0 ≡ get_or l i 0
+    front-at = get_or-take n l i 0 front-below
+
+  pub front-end : i ≤ length (take n l) → length (take n l) ≤ i → i ≡ n
+  front-end h k = omega (arith, length-take-le n l few)
+
+-- the same of the numbers of a record
+module _ (W ids : List ℕ) (end i : ℕ) (e : end ≡ record_len ids) (long : length ids ≡ 513) where
+  within-record : end ≤ length ids
+  within-record = omega arith
+
+  module _ (l : i < length (take end ids)) where
+    pub is-below : i < min (get_or ids 512 0) 512
+    is-below = omega (arith, front-below end ids i within-record l)
+
+    pub is-number : get_or (take end ids) i 0 ≡ get_or ids i 0
+    is-number = front-at end ids i within-record l
+
+    pub is-entry : stmt_at W (get_or (take end ids) i 0) ≡ records.entry W ids i
+    is-entry = ap (stmt_at W) is-number
+
+  pub is-end : i ≤ length (take end ids) → length (take end ids) ≤ i → i ≡ min (get_or ids 512 0) 512
+  is-end h l = omega (arith, front-end end ids i within-record h l)
 
 -- ---- one statement
 
@@ -100,15 +135,10 @@ module _ (q : ℕ → Stmt → Bool) (s : Stmt) (only : (i : ℕ) → (s.notice 
   elsewhere : (r i : ℕ) → (s.notice ≡ i → ⊥) → (i ≡ r → ⊥) → q i s ≡ eqb i r
   elsewhere r i d n = only i d ∙ sym (ne_eqb i r n)
 
-  pub picks-none : ((i : ℕ) → s.notice ≡ i → i < 64 → q i s ≡ false) → Picks q s 64
-  picks-none h = record {
-    at = λ i l. elim (ℕ_discrete s.notice i) [
-      | yes e ↦ h i e l ∙ sym (ne_eqb i 64 (λ n. omega arith))
-      | no d ↦ elsewhere 64 i d (λ n. omega arith)
-    ];
-  }
+  pub picks-none : ((i : ℕ) → s.notice ≡ i → i < 64 → q i s ≡ false) → Picks q s None
+  picks-none h = record { at = λ i l. elim (ℕ_discrete s.notice i) [ yes e ↦ h i e l | no d ↦ only i d ] }
 
-  pub picks-one : (j : ℕ) → j ≡ s.notice → q j s ≡ true → Picks q s j
+  pub picks-one : (j : ℕ) → j ≡ s.notice → q j s ≡ true → Picks q s (Some j)
   picks-one j e h = record {
     at = λ i l. elim (ℕ_discrete s.notice i) [
       | yes d ↦ (let m : j ≡ i = omega arith in (rw m at h) ∙ sym (eq-eqb i j (sym m)))
@@ -130,10 +160,10 @@ module _ (s : Stmt) (k kind : ℕ) where
   of-only i d = of_parts i ∙ last-false (own_kind k kind s) s.notice i d
 
   module _ (b : Bool) (is : b ≡ own_kind k kind s) where
-    pub of_none : b ≡ false → Picks (own_of k kind) s 64
+    pub of_none : b ≡ false → Picks (own_of k kind) s None
     of_none f = picks-none (own_of k kind) s of-only (λ i e l. of_parts i ∙ ap (λ x. x && eqb s.notice i) (sym is ∙ f))
 
-    pub of_one : b ≡ true → (j : ℕ) → j ≡ s.notice → Picks (own_of k kind) s j
+    pub of_one : b ≡ true → (j : ℕ) → j ≡ s.notice → Picks (own_of k kind) s (Some j)
     of_one f j e = picks-one (own_of k kind) s of-only j e (of_parts j ∙ ap₂ ◌&&◌ (sym is ∙ f) (eq-eqb s.notice j (sym e)))
 
   module _ (t : View) where
@@ -145,10 +175,10 @@ module _ (s : Stmt) (k kind : ℕ) where
     of-at-only i d = of-at-parts i ∙ last-false (own_at k kind t s) s.notice i d
 
     module _ (b : Bool) (is : b ≡ own_at k kind t s) where
-      pub of-at-none : b ≡ false → Picks (own_of_at k kind t) s 64
+      pub of-at-none : b ≡ false → Picks (own_of_at k kind t) s None
       of-at-none f = picks-none (own_of_at k kind t) s of-at-only (λ i e l. of-at-parts i ∙ ap (λ x. x && eqb s.notice i) (sym is ∙ f))
 
-      pub of-at-one : b ≡ true → (j : ℕ) → j ≡ s.notice → Picks (own_of_at k kind t) s j
+      pub of-at-one : b ≡ true → (j : ℕ) → j ≡ s.notice → Picks (own_of_at k kind t) s (Some j)
       of-at-one f j e = picks-one (own_of_at k kind t) s of-at-only j e (of-at-parts j ∙ ap₂ ◌&&◌ (sym is ∙ f) (eq-eqb s.notice j (sym e)))
 
 -- ---- the first that is found
@@ -206,11 +236,7 @@ module _ (t : View) (S : List ℕ) (s : Stmt) where
   unfolding prepared_in prepared_by
   in-only i d = ap (λ x. member t (get_or S i 0) && x) (last-false (is_kind 6 s && eqb s.origin (get_or S i 0)) s.notice i d) ∙ and-false (member t (get_or S i 0))
 
-  pub in-other : (x : ℕ) → x ≡ s.kind → (x ≡ 6 → ⊥) → Picks (prepared_in t S) s 64
-  unfolding prepared_in prepared_by is_kind
-  in-other x e d = picks-none (prepared_in t S) s in-only (λ i q l. rw (← e, ne_eqb x 6 d) (and-false (member t (get_or S i 0))))
-
-  pub in-far : (j : ℕ) → j ≡ s.notice → 64 ≤ j → Picks (prepared_in t S) s 64
+  pub in-far : (j : ℕ) → j ≡ s.notice → 64 ≤ j → Picks (prepared_in t S) s None
   in-far j e h = picks-none (prepared_in t S) s in-only (λ i q l. absurd (omega arith))
 
   module _ (j : ℕ) (e : j ≡ s.notice) (b : Bool) (own : b ≡ own_kind (get_or S j 0) 6 s) where
@@ -218,18 +244,15 @@ module _ (t : View) (S : List ℕ) (s : Stmt) where
     unfolding prepared_in
     in_parts = ap (λ x. member t (get_or S j 0) && x) (by-own s (get_or S j 0) j b own)
 
-    in-not : prepared_in t S j s ≡ false → Picks (prepared_in t S) s 64
+    in-not : prepared_in t S j s ≡ false → Picks (prepared_in t S) s None
     in-not f = picks-none (prepared_in t S) s in-only (λ i q l. ap (λ i. prepared_in t S i s) (sym (e ∙ q)) ∙ f)
 
-    pub in-strange : b ≡ false → Picks (prepared_in t S) s 64
-    in-strange f = in-not (in_parts ∙ ap (λ x. member t (get_or S j 0) && (x && eqb s.notice j)) f ∙ and-false (member t (get_or S j 0)))
-
     module _ (m : Bool) (is : m ≡ member t (get_or S j 0)) where
-      pub in-outside : m ≡ false → Picks (prepared_in t S) s 64
-      in-outside f = in-not (in_parts ∙ ap (λ x. x && (b && eqb s.notice j)) (sym is ∙ f))
+      pub in-outside : (b && m) ≡ false → Picks (prepared_in t S) s None
+      in-outside f = in-not (in_parts ∙ ap (λ x. x && (b && eqb s.notice j)) (sym is) ∙ sym (and_assoc m b (eqb s.notice j)) ∙ ap (λ x. x && eqb s.notice j) (and_comm m b ∙ f))
 
-      pub in_one : b ≡ true → m ≡ true → Picks (prepared_in t S) s j
-      in_one f y = picks-one (prepared_in t S) s in-only j e (in_parts ∙ ap₂ ◌&&◌ (sym is ∙ y) (ap₂ ◌&&◌ f (eq-eqb s.notice j (sym e))))
+      pub in_one : (b && m) ≡ true → Picks (prepared_in t S) s (Some j)
+      in_one f = picks-one (prepared_in t S) s in-only j e (in_parts ∙ ap (λ x. x && (b && eqb s.notice j)) (sym is) ∙ sym (and_assoc m b (eqb s.notice j)) ∙ ap₂ ◌&&◌ (and_comm m b ∙ f) (eq-eqb s.notice j (sym e)))
 
 -- the prepare that was requested
 
@@ -248,10 +271,10 @@ module _ (k : ℕ) (P : List ℕ) (s : Stmt) where
   sent-only : (i : ℕ) → (s.notice ≡ i → ⊥) → sent_by k P i s ≡ false
   sent-only i d = not-sent i (λ e. d (ap (λ x. x.notice) (sym (sent_is i e))))
 
-  pub sent-other : (x : ℕ) → x ≡ s.kind → (x ≡ 6 → ⊥) → Picks (sent_by k P) s 64
+  pub sent-other : (x : ℕ) → x ≡ s.kind → (x ≡ 6 → ⊥) → Picks (sent_by k P) s None
   sent-other x e d = picks-none (sent_by k P) s sent-only (λ i q l. not-sent i (λ f. d (e ∙ ap (λ x. x.kind) (sym (sent_is i f)))))
 
-  pub sent-far : (j : ℕ) → j ≡ s.notice → 64 ≤ j → Picks (sent_by k P) s 64
+  pub sent-far : (j : ℕ) → j ≡ s.notice → 64 ≤ j → Picks (sent_by k P) s None
   sent-far j e h = picks-none (sent_by k P) s sent-only (λ i q l. absurd (omega arith))
 
   -- st is the prepare, and b the answer to whether s is st
@@ -260,10 +283,10 @@ module _ (k : ℕ) (P : List ℕ) (s : Stmt) where
     unfolding sent_by
     same_sent = is ∙ ap (λ x. same_stmt x s) made
 
-    pub sent-not : b ≡ false → Picks (sent_by k P) s 64
+    pub sent-not : b ≡ false → Picks (sent_by k P) s None
     sent-not f = picks-none (sent_by k P) s sent-only (λ i q l. (let m : j ≡ i = e ∙ q in ap (λ x. sent_by k P x s) (sym m) ∙ sym same_sent ∙ f))
 
-    pub sent-one : b ≡ true → Picks (sent_by k P) s j
+    pub sent-one : b ≡ true → Picks (sent_by k P) s (Some j)
     sent-one f = picks-one (sent_by k P) s sent-only j e (sym same_sent ∙ f)
 
 -- ---- the first prepare
@@ -274,13 +297,13 @@ prepare-plain s k i e = let q : s.kind ≡ 6 = eqb-true s.kind 6 (and_left (eqb 
 
 module _ (W ids : List ℕ) (sender j len i : ℕ) (so_far : any (prepared_by sender j) (record_up_to W ids i) ≡ false) where
   pub prepare-first : (m : ℕ) → i < min len 512 → prepared_by sender j (records.entry W ids i) ≡ true → m ≡ word W (get_or ids i 0) payload_from
-      → some m ≡ first_prepare sender j (record_up_to W ids len)
+      → Some m ≡ option_of (first_prepare sender j (record_up_to W ids len))
   unfolding first_prepare record_up_to
   prepare-first m l e q =
       rw (find_at (prepared_by sender j) (records.entry W ids) (min len 512) i l (rw (records.so_far W ids i (omega arith)) at so_far) e)
-      (ap some (q ∙ sym (plain-payload W (get_or ids i 0) (prepare-plain (records.entry W ids i) sender j e))))
+      (ap Some (q ∙ sym (plain-payload W (get_or ids i 0) (prepare-plain (records.entry W ids i) sender j e))))
 
-  pub prepare-none : i ≡ min len 512 → none ≡ first_prepare sender j (record_up_to W ids len)
+  pub prepare-none : i ≡ min len 512 → None ≡ option_of (first_prepare sender j (record_up_to W ids len))
   unfolding first_prepare
   prepare-none l = rw (find-nothing (prepared_by sender j) (record_up_to W ids len) (records.none W ids (prepared_by sender j) len i l so_far))
 
@@ -296,10 +319,15 @@ module _ (q : ℕ → Stmt → Bool) (W ids : List ℕ) where
   pub marks-first : Marks q (record_up_to W ids 0) 0
   marks-first = record { bits = λ i l. bit-zero i ∙ sym (records.none_first W ids (q i)) }
 
-  pub marks-next : {i set j r : ℕ} → i < 512 → Marks q (record_up_to W ids i) set → Picks q (records.entry W ids i) j → PutBit set j true r → Marks q (record_up_to W ids (i + 1)) r
+  pub marks-next : {i set j r : ℕ} → i < 512 → Marks q (record_up_to W ids i) set → Picks q (records.entry W ids i) (Some j) → PutBit set j true r → Marks q (record_up_to W ids (i + 1)) r
   unfolding put
   marks-next {i} {set} {j} l m p b = record {
     bits = λ n h. b.bits n h ∙ marked (bit set n) (eqb n j) ∙ ap₂ ◌||◌ (m.bits n h) (sym (p.at n h)) ∙ sym (records.any_next W ids (q n) i l);
+  }
+
+  pub marks-none : {i set : ℕ} → i < 512 → Marks q (record_up_to W ids i) set → Picks q (records.entry W ids i) None → Marks q (record_up_to W ids (i + 1)) set
+  marks-none {i} {set} l m p = record {
+    bits = λ n h. m.bits n h ∙ sym (or-false (any (q n) (record_up_to W ids i))) ∙ ap (λ b. any (q n) (record_up_to W ids i) || b) (sym (p.at n h)) ∙ sym (records.any_next W ids (q n) i l);
   }
 
   pub marks-whole : (len i r : ℕ) → i ≡ min len 512 → Marks q (record_up_to W ids i) r → Marks q (record_up_to W ids len) r

@@ -1,6 +1,5 @@
 -- What the rules of a turn look at and tell, each by itself.
 
 -- ---- inside: what functions tell each other, and what loops keep
-pub mod Payloads
 pub mod Actions
 pub mod Rules

@@ -1,6 +1,8 @@
 -- What the rules of a turn look at, and what each promises.
 -- Assumes nothing.
 use Rattle.std.specs.Prelude.{◌≡◌, Bool, true, false, not, ◌&&◌, ◌||◌, List, [], ◌∷◌, map, ℕ, ◌<◌, min, eqb, ltb, length, get_or}
+use Rattle.std.specs.Prelude as code
+use Rattle.std.specs.Prelude.{Some, None}
 use Rattle.std.proofs.Math.Option.{Option, some, none}
 use Rattle.protocol.specs.Sets.{bit, every}
 use Rattle.protocol.specs.Lists.{any, find, when, given, is_some, first_some}
@@ -13,11 +15,12 @@ use Rattle.protocol.specs.Turn as turn
 use Rattle.views.specs.View.{view_in, views_in}
 use Rattle.views.specs.Held.{view_is}
 use Rattle.statements.specs.Block.{group_at}
+use Rattle.pool.specs.Pool.{stmt_at}
 use Rattle.evidence.specs.Evidence.{ring_is}
 use Rattle.evidence.specs.Notices.{senders_of}
 use Rattle.rules.specs.declared.Situation.{Situation}
 use Rattle.rules.specs.declared.Action.{Action}
-use Rattle.rules.specs.Actions.{action_is}
+use Rattle.rules.specs.Actions.{answer_is}
 
 -- ---- what is asked of the record
 
@@ -67,14 +70,29 @@ pub record Owns (X Y : List Stmt) (k : ℕ) : Type 0 where
 pub record Marks (q : ℕ → Stmt → Bool) (X : List Stmt) (r : ℕ) : Type 0 where
   pub bits : (i : ℕ) → i < 64 → bit r i ≡ any (q i) X
 
--- r is the one notice i for which the statement s has q i. It is above 63 where there is none.
-pub record Picks (q : ℕ → Stmt → Bool) (s : Stmt) (r : ℕ) : Type 0 where
-  pub at : (i : ℕ) → i < 64 → q i s ≡ eqb i r
+-- Notice i is the one that was picked, if there is one.
+abbrev pub is_picked : code.Option ℕ → ℕ → Bool
+is_picked None i = false
+is_picked (Some j) i = eqb i j
 
--- r is the least notice of the set that is below n, or 64 where there is none.
+-- r is the one notice i for which the statement s has q i. (Where it is above 63 there is none, as where it is None.)
+pub record Picks (q : ℕ → Stmt → Bool) (s : Stmt) (r : code.Option ℕ) : Type 0 where
+  pub at : (i : ℕ) → i < 64 → q i s ≡ is_picked r i
+
+-- What a closure answers of the number of a statement in the pool picks so.
+abbrev pub PicksEach : (ℕ → code.Option ℕ → Type 0) → List ℕ → (ℕ → Stmt → Bool) → Type 0
+PicksEach answers W q = (n : ℕ) (r : code.Option ℕ) → n < 65536 → answers n r → Picks q (stmt_at W n) r
+
+-- The set has none of the first n notices.
+pub record Misses (set n : ℕ) : Type 0 where
+  pub none : (i : ℕ) → i < min n 64 → bit set i ≡ false
+
+-- r is the least notice of the set, and below n.
 pub record Least (set n r : ℕ) : Type 0 where
-  pub before : (i : ℕ) → i < min n 64 → i < r → bit set i ≡ false
-  pub here : r < 64 → (r < n) × (bit set r ≡ true)
+  pub below : r < n
+  pub notice : r < 64
+  pub has : bit set r ≡ true
+  pub before : (i : ℕ) → i < r → bit set i ≡ false
 
 -- ---- what there is to ack
 
@@ -175,7 +193,7 @@ first_among rules d X = first_some (map (λ rule. rule d X) rules)
 abbrev pub merged_by : Controller → List Stmt → ℕ → Binding
 merged_by d X i = turn.merge_all i (d.binding i) (turn.counted_reports d X)
 
--- For every controller whose situation s is, and of whom L is lent, r is what the rule has it do. B is the block that a report of its goes with.
-pub record Does (L : List Lent) (s : Situation) (rule : Rule) (r : Action) : Type 0 where
+-- For every controller whose situation s is, and of whom L is lent, r is what the rule has it do, if the rule applies. B is the block that a report of its goes with.
+pub record Does (L : List Lent) (s : Situation) (rule : Rule) (r : code.Option Action) : Type 0 where
   pub means : (d : Controller) (X : List Stmt) (B : List ℕ) → SituationOf d X s → ToldOf d X B → AllLent s d X L
-      → action_is s (candidates d.ring X) B (merged_by d X) r ≡ rule d X
+      → answer_is s (candidates d.ring X) B (merged_by d X) r ≡ rule d X

@@ -8,25 +8,17 @@ mod requests;
 mod signed;
 
 use evidence::{Evidence, Ring};
-pub use made::{acts, statement};
+pub use made::statement;
 pub use membership::{rule1, rule2, rule3, rule4};
 pub use notice::{rule5, rule6, rule7};
 pub use requests::{rule8, rule9, rule10};
 pub use signed::own_of;
 use views::View;
 
-// A payload that is to be acked, or none.
-#[derive(Clone, Copy)]
-enum OptionalPayload {
-    Nothing,
-    Payload(u64),
-}
-
-// What a rule has the controller do; of a notice, its number and a payload. Most turns rest, so an action holds no statement: `statement` makes the one that is signed.
+// What a rule has the controller do; of a notice, its number and a payload. An action holds no statement, since most turns have none: `statement` makes the one that is signed.
 // With which bindings a view is entered is found where that is done.
 #[derive(Clone, Copy)]
 pub enum Action {
-    Rest,
     Report(View),
     Enter(View),
     AgreeView,

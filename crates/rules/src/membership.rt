@@ -12,7 +12,7 @@ ghost use Rattle.rules.specs.Rules as lent;
 
 use crate::{Action, Situation, made, signed};
 use pool::{POOL_WORDS, RECORD};
-use statements::{BLOCK, NOTICES};
+use statements::{BLOCK, Kind, NOTICES};
 use views::View;
 
 // Whether a report on the view of the word u is due.
@@ -20,13 +20,9 @@ fn is_due(words: &[u64; POOL_WORDS], own: &[u16; RECORD], number: u8, t: View, u
     ensures { result ≡ report_due (record_in words.now own.now) number (view_is t) (view_in u) }
 {
     let v = View::of_word(u);
-    if !v.below(t) {
-        return false;
-    }
-    if !v.has_member(number) {
-        return false;
-    }
-    !signed::signed_at(words, own, number, 5, v.word())
+    v.below(t)
+        && v.has_member(number)
+        && !signed::signed_at(words, own, number, Kind::Report, v.word())
 }
 
 // Rule 1: report on the least older view on which a report is due.
@@ -35,23 +31,16 @@ pub fn rule1(
     own: &[u16; RECORD],
     greatest: &[u64; View::LIMIT],
     s: Situation,
-) -> Action
+) -> Option<Action>
     requires { s.shown.length ≤ 16 }
     ensures { Does (own_statements (record_in words.now own.now) ∷ greatest_views greatest.now ∷ []) s turn.rule1 result }
 {
-    let k = s.number;
-    let t = s.top;
-    let e = s.shown;
-    let n = e.length;
-    let mut i = 0usize;
-    while i < n {
-        let u = greatest[i];
-        if is_due(words, own, k, t, u) {
-            return Action::Report(View::of_word(u));
+    for u in &greatest[..s.shown.length] {
+        if is_due(words, own, s.number, s.top, *u) {
+            return Some(Action::Report(View::of_word(*u)));
         }
-        i += 1;
     }
-    Action::Rest
+    None
 }
 
 // Rule 2: enter the top, once the older views are reported on.
@@ -63,23 +52,19 @@ pub fn rule2(
     senders: &[u8; NOTICES],
     certs: &[u64; NOTICES],
     s: Situation,
-) -> Action
+) -> Option<Action>
     requires { Settled (ring_is s.ring) (senders_of senders.now s.ring.notices) (record_in words.now ids.now) candidates.now greatest.now certs.now s.shown }
     ensures { Does (statements (record_in words.now ids.now) ∷ lent.senders senders.now ∷ []) s turn.rule2 result }
 {
-    let t = s.top;
-    if !t.has_member(s.number) {
-        return Action::Rest;
+    if s.top.has_member(s.number)
+        && !s.entered
+        && evidence::reported(
+            words, ids, s.ring, senders, s.shown, candidates, greatest, certs,
+        )
+    {
+        return Some(Action::Enter(s.top));
     }
-    if s.entered {
-        return Action::Rest;
-    }
-    let ring = s.ring;
-    let e = s.shown;
-    if !evidence::reported(words, ids, ring, senders, e, candidates, greatest, certs) {
-        return Action::Rest;
-    }
-    Action::Enter(t)
+    None
 }
 
 // Rule 3: agree to the wished view. The block may be any, here and below: only a report is asked for with its block.
@@ -88,25 +73,19 @@ pub fn rule3(
     own: &[u16; RECORD],
     block: &[u64; BLOCK],
     s: Situation,
-) -> Action
+) -> Option<Action>
     ensures { Does (own_statements (record_in words.now own.now) ∷ []) s turn.rule3 result }
 {
-    if !s.stands {
-        return Action::Rest;
-    }
-    let e = s.shown;
     let t = s.top;
-    let w = View::of_word(e.wished);
-    if !w.has_members() {
-        return Action::Rest;
+    let w = View::of_word(s.shown.wished);
+    if s.stands
+        && w.has_members()
+        && w != t
+        && !pool::record_holds(words, own, statements::agree_view(s.number, t, w), block)
+    {
+        return Some(Action::AgreeView);
     }
-    if w.same(t) {
-        return Action::Rest;
-    }
-    if pool::record_holds(words, own, statements::agree_view(s.number, t, w), block) {
-        return Action::Rest;
-    }
-    Action::AgreeView
+    None
 }
 
 // Rule 4: agree to the history of all candidates.
@@ -116,23 +95,22 @@ pub fn rule4(
     candidates: &[u64; View::LIMIT],
     block: &[u64; BLOCK],
     s: Situation,
-) -> Action
+) -> Option<Action>
     requires { (0 < s.shown.count) × (s.shown.count ≤ 16) }
     ensures { Does (own_statements (record_in words.now own.now) ∷ candidate_views candidates.now ∷ []) s turn.rule4 result }
 {
-    if !s.stands {
-        return Action::Rest;
-    }
-    let e = s.shown;
-    let t = s.top;
-    let n = e.count;
-    let newest = View::of_word(candidates[n - 1]);
-    if newest.same(t) {
-        return Action::Rest;
+    let n = s.shown.count;
+    if !s.stands || View::of_word(candidates[n - 1]) == s.top {
+        return None;
     }
     let h = made::history_of(candidates, n);
-    if pool::record_holds(words, own, statements::agree_history(s.number, t, h), block) {
-        return Action::Rest;
+    if pool::record_holds(
+        words,
+        own,
+        statements::agree_history(s.number, s.top, h),
+        block,
+    ) {
+        return None;
     }
-    Action::AgreeHistory
+    Some(Action::AgreeHistory)
 }

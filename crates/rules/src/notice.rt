@@ -3,38 +3,23 @@
 ghost use Rattle.std.specs.Prelude.{◌≡◌, [], ◌∷◌, ◌<◌, get_or};
 ghost use Rattle.protocol.specs.Turn as turn;
 ghost use Rattle.views.specs.Held.{view_is};
+ghost use Rattle.views.specs.Options.{option_of};
 ghost use Rattle.statements.specs.Block.{block_word, group_at};
 ghost use Rattle.pool.specs.Pool.{record_in};
-ghost use Rattle.rules.specs.Payloads.{payload_is};
 ghost use Rattle.rules.specs.Rules.{ackable, AcksDue, PreparedOutside, statements, own_statements, Does};
 ghost use Rattle.rules.specs.Rules as lent;
 
-use crate::{Action, OptionalPayload, Situation, signed};
+use crate::{Action, Situation, signed};
 use pool::{POOL_WORDS, RECORD};
-use statements::{BLOCK, Binding, NOTICES};
+use statements::{BLOCK, Binding, Kind, NOTICES};
 use views::View;
-
-// The set of all notices.
-const ALL: u64 = 18446744073709551615;
-
-// The kinds of an ack and of a store.
-const ACK: u64 = 7;
-
-const STORE: u64 = 8;
-
-fn raw(told: &[u64; BLOCK], i: usize) -> u64
-    requires { i < 131 }
-    ensures { result ≡ get_or told.now i 0 }
-{
-    told[i]
-}
 
 // Word i of the block.
 fn word(told: &[u64; BLOCK], i: usize) -> u64
     requires { i < 131 }
     ensures { result ≡ block_word told.now i }
 {
-    raw(told, i)
+    told[i]
 }
 
 // The payload of the certificate for notice j that the block tells, or 0.
@@ -42,10 +27,7 @@ fn kept(told: &[u64; BLOCK], j: usize) -> u64
     ensures { result ≡ (group_at told.now j).kept }
 {
     let t = statements::told_at(told, j);
-    if !t.stored {
-        return 0;
-    }
-    t.kept
+    if t.stored { t.kept } else { 0 }
 }
 
 // Those notices outside the set that a sender who is a member of t prepared. The record is read only if there is a notice outside.
@@ -59,8 +41,7 @@ fn prepared_outside(
 ) -> u64
     ensures { PreparedOutside senders.now (record_in words.now ids.now) (view_is t) set notices result }
 {
-    let outside = statements::except(ALL, set);
-    if signed::least(outside, notices) >= NOTICES {
+    if signed::least(statements::except(u64::MAX, set), notices).is_none() {
         return 0;
     }
     signed::prepared(words, ids, senders, t)
@@ -80,14 +61,8 @@ fn acks_due(
 {
     let bound = word(told, 0);
     let out = statements::either(word(told, 1), acked);
-    let prepared = prepared_outside(
-        words,
-        ids,
-        senders,
-        t,
-        statements::either(bound, out),
-        notices,
-    );
+    let both = statements::either(bound, out);
+    let prepared = prepared_outside(words, ids, senders, t, both, notices);
     statements::except(statements::either(bound, prepared), out)
 }
 
@@ -99,21 +74,19 @@ fn to_ack(
     told: &[u64; BLOCK],
     t: View,
     j: usize,
-) -> OptionalPayload
+) -> Option<u64>
     requires { j < 64 }
-    ensures { payload_is result ≡ ackable senders.now (record_in words.now ids.now) (view_is t) told.now j }
+    ensures { result ≡ option_of (ackable senders.now (record_in words.now ids.now) (view_is t) told.now j) }
 {
-    let telling = statements::told_at(told, j);
-    let b = telling.binding;
-    match b {
-        Binding::Bound(m) => OptionalPayload::Payload(m),
-        Binding::Barred => OptionalPayload::Nothing,
+    match statements::told_at(told, j).binding {
+        Binding::Bound(m) => Some(m),
+        Binding::Barred => None,
         Binding::Unbound => {
             let sender = senders[j];
             if t.has_member(sender) {
                 signed::first_prepare(words, ids, sender, j)
             } else {
-                OptionalPayload::Nothing
+                None
             }
         }
     }
@@ -127,24 +100,18 @@ pub fn rule5(
     senders: &[u8; NOTICES],
     told: &[u64; BLOCK],
     s: Situation,
-) -> Action
+) -> Option<Action>
     ensures { Does (statements (record_in words.now ids.now) ∷ own_statements (record_in words.now own.now) ∷ lent.senders senders.now ∷ lent.told told.now ∷ []) s turn.rule5 result }
 {
     if !s.stands {
-        return Action::Rest;
+        return None;
     }
     let t = s.top;
-    let ring = s.ring;
-    let acked = signed::notices_at(words, own, s.number, ACK, t.word());
-    let due = acks_due(words, ids, senders, told, t, acked, ring.notices);
-    let j = signed::least(due, ring.notices);
-    if j >= NOTICES {
-        return Action::Rest;
-    }
-    let OptionalPayload::Payload(m) = to_ack(words, ids, senders, told, t, j) else {
-        return Action::Rest;
-    };
-    Action::Ack(j as u8, m)
+    let acked = signed::notices_at(words, own, s.number, Kind::Ack, t.word());
+    let due = acks_due(words, ids, senders, told, t, acked, s.ring.notices);
+    let j = signed::least(due, s.ring.notices)?;
+    let m = to_ack(words, ids, senders, told, t, j)?;
+    Some(Action::Ack(j as u8, m))
 }
 
 // Rule 6: store what has a certificate, once at each top.
@@ -153,42 +120,26 @@ pub fn rule6(
     own: &[u16; RECORD],
     told: &[u64; BLOCK],
     s: Situation,
-) -> Action
+) -> Option<Action>
     ensures { Does (own_statements (record_in words.now own.now) ∷ lent.told told.now ∷ []) s turn.rule6 result }
 {
-    let e = s.shown;
-    if e.certified == 0 {
-        return Action::Rest;
+    if s.shown.certified == 0 || !s.stands {
+        return None;
     }
-    if !s.stands {
-        return Action::Rest;
-    }
-    let t = s.top;
-    let ring = s.ring;
-    let stored = signed::notices_at(words, own, s.number, STORE, t.word());
-    let j = signed::least(statements::except(e.certified, stored), ring.notices);
-    if j >= NOTICES {
-        return Action::Rest;
-    }
-    Action::Store(j as u8, kept(told, j))
+    let stored = signed::notices_at(words, own, s.number, Kind::Store, s.top.word());
+    let due = statements::except(s.shown.certified, stored);
+    let j = signed::least(due, s.ring.notices)?;
+    Some(Action::Store(j as u8, kept(told, j)))
 }
 
 // Rule 7: deliver what a quorum stored.
-pub fn rule7(told: &[u64; BLOCK], s: Situation) -> Action
+pub fn rule7(told: &[u64; BLOCK], s: Situation) -> Option<Action>
     ensures { Does (lent.told told.now ∷ []) s turn.rule7 result }
 {
-    if !s.active {
-        return Action::Rest;
+    if !s.active || s.left {
+        return None;
     }
-    if s.left {
-        return Action::Rest;
-    }
-    let e = s.shown;
-    let ring = s.ring;
-    let due = statements::except(statements::common(e.certified, e.stored), s.delivered);
-    let j = signed::least(due, ring.notices);
-    if j >= NOTICES {
-        return Action::Rest;
-    }
-    Action::Deliver(j as u8, kept(told, j))
+    let ready = statements::common(s.shown.certified, s.shown.stored);
+    let j = signed::least(statements::except(ready, s.delivered), s.ring.notices)?;
+    Some(Action::Deliver(j as u8, kept(told, j)))
 }

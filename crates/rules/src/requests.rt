@@ -8,10 +8,7 @@ ghost use Rattle.rules.specs.Rules as lent;
 
 use crate::{Action, Situation, signed};
 use pool::{POOL_WORDS, RECORD};
-use statements::{BLOCK, NOTICES};
-
-// The kind of a prepare.
-const PREPARE: u64 = 6;
+use statements::{BLOCK, Kind, NOTICES};
 
 // Rule 8: join.
 pub fn rule8(
@@ -19,27 +16,23 @@ pub fn rule8(
     own: &[u16; RECORD],
     block: &[u64; BLOCK],
     s: Situation,
-) -> Action
+) -> Option<Action>
     ensures { Does (own_statements (record_in words.now own.now) ∷ []) s turn.rule8 result }
 {
-    if !s.joining {
-        return Action::Rest;
+    if s.joining && !pool::record_holds(words, own, statements::join(s.number), block) {
+        return Some(Action::Join);
     }
-    if pool::record_holds(words, own, statements::join(s.number), block) {
-        return Action::Rest;
-    }
-    Action::Join
+    None
 }
 
 // Whether a leave need not wait for a delivery.
 fn may_leave(words: &[u64; POOL_WORDS], own: &[u16; RECORD], s: Situation) -> bool
     ensures { result ≡ may_leave (min s.ring.notices 64) s.delivered s.shown.certified s.number (record_in words.now own.now) }
 {
-    let e = s.shown;
-    let ring = s.ring;
-    let prepared = signed::notices(words, own, s.number, PREPARE);
-    let waiting = statements::except(statements::either(e.certified, prepared), s.delivered);
-    signed::least(waiting, ring.notices) >= NOTICES
+    let prepared = signed::notices(words, own, s.number, Kind::Prepare);
+    let due = statements::either(s.shown.certified, prepared);
+    let waiting = statements::except(due, s.delivered);
+    signed::least(waiting, s.ring.notices).is_none()
 }
 
 // Rule 9: leave, inside a window and after delivery of each notice of which there is something to deliver.
@@ -48,19 +41,16 @@ pub fn rule9(
     own: &[u16; RECORD],
     block: &[u64; BLOCK],
     s: Situation,
-) -> Action
+) -> Option<Action>
     ensures { Does (own_statements (record_in words.now own.now) ∷ []) s (rule9_at s.minute) result }
 {
-    if !s.leaving {
-        return Action::Rest;
+    if s.leaving
+        && !pool::record_holds(words, own, statements::leave(s.number), block)
+        && may_leave(words, own, s)
+    {
+        return Some(Action::Leave);
     }
-    if pool::record_holds(words, own, statements::leave(s.number), block) {
-        return Action::Rest;
-    }
-    if !may_leave(words, own, s) {
-        return Action::Rest;
-    }
-    Action::Leave
+    None
 }
 
 // Rule 10: prepare the least notice whose payload is to be sent and was not.
@@ -70,23 +60,16 @@ pub fn rule10(
     block: &[u64; BLOCK],
     sends: &[u64; NOTICES],
     s: Situation,
-) -> Action
+) -> Option<Action>
     ensures { Does (own_statements (record_in words.now own.now) ∷ lent.sends sends.now ∷ []) s turn.rule10 result }
 {
-    if s.requested == 0 {
-        return Action::Rest;
+    if s.requested == 0
+        || !s.stands
+        || pool::record_holds(words, own, statements::leave(s.number), block)
+    {
+        return None;
     }
-    if !s.stands {
-        return Action::Rest;
-    }
-    if pool::record_holds(words, own, statements::leave(s.number), block) {
-        return Action::Rest;
-    }
-    let ring = s.ring;
     let sent = signed::sent(words, own, s.number, block, sends);
-    let j = signed::least(statements::except(s.requested, sent), ring.notices);
-    if j >= NOTICES {
-        return Action::Rest;
-    }
-    Action::Prepare(j as u8, sends[j])
+    let j = signed::least(statements::except(s.requested, sent), s.ring.notices)?;
+    Some(Action::Prepare(j as u8, sends[j]))
 }

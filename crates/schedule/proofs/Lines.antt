@@ -13,11 +13,10 @@ use lib.Dec.{eqb}
 use lib.ListN.{length, take, drop, get_or, length-append}
 use lib.Seq.{take-suc, take_all, take-take, take-append_seam, length-take-le, drop-length}
 use borrow.Author.Tests.{eqb-true}
+use Rattle.std.specs.Prelude.{Option, Some, None}
 use Rattle.text.specs.Text.{dec_text}
 use Rattle.statements.specs.Text.{parted, text}
 use Rattle.schedule.specs.declared.line.Line as held
-use Rattle.schedule.specs.declared.line.Parsed.{Parsed}
-use Rattle.schedule.specs.declared.line.Parsed.TheVariants.{Readable, Unreadable}
 use Rattle.schedule.specs.declared.line.ReadLine.{ReadLine}
 use Rattle.schedule.specs.Line.{Line, setup, join, leave, send, give, all, turn, lie, no_statement, join_word, leave_word, send_word, give_word, all_word, turn_word, lie_word, ended, setup_parts, Written, Reads, before, lines}
 use Rattle.schedule.specs.Reading.{Said, a_line, a_setup, a_lie, meant, Tells, ReadAs, body_length, Understood, LineOf}
@@ -85,7 +84,7 @@ unfolding lines
 last-alone S = rw (take_all (length S) S (omega arith), drop-length S)
 
 module _ (S : List ℕ) (end : ℕ) (e : end ≡ body_length S) where
-  pub line-last : length S ≤ end → LineOf S (record { parsed = Unreadable; next = length S })
+  pub line-last : length S ≤ end → LineOf S (record { parsed = None; next = length S })
   line-last h = record {
     moves = λ p. p;
     within = omega arith;
@@ -93,7 +92,7 @@ module _ (S : List ℕ) (end : ℕ) (e : end ≡ body_length S) where
     reads = rw (take_all (length S) S (omega arith)) (no-newline S (omega arith));
   }
 
-  pub line_read : (p : Parsed) (next : ℕ) → next ≡ end + 1 → end < length S → Understood (take end S) p → LineOf S (record { parsed = p; next = next })
+  pub line_read : (p : Option held.Line) (next : ℕ) → next ≡ end + 1 → end < length S → Understood (take end S) p → LineOf S (record { parsed = p; next = next })
   line_read p next q h u =
       let n : next ≡ suc end = q ∙ add-one end in
       let k : body_length S < length S = omega arith in
@@ -117,9 +116,9 @@ shorter S t n h e =
     let less : length t ≡ n - 1 = omega arith in
     sym (take-append_seam t (10 ∷ [])) ∙ ap (take (length t)) (sym e) ∙ take-take (length t) n S (omega arith) ∙ ap (λ (i : ℕ). take i S) less
 
-module _ (S : List ℕ) (r : ReadLine) (of : LineOf S r) (l : held.Line) (e : r.parsed ≡ Readable l) where
+module _ (S : List ℕ) (r : ReadLine) (of : LineOf S r) (l : held.Line) (e : r.parsed ≡ Some l) where
   tells : Tells (meant l) (take r.next S)
-  tells = subst (λ (p : Parsed). ReadAs p (take r.next S)) e of.reads
+  tells = subst (λ (p : Option held.Line). ReadAs p (take r.next S)) e of.reads
 
   -- a line that was read, without its newline
   pub line-ended : take r.next S ≡ ended (take (r.next - 1) S)

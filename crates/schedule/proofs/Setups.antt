@@ -5,24 +5,26 @@ use native.Mathlib.Omega.{arith}
 use mathlib.Core.Path.{◌≡◌, refl, sym, ap, ◌∙◌}
 use mathlib.Core.Bool.{true, false, false≢true}
 use mathlib.Core.List.{List, [], ◌∷◌, ◌++◌, map, append_assoc, append-nil}
+use lib.Dec.{eqb}
 use lib.ListN.{length, drop, drop_of_length-le}
+use Rattle.std.specs.List.{starts_with}
+use Rattle.std.specs.Prelude.{Some, None}
+use Rattle.text.specs.declared.Read.{Read}
 use Rattle.protocol.specs.Window.{Window}
 use Rattle.protocol.specs.Call as call
 use Rattle.text.specs.Text.{dec_text, hex_text}
 use Rattle.text.specs.Scan.{Stops}
 use Rattle.text.proofs.Laws.{dec-same, hex-same}
-use Rattle.statements.specs.declared.Part.{Part}
 use Rattle.statements.specs.Text.{parted}
 use Rattle.statements.specs.Meaning.{Each}
 use Rattle.statements.specs.Parts.{NumberAt, each, comma_number}
-use Rattle.statements.proofs.Sequence.{ok-before, each-stops}
+use Rattle.statements.proofs.Sequence.{each-stops}
 use Rattle.statements.proofs.GroupLaws.{comma-number}
 use Rattle.schedule.specs.declared.line.Line.TheVariants as is
-use Rattle.schedule.specs.declared.line.Parsed.TheVariants.{Readable, Unreadable}
 use Rattle.schedule.specs.declared.line.ReadSetup.{ReadSetup}
 use Rattle.schedule.specs.declared.verb.Verb.TheVariants.{Setup}
 use Rattle.schedule.specs.Line.{setup, setup_word, ended, Short, window_numbers, setup_parts, Written}
-use Rattle.schedule.specs.Reading.{starts_with, verb_of, SetAt, ReadsSetup, SetupOf, window_text, the_senders, the_windows, ManyAt, BeginsWith, Understood}
+use Rattle.schedule.specs.Reading.{verb_of, SetAt, ReadsSetup, SetupOf, window_text, the_senders, the_windows, ManyAt, BeginsWith, Understood}
 use Rattle.schedule.proofs.Words.{starts-only, begins, ended_same, reads_none}
 use Rattle.schedule.proofs.Fields.{left-none}
 use Rattle.schedule.proofs.Commands.{follows, put-together}
@@ -67,78 +69,91 @@ numbers-stop (k ∷ L) = refl
 rest-stops : (s : call.Setup) (f : ℕ) → Stops (rest s f)
 rest-stops s f = each-stops comma_number comma-number s.senders (44 ∷ (hex_text 4 f ++ windows_tail s.windows)) refl
 
--- what follows the count of senders begins with a comma
-rest-comma : (L t : List ℕ) → (u : List ℕ) × (each comma_number L ++ 44 ∷ t ≡ 44 ∷ u)
-unfolding each
-rest-comma [] t = (t, refl)
-rest-comma (k ∷ L) t = ((dec_text k ++ each comma_number L) ++ 44 ∷ t, refl)
-
 -- the text T after its word, if it is the setup s
 text-follows : (T : List ℕ) (i : ℕ) (s : call.Setup) (f : ℕ) → Written i (setup s f) (ended T) → drop 5 T ≡ setup_text s f
 text-follows T i s f w = follows T setup_word (setup_text s f) (w.6 ∙ ap ended (setup-parts s f))
 
-module _ (T : List ℕ) (by : BeginsWith Setup T) (S : List ℕ) (m c s f n : Part) (cm : SetAt T 5 m) (cc : NumberAt T m.next 255 c) (cs : ManyAt the_senders T c.next c.value S s) (cf : SetAt T s.next f)
-    (cn : NumberAt T f.next 65535 n) where
-  -- what the fields are up to the count of windows, if the line is a setup
-  fields : (i : ℕ) (a : call.Setup) (z : ℕ) → Written i (setup a z) (ended T) → (n.ok ≡ true) × (n.value ≡ length a.windows) × (drop n.next T ≡ each comma_number (window_numbers a.windows))
-  fields i a z w =
-      let g1 = cm.back a.members (44 ∷ (dec_text (length a.senders) ++ rest a z)) (omega (arith, w.0)) (text-follows T i a z w) in
-      let g2 = cc.back (length a.senders) (rest a z) w.1 (rest-stops a z) g1.2 in
-      let g3 = cs.from.back a.senders (44 ∷ (hex_text 4 z ++ windows_tail a.windows)) (sym g2.1, w.2) refl refl g2.2 in
-      let g4 = cf.back z (windows_tail a.windows) (omega (arith, w.3)) g3.2 in
-      cn.back (length a.windows) (each comma_number (window_numbers a.windows)) w.4 (numbers-stop (window_numbers a.windows)) g4.2
+-- The text T is written as no setup.
+abbrev NoSetup : List ℕ → Type 0
+NoSetup T = (i : ℕ) (a : call.Setup) (z : ℕ) → ¬ Written i (setup a z) (ended T)
 
-  pub setup-uncounted : (W : List ℕ) → n.ok ≡ false → (r : ReadSetup) → r.ok ≡ false → SetupOf T S W r
-  setup-uncounted W q r e = record {
-    told = λ o. absurd (false≢true (sym e ∙ o));
-    untold = λ _ i a z w. false≢true (sym q ∙ (fields i a z w).0);
-  }
+pub no-setup : (T S W : List ℕ) → NoSetup T → SetupOf T S W None
+no-setup T S W n = record { told = tt; untold = n }
 
-  module _ (W : List ℕ) (v : Part) (cv : ManyAt the_windows T n.next n.value W v) where
-    told : n.ok ≡ true → v.ok ≡ true → length T ≤ v.next → (r : ReadSetup) → r.members ≡ m.value → r.count ≡ c.value → r.faulty ≡ f.value → r.windows ≡ n.value → ReadsSetup T S W r
-    told k o h r em ec ef en =
-        let L : List ℕ = cs.values in
-        let ws : List Window = cv.values in
-        let z : ℕ = f.value in
-        let numbers : List ℕ = each comma_number (window_numbers ws) in
-        let d6 : drop n.next T ≡ numbers = (cv.from.only o).1 ∙ ap (λ (l : List ℕ). each window_text ws ++ l) (drop_of_length-le T h) ∙ append-nil (each window_text ws) ∙ windows-text ws in
-        let d5 : drop f.next T ≡ windows_tail ws = cn.only k ∙ ap (λ (l : List ℕ). 44 ∷ (dec_text n.value ++ l)) d6 ∙ ap (λ (x : ℕ). 44 ∷ (dec_text x ++ numbers)) (sym (cv.many o).0) in
-        let d4 : drop s.next T ≡ 44 ∷ (hex_text 4 z ++ windows_tail ws) = cf.only (ok-before T f.next 44 (dec_text (length ws) ++ numbers) f.ok d5 cf.stop) ∙ ap (λ (l : List ℕ). 44 ∷ (hex_text 4 z ++ l)) d5 in
-        let os : s.ok ≡ true = ok-before T s.next 44 (hex_text 4 z ++ windows_tail ws) s.ok d4 cs.from.stop in
-        let a : call.Setup = record { members = m.value; senders = L; windows = ws } in
-        let d3 : drop c.next T ≡ rest a z = (cs.from.only os).1 ∙ ap (λ (l : List ℕ). each comma_number L ++ l) d4 in
-        let (t, e) = rest-comma L (hex_text 4 z ++ windows_tail ws) in
-        let d2 : drop m.next T ≡ 44 ∷ (dec_text (length L) ++ rest a z) = cc.only (ok-before T c.next 44 t c.ok (d3 ∙ e) cc.stop) ∙ ap (λ (l : List ℕ). 44 ∷ (dec_text c.value ++ l)) d3 ∙ ap (λ (x : ℕ). 44 ∷ (dec_text x ++ rest a z)) (sym (cs.many os).0) in
-        let d1 : drop 5 T ≡ setup_text a z = cm.only (ok-before T m.next 44 (dec_text (length L) ++ rest a z) m.ok d2 cm.stop) ∙ ap (λ (l : List ℕ). 44 ∷ (hex_text 4 m.value ++ l)) d2 in
-        let whole = put-together T setup_word (setup_text a z) (begins T Setup by.word) d1 ∙ ap ended (sym (setup-parts a z)) in record {
-          senders = L;
-          windows = ws;
-          count = (cs.many os).0 ∙ sym ec;
-          stand = cs.stand;
-          window-count = (cv.many o).0 ∙ sym en;
-          windows-stand = cv.stand;
-          written = λ i. rw (em, ef) (omega (arith, cm.low), omega (arith, (cs.many os).0, cc.low), (cs.many os).1, omega (arith, cf.low), omega (arith, (cv.many o).0, cn.low), numbers-short ws (cv.many o).1, whole);
-        }
+-- Each field in turn: refused, the line is no setup; read, it is what a setup has there, and the next follows.
+module _ (T : List ℕ) where
+  pub setup-members : SetAt T 5 None → NoSetup T
+  setup-members cm i a z w = cm.back a.members (44 ∷ (dec_text (length a.senders) ++ rest a z)) (omega (arith, w.0)) (text-follows T i a z w)
 
-    -- nothing follows the windows, if the line is a setup
-    windows-last : (i : ℕ) (a : call.Setup) (z : ℕ) → Written i (setup a z) (ended T) → (v.ok ≡ true) × (drop v.next T ≡ [])
-    windows-last i a z w =
-        let g5 = fields i a z w in
-        let ws : List Window = a.windows in
-        let g6 = cv.from.back ws [] (sym g5.1, windows-short ws w.5) tt refl (g5.2 ∙ sym (windows-text ws) ∙ sym (append-nil (each window_text ws))) in
-        (g6.0, g6.2)
+  module _ (m : Read ℕ) (cm : SetAt T 5 (Some m)) where
+    members : (i : ℕ) (a : call.Setup) (z : ℕ) → Written i (setup a z) (ended T) → (m.value ≡ a.members) × (drop m.next T ≡ 44 ∷ (dec_text (length a.senders) ++ rest a z))
+    members i a z w = cm.back a.members (44 ∷ (dec_text (length a.senders) ++ rest a z)) (omega (arith, w.0)) (text-follows T i a z w)
 
-    pub setup-more : v.next < length T → (r : ReadSetup) → r.ok ≡ false → SetupOf T S W r
-    setup-more h r e = record {
-      told = λ o. absurd (false≢true (sym e ∙ o));
-      untold = λ _ i a z w. absurd (omega (arith, left-none T v.next (windows-last i a z w).1));
-    }
+    pub setup-count : NumberAt T m.next 255 None → NoSetup T
+    setup-count cc i a z w = cc.back (length a.senders) (rest a z) w.1 (rest-stops a z) (members i a z w).1
 
-    pub setup-whole : n.ok ≡ true → length T ≤ v.next → (r : ReadSetup) → r.ok ≡ v.ok → r.members ≡ m.value → r.count ≡ c.value → r.faulty ≡ f.value → r.windows ≡ n.value → SetupOf T S W r
-    setup-whole k h r eo em ec ef en = record {
-      told = λ o. told k (sym eo ∙ o) h r em ec ef en;
-      untold = λ o i a z w. false≢true (sym o ∙ eo ∙ (windows-last i a z w).0);
-    }
+    module _ (c : Read ℕ) (cc : NumberAt T m.next 255 (Some c)) where
+      count : (i : ℕ) (a : call.Setup) (z : ℕ) → Written i (setup a z) (ended T) → (c.value ≡ length a.senders) × (drop c.next T ≡ rest a z)
+      count i a z w = cc.back (length a.senders) (rest a z) w.1 (rest-stops a z) (members i a z w).1
+
+      pub setup-senders : (S : List ℕ) → ManyAt the_senders T c.next c.value S None → NoSetup T
+      setup-senders S cs i a z w = let g = count i a z w in cs.from.back a.senders (44 ∷ (hex_text 4 z ++ windows_tail a.windows)) (sym g.0, w.2) refl g.1
+
+      module _ (S : List ℕ) (s : ℕ) (cs : ManyAt the_senders T c.next c.value S (Some s)) where
+        senders : (i : ℕ) (a : call.Setup) (z : ℕ) → Written i (setup a z) (ended T) → (cs.values ≡ a.senders) × (drop s T ≡ 44 ∷ (hex_text 4 z ++ windows_tail a.windows))
+        senders i a z w = let g = count i a z w in cs.from.back a.senders (44 ∷ (hex_text 4 z ++ windows_tail a.windows)) (sym g.0, w.2) refl g.1
+
+        pub setup-faulty : SetAt T s None → NoSetup T
+        setup-faulty cf i a z w = cf.back z (windows_tail a.windows) (omega (arith, w.3)) (senders i a z w).1
+
+        module _ (f : Read ℕ) (cf : SetAt T s (Some f)) where
+          faulty : (i : ℕ) (a : call.Setup) (z : ℕ) → Written i (setup a z) (ended T) → (f.value ≡ z) × (drop f.next T ≡ windows_tail a.windows)
+          faulty i a z w = cf.back z (windows_tail a.windows) (omega (arith, w.3)) (senders i a z w).1
+
+          pub setup-many : NumberAt T f.next 65535 None → NoSetup T
+          setup-many cn i a z w = cn.back (length a.windows) (each comma_number (window_numbers a.windows)) w.4 (numbers-stop (window_numbers a.windows)) (faulty i a z w).1
+
+          module _ (n : Read ℕ) (cn : NumberAt T f.next 65535 (Some n)) where
+            many : (i : ℕ) (a : call.Setup) (z : ℕ) → Written i (setup a z) (ended T) → (n.value ≡ length a.windows) × (drop n.next T ≡ each comma_number (window_numbers a.windows))
+            many i a z w = cn.back (length a.windows) (each comma_number (window_numbers a.windows)) w.4 (numbers-stop (window_numbers a.windows)) (faulty i a z w).1
+
+            -- what follows the count of windows, as windows and nothing after them
+            windows-there : (i : ℕ) (a : call.Setup) (z : ℕ) → Written i (setup a z) (ended T) → drop n.next T ≡ each window_text a.windows ++ []
+            windows-there i a z w = (many i a z w).1 ∙ sym (windows-text a.windows) ∙ sym (append-nil (each window_text a.windows))
+
+            pub setup-windows : (W : List ℕ) → ManyAt the_windows T n.next n.value W None → NoSetup T
+            setup-windows W cv i a z w = cv.from.back a.windows [] (sym (many i a z w).0, windows-short a.windows w.5) tt (windows-there i a z w)
+
+            module _ (W : List ℕ) (v : ℕ) (cv : ManyAt the_windows T n.next n.value W (Some v)) where
+              pub setup-more : v < length T → NoSetup T
+              setup-more h i a z w =
+                  let g = cv.from.back a.windows [] (sym (many i a z w).0, windows-short a.windows w.5) tt (windows-there i a z w) in omega (arith, left-none T v g.1)
+
+              told : BeginsWith Setup T → length T ≤ v → ReadsSetup T S W (record { members = m.value; count = c.value; faulty = f.value; windows = n.value })
+              told by h =
+                  let L : List ℕ = cs.values in
+                  let ws : List Window = cv.values in
+                  let z : ℕ = f.value in
+                  let numbers : List ℕ = each comma_number (window_numbers ws) in
+                  let a : call.Setup = record { members = m.value; senders = L; windows = ws } in
+                  let d6 : drop n.next T ≡ numbers = cv.from.only ∙ ap (λ (l : List ℕ). each window_text ws ++ l) (drop_of_length-le T h) ∙ append-nil (each window_text ws) ∙ windows-text ws in
+                  let d5 : drop f.next T ≡ windows_tail ws = cn.only ∙ ap (λ (l : List ℕ). 44 ∷ (dec_text n.value ++ l)) d6 ∙ ap (λ (x : ℕ). 44 ∷ (dec_text x ++ numbers)) (sym cv.many.0) in
+                  let d4 : drop s T ≡ 44 ∷ (hex_text 4 z ++ windows_tail ws) = cf.only ∙ ap (λ (l : List ℕ). 44 ∷ (hex_text 4 z ++ l)) d5 in
+                  let d3 : drop c.next T ≡ rest a z = cs.from.only ∙ ap (λ (l : List ℕ). each comma_number L ++ l) d4 in
+                  let d2 : drop m.next T ≡ 44 ∷ (dec_text (length L) ++ rest a z) = cc.only ∙ ap (λ (l : List ℕ). 44 ∷ (dec_text c.value ++ l)) d3 ∙ ap (λ (x : ℕ). 44 ∷ (dec_text x ++ rest a z)) (sym cs.many.0) in
+                  let d1 : drop 5 T ≡ setup_text a z = cm.only ∙ ap (λ (l : List ℕ). 44 ∷ (hex_text 4 m.value ++ l)) d2 in
+                  let whole = put-together T setup_word (setup_text a z) (begins T Setup by.word) d1 ∙ ap ended (sym (setup-parts a z)) in record {
+                    senders = L;
+                    windows = ws;
+                    count = cs.many.0;
+                    stand = cs.stand;
+                    window-count = cv.many.0;
+                    windows-stand = cv.stand;
+                    written = λ i. (omega (arith, cm.low), omega (arith, cs.many.0, cc.low), cs.many.1, omega (arith, cf.low), omega (arith, cv.many.0, cn.low), numbers-short ws cv.many.1, whole);
+                  }
+
+              pub setup-whole : BeginsWith Setup T → length T ≤ v → SetupOf T S W (Some (record { members = m.value; count = c.value; faulty = f.value; windows = n.value }))
+              setup-whole by h = record { told = told by h; untold = tt }
 
 -- ---- one text, one setup
 
@@ -172,22 +187,18 @@ setup-same T n s f s' f' w w' =
     λ i. setup (record { members = em i; senders = e_l i; windows = e_v i }) (ef i)
 
 -- a line with another word
-pub not-setup : (T S W : List ℕ) → starts_with T setup_word ≡ false → (r : ReadSetup) → r.ok ≡ false → SetupOf T S W r
-unfolding starts_with
-not-setup T S W e r o = record {
-  told = λ y. absurd (false≢true (sym o ∙ y));
-  untold = λ _ i a z w. false≢true (sym e ∙ ap (λ (t : List ℕ). starts_with t setup_word) (ended_same T (setup_word ++ setup_text a z) (w.6 ∙ ap ended (setup-parts a z))));
-}
+pub not-setup : (T S W : List ℕ) → starts_with eqb T setup_word ≡ false → SetupOf T S W None
+not-setup T S W e = no-setup T S W (λ i a z w. false≢true (sym e ∙ ap (λ (t : List ℕ). starts_with eqb t setup_word) (ended_same T (setup_word ++ setup_text a z) (w.6 ∙ ap ended (setup-parts a z)))))
 
 -- a line with the word
-pub setup-begins : (T : List ℕ) → starts_with T setup_word ≡ true → BeginsWith Setup T
-unfolding verb_of starts_with
+pub setup-begins : (T : List ℕ) → starts_with eqb T setup_word ≡ true → BeginsWith Setup T
+unfolding verb_of
 setup-begins T e = record { word = sym (ap verb_of (starts-only T setup_word e)) }
 
 -- ---- that it reads
-module _ (T : List ℕ) (by : BeginsWith Setup T) (S W : List ℕ) (r : ReadSetup) (of : SetupOf T S W r) where
-  pub reads-setup : r.ok ≡ true → Understood T (Readable is.Setup)
-  reads-setup o = let g = of.told o in record { reads = (record { members = r.members; senders = g.senders; windows = g.windows }, r.faulty, g.written) }
+module _ (T : List ℕ) (by : BeginsWith Setup T) (S W : List ℕ) where
+  pub reads-setup : (r : ReadSetup) → SetupOf T S W (Some r) → Understood T (Some is.Setup)
+  reads-setup r of = let g = of.told in record { reads = (record { members = r.members; senders = g.senders; windows = g.windows }, r.faulty, g.written) }
 
-  pub reads-no-setup : r.ok ≡ false → Understood T Unreadable
-  reads-no-setup o = record { reads = reads_none T Setup by.word (λ a z i w. of.untold o i a z w) }
+  pub reads-no-setup : SetupOf T S W None → Understood T None
+  reads-no-setup of = record { reads = reads_none T Setup by.word (λ a z i w. of.untold i a z w) }

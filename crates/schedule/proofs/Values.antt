@@ -1,100 +1,99 @@
--- Values that a line tells one after the other: the loop that reads them and puts each into its place of the memory.
+-- Values that a line tells one after the other: what the loop that reads them keeps, and that what it read is what the line tells.
 -- Assumes nothing.
 use Prim.Native.Nat.{ℕ, ◌+◌, ◌<◌, ◌≤◌}
 use native.Mathlib.Decide.{dec_lt}
 use native.Mathlib.Omega.{arith}
 use mathlib.Core.Path.{◌≡◌, refl, sym, ap, subst, ◌∙◌}
-use mathlib.Core.Bool.{Bool, true, false, true≢false, false≢true}
-use mathlib.Core.List.{List, [], ◌∷◌, ◌++◌}
-use lib.ListN.{length, set, length-append, get_or-append}
-use lib.Seq.{get_or_at}
-use borrow.Author.Tests.{eq-eqb, ne_eqb}
-use Rattle.protocol.specs.Lists.{put}
-use Rattle.protocol.proofs.Numbered.{set-put}
-use Rattle.statements.specs.declared.Part.{Part}
+use mathlib.Core.List.{List, [], ◌∷◌, ◌++◌, map, append_assoc, append-nil}
+use lib.ListN.{length, set, get_or, length-append, length-map, get_or-append, get_or-map}
+use lib.Seq.{get_or_at, get_or-set_same, get_or-set_other}
+use Rattle.std.specs.Prelude.{◌≢◌, Option, Some, None}
+use Rattle.std.proofs.lemmas.List.{get_or_default}
+use Rattle.text.specs.declared.Read.{Read}
+use Rattle.text.specs.Scan.{read}
 use Rattle.statements.specs.Meaning.{Each}
-use Rattle.statements.specs.Parts.{NumberAt, From}
-use Rattle.statements.proofs.Sequence.{Comma, from-number, SoFar, so-far-first, so-far-next, so-far-refused, so-far-all}
-use Rattle.schedule.specs.Reading.{StandIn, Values, the_senders, OneAt, ManyAt, PutAt}
+use Rattle.statements.proofs.Sequence.{Comma, SoFar, so-far-first, so-far-next, so-far-refused, so-far-all}
+use Rattle.schedule.specs.Reading.{Values, OneAt, ManyAt, Run, Placed, ManyRead}
 
--- a sender is one number
-pub sender-one : (T : List ℕ) (at : ℕ) (p : Part) → NumberAt T at 255 p → OneAt the_senders T at p.value p
-sender-one T at p n = record { fits = n.low; from = from-number T at 255 p n }
+-- ---- the loop
+module _ {X : Type 0} (step : ℕ → Option (Read X) → Type 0) where
+  run_more : (l : List X) (a b : ℕ) (x : X) (next : ℕ) → Run step l a b → step b (Some (read x next)) → Run step (l ++ (x ∷ [])) a next
+  run_more [] a b x next e s = (next, subst (λ k. step k (Some (read x next))) (sym e) s, refl)
+  run_more (y ∷ l) a b x next r s = (r.0, r.1, run_more l r.0 b x next r.2 s)
 
-module _ {A : Type 0} (K : Values A) where
-  abbrev Stands : List ℕ → List A → Type 0
-  Stands S l = StandIn K.means K.blank K.places S l
+  module _ (places at₀ : ℕ) where
+    -- j values were read and put into the memory S, and the next is to begin at `at`.
+    pub record SoRead (S : List X) (j at : ℕ) : Type 0 where
+      pub values : List X
+      pub count : length values ≡ j
+      pub run : Run step values at₀ at
+      pub placed : Placed places S values
 
-  -- ---- a value's place
-  module _ (S : List ℕ) (j word : ℕ) where
-    pub value-put : j < length S → PutAt K S j (K.means word) (set S j word)
-    value-put h = record { each = λ i _. ap (λ (f : ℕ → A). f i) (set-put K.means S j word 0 h) }
+    pub so-read-first : (S : List X) → SoRead S 0 at₀
+    so-read-first S = record { values = []; count = refl; run = refl; placed = λ i d h. absurd (omega arith) }
 
-    pub value-past : K.places ≤ j → PutAt K S j (K.means word) S
-    unfolding put
-    value-past h = record { each = λ i k. rw (ne_eqb i j (λ e. omega arith)) }
+    module _ (S : List X) (j at : ℕ) (so : SoRead S j at) where
+      more : (S' : List X) (x : X) (next : ℕ) → step at (Some (read x next)) → Placed places S' (so.values ++ (x ∷ [])) → SoRead S' (j + 1) next
+      more S' x next s p = record { values = so.values ++ (x ∷ []); count = length-append so.values (x ∷ []) ∙ ap (λ (k : ℕ). k + 1) so.count; run = run_more so.values at₀ at x next so.run s; placed = p }
 
-  stand-more : (S S' : List ℕ) (l : List A) (v : A) → Stands S l → PutAt K S (length l) v S' → Stands S' (l ++ (v ∷ []))
-  unfolding put
-  stand-more S S' l v s p = record {
-    each = λ i h k. p.each i k ∙ elim (dec_lt i (length l)) [
-      | yes m ↦ rw (ne_eqb i (length l) (λ e. omega arith)) (s.each i m k ∙ sym (get_or-append l (v ∷ []) K.blank i m))
-      | no m ↦ (let e : i ≡ length l = omega (arith, length-append l (v ∷ [])) in rw (eq-eqb i (length l) e) (sym (get_or_at l v [] K.blank i (sym e))))
-    ];
-  }
+      pub so-read-put : (S' : List X) (x : X) (next : ℕ) → step at (Some (read x next)) → S' ≡ set S j x → j < length S → SoRead S' (j + 1) next
+      so-read-put S' x next s e h = more S' x next s (λ i d l k. ap (λ m. get_or m i d) e ∙ elim (dec_lt i j) [
+        | yes m ↦ (let ne : i ≢ j = omega arith in let b : i < length so.values = omega (arith, so.count) in rw get_or-set_other (so.placed i d b k ∙ sym (get_or-append so.values (x ∷ []) d i b)))
+        | no m ↦ (let q : i ≡ j = omega (arith, so.count, length-append so.values (x ∷ [])) in ap (λ n. get_or (set S j x) n d) q ∙ get_or-set_same S j x d h ∙ sym (get_or_at so.values x [] d i (so.count ∙ sym q)))
+      ])
 
+      pub so-read-past : (S' : List X) (x : X) (next : ℕ) → step at (Some (read x next)) → S' ≡ S → places ≤ j → SoRead S' (j + 1) next
+      so-read-past S' x next s e h = more S' x next s (λ i d l k. let b : i < length so.values = omega (arith, so.count) in ap (λ m. get_or m i d) e ∙ so.placed i d b k ∙ sym (get_or-append so.values (x ∷ []) d i b))
+
+      pub so-read-refused : (n : ℕ) → j < n → step at None → ManyRead step places at₀ n S None
+      so-read-refused n h s = record { values = so.values; position = at; run = so.run; placed = so.placed; all = tt; refused = (omega (arith, so.count), s) }
+
+      pub so-read-all : (n : ℕ) → n ≤ j → j ≤ n → ManyRead step places at₀ n S (Some at)
+      so-read-all n h k = record { values = so.values; position = at; run = so.run; placed = so.placed; all = (omega (arith, so.count), refl); refused = tt }
+
+-- ---- what a line tells
+module _ {A : Type 0} (K : Values A) (T : List ℕ) (at₀ n : ℕ) (step : ℕ → Option (Read ℕ) → Type 0) (steps : (at : ℕ) (r : Option (Read ℕ)) → step at r → OneAt K T at r) (comma : Comma K.text) where
   each_more : (l : List A) (v : A) → Each K.Fit l → K.Fit v → Each K.Fit (l ++ (v ∷ []))
   each_more [] v e f = (f, tt)
   each_more (a ∷ l) v e f = (e.0, each_more l v e.1 f)
 
-  -- ---- the loop
+  abbrev Told : List A → ℕ → Type 0
+  Told done at = SoFar K.text K.Fit T n at₀ done at × Each K.Fit done
 
-  -- The first j of n values were read, and the next is to begin at `at`.
-  pub record ManySoFar (T : List ℕ) (at₀ n : ℕ) (S : List ℕ) (j at : ℕ) : Type 0 where
-    pub values : List A
-    pub count : length values ≡ j
-    pub within : j ≤ n
-    pub fits : Each K.Fit values
-    pub stand : Stands S values
-    pub read : SoFar K.text K.Fit T n true at₀ values true at
+  runs : (l : List ℕ) (done : List A) (at end : ℕ) → Told done at → length done + length l ≤ n → Run step l at end → Told (done ++ map K.means l) end
+  runs [] done at end t h e = rw (append-nil done) (subst (Told done) e t)
+  runs (x ∷ l) done at end t h r =
+      let v : A = K.means x in
+      let c = steps at (Some (read x r.0)) r.1 in
+      let one : Told (done ++ (v ∷ [])) r.0 = (so-far-next K.text K.Fit T n at₀ done at t.0 comma v r.0 (omega arith) c.from, each_more done v t.1 c.fits) in
+      subst (λ k. Told k end) (append_assoc done (v ∷ []) (map K.means l)) (runs l (done ++ (v ∷ [])) r.0 end one (omega (arith, length-append done (v ∷ []))) r.2)
 
-  module _ (T : List ℕ) (at₀ n : ℕ) where
-    pub values-first : (S : List ℕ) → ManySoFar T at₀ n S 0 at₀
-    values-first S = record {
-      values = [];
-      count = refl;
-      within = omega arith;
-      fits = tt;
-      stand = record { each = λ i h. absurd (omega arith) };
-      read = so-far-first K.text K.Fit T n true at₀ (λ e. absurd (true≢false e));
-    }
+  module _ (S : List ℕ) (r : Option ℕ) (m : ManyRead step K.places at₀ n S r) where
+    abbrev values : List A
+    values = map K.means m.values
 
-    module _ (S : List ℕ) (j at : ℕ) (f : ManySoFar T at₀ n S j at) where
-      pub values-next : Comma K.text → (S' : List ℕ) (v : A) (p : Part) → j < n → OneAt K T at v p → p.ok ≡ true → PutAt K S j v S' → ManySoFar T at₀ n S' (j + 1) p.next
-      values-next comma S' v p h c o g = record {
-        values = f.values ++ (v ∷ []);
-        count = length-append f.values (v ∷ []) ∙ ap (λ (k : ℕ). k + 1) f.count;
-        within = omega arith;
-        fits = each_more f.values v f.fits c.fits;
-        stand = stand-more S S' f.values v f.stand (subst (λ (k : ℕ). PutAt K S k v S') (sym f.count) g);
-        read = subst (λ (b : Bool). SoFar K.text K.Fit T n true at₀ (f.values ++ (v ∷ [])) b p.next) o
-            (so-far-next K.text K.Fit T n true at₀ f.values true at f.read comma v p.ok p.next (omega (arith, f.count)) c.from);
+    told : length m.values ≤ n → Told values m.position
+    told h = runs m.values [] at₀ m.position (so-far-first K.text K.Fit T n at₀, tt) (omega arith) m.run
+
+    long : length values ≡ length m.values
+    long = length-map m.values K.means
+
+    stand : (i : ℕ) → i < length values → i < K.places → K.means (get_or S i 0) ≡ get_or values i K.blank
+    stand i h k = let b : i < length m.values = omega (arith, long) in ap K.means (m.placed i 0 b k) ∙ sym (get_or-map K.means m.values i 0) ∙ get_or_default values i (K.means 0) K.blank h
+
+  pub many-of : (S : List ℕ) (r : Option ℕ) → ManyRead step K.places at₀ n S r → ManyAt K T at₀ n S r
+  many-of S None m =
+      let t = told S None m (omega (arith, m.refused.0)) in record {
+        values = values S None m;
+        many = tt;
+        stand = record { each = stand S None m };
+        from = so-far-refused K.text K.Fit T n at₀ (values S None m) m.position t.0 comma (omega (arith, long S None m, m.refused.0)) (steps m.position None m.refused.1).from;
       }
-
-      pub values-refused : Comma K.text → (v : A) (p : Part) → j < n → OneAt K T at v p → p.ok ≡ false → ManyAt K T at₀ n S (record { ok = false; value = 0; next = length T })
-      values-refused comma v p h c o = record {
-        values = f.values;
-        many = λ e. absurd (false≢true e);
-        stand = f.stand;
-        from = so-far-refused K.text K.Fit T n true at₀ f.values true at f.read comma v p.next (omega (arith, f.count))
-            (subst (λ (b : Bool). From K.text K.Fit T true at b v p.next) o c.from) f.values;
+  many-of S (Some end) m =
+      let t = told S (Some end) m (omega (arith, m.all.0)) in
+      let e : length (values S (Some end) m) ≡ n = omega (arith, long S (Some end) m, m.all.0) in record {
+        values = values S (Some end) m;
+        many = (e, t.1);
+        stand = record { each = stand S (Some end) m };
+        from = so-far-all K.text K.Fit T n at₀ (values S (Some end) m) end (subst (SoFar K.text K.Fit T n at₀ (values S (Some end) m)) m.all.1 t.0) e;
       }
-
-      pub values-all : n ≤ j → ManyAt K T at₀ n S (record { ok = true; value = 0; next = at })
-      values-all h =
-          let e : length f.values ≡ n = omega (arith, f.count, f.within) in record {
-            values = f.values;
-            many = λ _. (e, f.fits);
-            stand = f.stand;
-            from = so-far-all K.text K.Fit T n true at₀ f.values true at f.read e;
-          }

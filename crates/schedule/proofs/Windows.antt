@@ -5,20 +5,20 @@ use Prim.Native.Nat.{ℕ, ◌<◌, ◌≤◌}
 use native.Mathlib.Decide.{dec_lt}
 use native.Mathlib.Omega.{arith}
 use mathlib.Core.Path.{◌≡◌, refl, sym, ap, subst, ◌∙◌}
-use mathlib.Core.Bool.{true}
 use mathlib.Core.List.{List, [], ◌∷◌, ◌++◌, append_assoc}
 use lib.ListN.{length, get_or}
 use lib.Seq.{ext_get_or}
+use Rattle.std.specs.Prelude.{Option, Some, None, IfSome}
+use Rattle.text.specs.declared.Read.{Read}
+use Rattle.text.specs.Scan.{found, Stops}
 use Rattle.protocol.specs.Window.{Window, windows_allowed}
 use Rattle.protocol.proofs.Numbered.{list_of-at}
 use Rattle.text.specs.Text.{dec_text}
 use Rattle.windows.specs.Windows.{window_of, window_in, windows_in}
 use Rattle.windows.proofs.Windows.{nine-windows, windows-count}
-use Rattle.statements.specs.declared.Part.{Part}
 use Rattle.statements.specs.Meaning.{Each}
-use Rattle.statements.specs.Parts.{NumberAt, each, comma_number, From}
-use Rattle.statements.proofs.Sequence.{Comma, from-number, from-after, two_text, TwoFit, from-two, from-as}
-use Rattle.statements.proofs.GroupLaws.{comma-number}
+use Rattle.statements.specs.Parts.{NumberAt, each, comma_number, meant, From}
+use Rattle.statements.proofs.Sequence.{Comma, from-number, two_text, TwoFit, from-none, from-two, from-as}
 use Rattle.schedule.specs.declared.line.ReadSetup.{ReadSetup}
 use Rattle.schedule.specs.Line.{Short, window_numbers}
 use Rattle.schedule.specs.Reading.{no_window, WindowsIn, ReadsSetup, window_text, ShortWindow, the_windows, OneAt}
@@ -49,26 +49,44 @@ Three = TwoFit comma_number Short two Two₂
 abbrev window : ℕ × (ℕ × ℕ) → Window
 window x = window_of x.0 x.1.0 x.1.1
 
-module _ (T : List ℕ) (at : ℕ) (a b c : Part) (na : NumberAt T at 65535 a) (nb : NumberAt T a.next 65535 b) (nc : NumberAt T b.next 65535 c) where
-  from-minutes : From two Two T a.ok a.next c.ok (b.value, c.value) c.next
-  from-minutes =
-      from-two comma_number Short comma_number Short₂ T a.ok a.next b.ok b.value b.next
-      (from-after comma_number comma-number Short T a.ok a.next b.ok b.value b.next na.stop (from-number T a.next 65535 b nb)) c.ok c.value c.next (λ n rest s. refl)
-      (from-after comma_number comma-number Short T b.ok b.next c.ok c.value c.next nb.stop (from-number T b.next 65535 c nc))
+-- a comma stands before each number, and so no digit
+one-stops : (n : ℕ) (rest : List ℕ) → Stops rest → Stops (comma_number n ++ rest)
+one-stops n rest s = refl
 
-  from-numbers : From three Three T true at c.ok (a.value, (b.value, c.value)) c.next
-  from-numbers = from-two comma_number Short two Two₂ T true at a.ok a.value a.next (from-number T at 65535 a na) c.ok (b.value, c.value) c.next (λ n rest s. refl) from-minutes
+two-stops : (x : ℕ × ℕ) (rest : List ℕ) → Stops rest → Stops (two x ++ rest)
+two-stops x rest s = refl
 
-  abbrev v : Window
-  v = window_of a.value b.value c.value
+module _ (T : List ℕ) (at : ℕ) where
+  -- three numbers are a window's
+  as_window : (r : Option (Read (ℕ × (ℕ × ℕ)))) → IfSome r (λ p. window_text (window p.value) ≡ three p.value) → From three Three T at r → From window_text ShortWindow T at (meant window r)
+  as_window r same f = from-as three Three window_text ShortWindow window (λ w. (w.weekday, (w.first, w.end))) (λ w f. refl) (λ w f. (f.0, (f.1, f.2))) (λ v w f e. ap window e) T at r same f
 
-  from-window : From window_text ShortWindow T true at c.ok v c.next
-  from-window =
-      from-as three Three window_text ShortWindow (a.value, (b.value, c.value)) v (λ w. (w.weekday, (w.first, w.end))) refl (λ w f. refl) (λ w f. (f.0, (f.1, f.2))) (λ w f e. ap window e)
-      T true at c.ok c.next from-numbers
+  pub window-first : NumberAt T at 65535 None → OneAt the_windows T at None
+  window-first na = record { fits = tt; from = as_window None tt (from-none comma_number Short two Two₂ T at two-stops (from-number T at 65535 None na)) }
 
-  pub window-one : (word : ℕ) → window_in word ≡ v → OneAt the_windows T at (window_in word) (record { ok = c.ok; value = word; next = c.next })
-  window-one word e = subst (λ (w : Window). OneAt the_windows T at w (record { ok = c.ok; value = word; next = c.next })) (sym e) (record { fits = (na.low, nb.low, nc.low); from = from-window })
+  module _ (a : Read ℕ) (na : NumberAt T at 65535 (Some a)) where
+    then_two : (r : Option (Read (ℕ × ℕ))) → From two Two T a.next r → From three Three T at (meant (λ y. (a.value, y)) r)
+    then_two r f = from-two comma_number Short two Two₂ T at a.value a.next (from-number T at 65535 (Some a) na) two-stops r f
+
+    pub window-second : NumberAt T a.next 65535 None → OneAt the_windows T at None
+    window-second nb = record { fits = tt; from = as_window None tt (then_two None (from-none comma_number Short comma_number Short₂ T a.next one-stops (from-number T a.next 65535 None nb))) }
+
+    module _ (b : Read ℕ) (nb : NumberAt T a.next 65535 (Some b)) where
+      then_one : (r : Option (Read ℕ)) → NumberAt T b.next 65535 r → From two Two T a.next (meant (λ y. (b.value, y)) r)
+      then_one r nc = from-two comma_number Short comma_number Short₂ T a.next b.value b.next (from-number T a.next 65535 (Some b) nb) one-stops r (from-number T b.next 65535 r nc)
+
+      pub window-third : NumberAt T b.next 65535 None → OneAt the_windows T at None
+      window-third nc = record { fits = tt; from = as_window None tt (then_two None (then_one None nc)) }
+
+      module _ (c : Read ℕ) (nc : NumberAt T b.next 65535 (Some c)) where
+        abbrev v : Window
+        v = window_of a.value b.value c.value
+
+        from-window : From window_text ShortWindow T at (found v c.next)
+        from-window = as_window (found (a.value, (b.value, c.value)) c.next) refl (then_two (found (b.value, c.value) c.next) (then_one (Some c) nc))
+
+        pub window-one : (word : ℕ) → window_in word ≡ v → OneAt the_windows T at (found word c.next)
+        window-one word e = record { fits = subst ShortWindow (sym e) (na.low, nb.low, nc.low); from = subst (λ (w : Window). From window_text ShortWindow T at (found w c.next)) (sym e) from-window }
 
 -- ---- the numbers of windows, as they are written
 

@@ -1,15 +1,17 @@
 -- The word that a line begins with, and that it tells which lines the text can be.
 -- Assumes nothing.
-use Prim.Native.Nat.{ℕ, ◌+◌}
+use Prim.Native.Nat.{ℕ}
 use native.Mathlib.Omega.{arith}
 use mathlib.Core.Path.{◌≡◌, refl, sym, ap, subst, ◌∙◌}
-use mathlib.Core.Bool.{Bool, true, false, cond, false≢true}
+use mathlib.Core.Bool.{Bool, true, false, cond}
 use mathlib.Core.List.{List, [], ◌∷◌, ◌++◌}
 use mathlib.Core.Option.{none}
 use lib.Dec.{eqb}
 use lib.ListN.{length, take, drop, length-append}
 use lib.Seq.{take-append_seam}
-use borrow.Author.Tests.{eqb-true}
+use lib.Pointwise.{bytes_decides}
+use Rattle.std.specs.List.{starts_with}
+use Rattle.std.proofs.Common.{take-append-drop}
 use Rattle.protocol.specs.Statement.{Stmt}
 use Rattle.protocol.specs.Call as call
 use Rattle.text.specs.Text.{dec_text}
@@ -17,26 +19,19 @@ use Rattle.statements.specs.Text.{parted, text}
 use Rattle.schedule.specs.declared.verb.Verb.{Verb}
 use Rattle.schedule.specs.declared.verb.Verb.TheVariants.{Setup, Join, Leave, Send, Give, All, Turn, Lie, Unknown}
 use Rattle.schedule.specs.Line.{Line, setup, join, leave, send, give, all, turn, lie, no_statement, join_word, leave_word, send_word, give_word, all_word, turn_word, lie_word, ended, setup_parts, Written, Reads}
-use Rattle.schedule.specs.Reading.{starts_with, verb_text, verb_of}
+use Rattle.schedule.specs.Reading.{verb_text, verb_of}
 
 -- ---- a text begins with its word
-pub starts-only : (T w : List ℕ) → starts_with T w ≡ true → T ≡ w ++ drop (length w) T
-unfolding starts_with
-starts-only T [] e = refl
-starts-only [] (c ∷ w) e = absurd (false≢true e)
-starts-only (a ∷ T) (c ∷ w) e = go (eqb a c) refl (starts-only T w)
-  where
-    go : (t : Bool) → eqb a c ≡ t → (starts_with T w ≡ true → T ≡ w ++ drop (length w) T) → a ∷ T ≡ c ∷ (w ++ drop (length w) T)
-    go true p ih = ap (λ (x : ℕ). x ∷ T) (eqb-true a c p) ∙ ap (λ (l : List ℕ). c ∷ l) (ih (simp p at e))
-    go false p ih = absurd (false≢true (simp p at e))
+pub starts-only : (T w : List ℕ) → starts_with eqb T w ≡ true → T ≡ w ++ drop (length w) T
+starts-only T w e = sym (take-append-drop (length w) T) ∙ ap (λ l. l ++ drop (length w) T) (sym ((bytes_decides w (take (length w) T)).0 e))
 
 abbrev Begins : List ℕ → Verb → Type 0
 Begins T v = T ≡ verb_text v ++ drop (length (verb_text v)) T
 
-begins-if : (T : List ℕ) (v u : Verb) → Begins T u → Begins T (cond (starts_with T (verb_text v)) v u)
-begins-if T v u b = go (starts_with T (verb_text v)) refl
+begins-if : (T : List ℕ) (v u : Verb) → Begins T u → Begins T (cond (starts_with eqb T (verb_text v)) v u)
+begins-if T v u b = go (starts_with eqb T (verb_text v)) refl
   where
-    go : (t : Bool) → starts_with T (verb_text v) ≡ t → Begins T (cond t v u)
+    go : (t : Bool) → starts_with eqb T (verb_text v) ≡ t → Begins T (cond t v u)
     go true e = starts-only T (verb_text v) e
     go false e = b
 
@@ -67,7 +62,7 @@ verb_is (lie s) = Lie
 verb_is no_statement = Lie
 
 pub written-verb : (T : List ℕ) (notices : ℕ) (l : Line) → Written notices l (ended T) → verb_of T ≡ verb_is l
-unfolding verb_of starts_with parted
+unfolding verb_of parted
 written-verb T n (setup s f) w = ap verb_of (ended_same T (parted (setup_parts s f)) w.6)
 written-verb T n (join k) w = ap verb_of (ended_same T (parted (join_word ∷ dec_text k ∷ [])) w.1)
 written-verb T n (leave k) w = ap verb_of (ended_same T (parted (leave_word ∷ dec_text k ∷ [])) w.1)

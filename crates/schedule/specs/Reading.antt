@@ -1,22 +1,23 @@
 -- What a line that was read means, and what the functions that read it promise each other. T is a line without its newline.
 -- Assumes nothing.
-use Rattle.std.specs.Prelude.{ℕ, suc, ◌+◌, ◌<◌, ◌≤◌, min, ◌≡◌, Bool, true, false, cond, List, [], ◌∷◌, ◌++◌, eqb, length, take, drop, get_or}
+use Rattle.std.specs.Prelude.{ℕ, suc, ◌<◌, ◌≤◌, min, ◌≡◌, cond, List, [], ◌∷◌, ◌++◌, Option, Some, None, IfSome, IfNone, eqb, length, take, drop, get_or}
+use Rattle.std.specs.Option.{option_map, IsSomeAnd}
+use Rattle.std.specs.List.{starts_with}
 use Rattle.std.proofs.Math.Option.{none}
-use Rattle.protocol.specs.Lists.{put}
 use Rattle.protocol.specs.Statement.{Stmt}
 use Rattle.protocol.specs.Window.{Window}
 use Rattle.protocol.specs.Call as call
+use Rattle.text.specs.declared.Read.{Read}
+use Rattle.text.specs.Scan.{read}
 use Rattle.text.specs.Text.{dec_text, hex_text}
 use Rattle.windows.specs.Windows.{window_of, window_in}
-use Rattle.statements.specs.declared.Part.{Part}
-use Rattle.statements.specs.declared.ReadStatement.{ReadStatement}
+use Rattle.statements.specs.declared.Statement.{Statement}
 use Rattle.statements.specs.Text.{parted}
 use Rattle.statements.specs.Meaning.{stmt_of, Many}
+use Rattle.statements.specs.Parts as parts
 use Rattle.statements.specs.Parts.{each, comma_number, From}
 use Rattle.schedule.specs.declared.line.Line as held
 use Rattle.schedule.specs.declared.line.Line.TheVariants as is
-use Rattle.schedule.specs.declared.line.Parsed.{Parsed}
-use Rattle.schedule.specs.declared.line.Parsed.TheVariants.{Readable, Unreadable}
 use Rattle.schedule.specs.declared.line.ReadLine.{ReadLine}
 use Rattle.schedule.specs.declared.line.ReadSetup.{ReadSetup}
 use Rattle.schedule.specs.declared.verb.Verb.{Verb}
@@ -47,13 +48,13 @@ Tells (a_line l) S = (notices : ℕ) → Written notices l S
 Tells a_setup S = (s : call.Setup) × (faulty : ℕ) × ((notices : ℕ) → Written notices (setup s faulty) S)
 Tells a_lie S = (t : List ℕ) × (S ≡ ended (parted (lie_word ∷ t ∷ [])))
 
--- S was read as p.
-abbrev pub ReadAs : Parsed → List ℕ → Type 0
-ReadAs (Readable l) S = Tells (meant l) S
-ReadAs Unreadable S = (notices : ℕ) → Reads notices S none
+-- S was read as p, or is unreadable.
+abbrev pub ReadAs : Option held.Line → List ℕ → Type 0
+ReadAs (Some l) S = Tells (meant l) S
+ReadAs None S = (notices : ℕ) → Reads notices S none
 
 -- The line T was read as p.
-pub record Understood (T : List ℕ) (p : Parsed) : Type 0 where
+pub record Understood (T : List ℕ) (p : Option held.Line) : Type 0 where
   pub reads : ReadAs p (ended T)
 
 -- READING A LINE: r is what the first line of S was read as, and S goes on at r.next.
@@ -69,11 +70,11 @@ pub record Lying (T : List ℕ) : Type 0 where
 
 -- READING A LIE'S STATEMENT in a ring with this number of notices, at most 64: T is the lie of the statement that r means with the block B, which keeps the field rules,
 -- or the lie of none. It may be any text.
-pub record LiedOf (T : List ℕ) (notices : ℕ) (B : List ℕ) (r : ReadStatement) : Type 0 where
-  pub told : r.ok ≡ true → Written (min notices 64) (lie (stmt_of r.statement B)) (ended T)
-  pub untold : r.ok ≡ false → (s : Stmt) → ¬ Written (min notices 64) (lie s) (ended T)
-  pub near : r.ok ≡ true → r.statement.origin < 16
-  pub short : r.statement.history.len ≤ 16
+pub record LiedOf (T : List ℕ) (notices : ℕ) (B : List ℕ) (r : Option Statement) : Type 0 where
+  pub told : IfSome r (λ s. Written (min notices 64) (lie (stmt_of s B)) (ended T))
+  pub untold : IfNone r ((s : Stmt) → ¬ Written (min notices 64) (lie s) (ended T))
+  pub near : IfSome r (λ s. s.origin < 16)
+  pub short : IfSome r (λ s. s.history.len ≤ 16)
 
 -- The line T was read as a setup.
 pub record SettingUp (T : List ℕ) : Type 0 where
@@ -106,9 +107,9 @@ pub record ReadsSetup (T S W : List ℕ) (r : ReadSetup) : Type 0 where
   pub written : (notices : ℕ) → Written notices (setup (record { members = r.members; senders = senders; windows = windows }) r.faulty) (ended T)
 
 -- READING A SETUP: T is the setup that r says, of the senders whose first 64 stand in the memory S after it and the windows whose first 8 stand in W, or no setup. It may be any text.
-pub record SetupOf (T S W : List ℕ) (r : ReadSetup) : Type 0 where
-  pub told : r.ok ≡ true → ReadsSetup T S W r
-  pub untold : r.ok ≡ false → (notices : ℕ) (s : call.Setup) (faulty : ℕ) → ¬ Written notices (setup s faulty) (ended T)
+pub record SetupOf (T S W : List ℕ) (r : Option ReadSetup) : Type 0 where
+  pub told : IfSome r (λ s. ReadsSetup T S W s)
+  pub untold : IfNone r ((notices : ℕ) (s : call.Setup) (faulty : ℕ) → ¬ Written notices (setup s faulty) (ended T))
 
 -- ---- the line's end and its first word
 
@@ -116,11 +117,6 @@ pub record SetupOf (T S W : List ℕ) (r : ReadSetup) : Type 0 where
 unfoldable pub body_length : List ℕ → ℕ
 body_length [] = 0
 body_length (c ∷ S) = cond (eqb c 10) 0 (suc (body_length S))
-
-unfoldable pub starts_with : List ℕ → List ℕ → Bool
-starts_with S [] = true
-starts_with [] (c ∷ w) = false
-starts_with (a ∷ S) (c ∷ w) = cond (eqb a c) (starts_with S w) false
 
 abbrev pub verb_text : Verb → List ℕ
 verb_text Setup = setup_word
@@ -136,22 +132,21 @@ verb_text Unknown = []
 -- No word begins with another, so the order of the tests is free.
 unfoldable pub verb_of : List ℕ → Verb
 verb_of T =
-    cond (starts_with T turn_word) Turn (cond (starts_with T all_word) All (cond (starts_with T give_word) Give (cond (starts_with T join_word) Join
-    (cond (starts_with T leave_word) Leave (cond (starts_with T send_word) Send (cond (starts_with T setup_word) Setup (cond (starts_with T lie_word) Lie Unknown)))))))
+    cond (starts_with eqb T turn_word) Turn (cond (starts_with eqb T all_word) All (cond (starts_with eqb T give_word) Give (cond (starts_with eqb T join_word) Join
+    (cond (starts_with eqb T leave_word) Leave (cond (starts_with eqb T send_word) Send (cond (starts_with eqb T setup_word) Setup (cond (starts_with eqb T lie_word) Lie Unknown)))))))
 
 -- ---- the fields, each with the comma before it
 
 -- A number that ends the line.
-pub record LastAt (T : List ℕ) (at most : ℕ) (p : Part) : Type 0 where
-  pub only : p.ok ≡ true → drop at T ≡ 44 ∷ dec_text p.value
-  pub back : (v : ℕ) → v ≤ most → drop at T ≡ 44 ∷ dec_text v → (p.ok ≡ true) × (p.value ≡ v)
-  pub low : p.value ≤ most
+pub record LastAt (T : List ℕ) (at most : ℕ) (r : Option ℕ) : Type 0 where
+  pub only : IfSome r (λ v. drop at T ≡ 44 ∷ dec_text v)
+  pub back : (v : ℕ) → v ≤ most → drop at T ≡ 44 ∷ dec_text v → IsSomeAnd r (λ w. w ≡ v)
+  pub low : IfSome r (λ v. v ≤ most)
 
-pub record SetAt (T : List ℕ) (at : ℕ) (p : Part) : Type 0 where
-  pub only : p.ok ≡ true → drop at T ≡ 44 ∷ (hex_text 4 p.value ++ drop p.next T)
-  pub back : (v : ℕ) (rest : List ℕ) → v < 65536 → drop at T ≡ 44 ∷ (hex_text 4 v ++ rest) → (p.ok ≡ true) × (p.value ≡ v) × (drop p.next T ≡ rest)
-  pub low : p.value < 65536
-  pub stop : p.ok ≡ false → p.next ≡ length T
+pub record SetAt (T : List ℕ) (at : ℕ) (r : Option (Read ℕ)) : Type 0 where
+  pub only : IfSome r (λ p. drop at T ≡ 44 ∷ (hex_text 4 p.value ++ drop p.next T))
+  pub back : (v : ℕ) (rest : List ℕ) → v < 65536 → drop at T ≡ 44 ∷ (hex_text 4 v ++ rest) → IsSomeAnd r (λ p. (p.value ≡ v) × (drop p.next T ≡ rest))
+  pub low : IfSome r (λ p. p.value < 65536)
 
 -- ---- values that are told one after the other, and put into a memory
 
@@ -177,21 +172,37 @@ the_senders = record { text = comma_number; Fit = Byte; means = λ k. k; blank =
 abbrev pub the_windows : Values Window
 the_windows = record { text = window_text; Fit = ShortWindow; means = window_in; blank = no_window; places = 8 }
 
--- One value, v.
-pub record OneAt {A : Type 0} (K : Values A) (T : List ℕ) (at : ℕ) (v : A) (p : Part) : Type 0 where
-  pub fits : K.Fit v
-  pub from : From K.text K.Fit T true at p.ok v p.next
+-- One value, by its word.
+pub record OneAt {A : Type 0} (K : Values A) (T : List ℕ) (at : ℕ) (r : Option (Read ℕ)) : Type 0 where
+  pub fits : IfSome r (λ p. K.Fit (K.means p.value))
+  pub from : From K.text K.Fit T at (parts.meant K.means r)
 
--- n values.
-pub record ManyAt {A : Type 0} (K : Values A) (T : List ℕ) (at n : ℕ) (S : List ℕ) (p : Part) : Type 0 where
+-- n values. What follows them begins at the position that r tells.
+pub record ManyAt {A : Type 0} (K : Values A) (T : List ℕ) (at n : ℕ) (S : List ℕ) (r : Option ℕ) : Type 0 where
   pub values : List A
-  pub many : p.ok ≡ true → Many K.Fit n values
+  pub many : IfSome r (λ _. Many K.Fit n values)
   pub stand : StandIn K.means K.blank K.places S values
-  pub from : From (each K.text) (Many K.Fit n) T true at p.ok values p.next
+  pub from : From (each K.text) (Many K.Fit n) T at (option_map (λ next. read values next) r)
 
--- One more, at place j, goes to the memory S if it has that place.
-pub record PutAt {A : Type 0} (K : Values A) (S : List ℕ) (j : ℕ) (v : A) (S' : List ℕ) : Type 0 where
-  pub each : (i : ℕ) → i < K.places → K.means (get_or S' i 0) ≡ put j v (λ k. K.means (get_or S k 0)) i
+-- ---- the same of any step that reads one value: r from the position
+
+-- The step read these, one after the other, from one position to another.
+abbrev pub Run : {X : Type 0} → (ℕ → Option (Read X) → Type 0) → List X → ℕ → ℕ → Type 0
+Run step [] at end = at ≡ end
+Run step (x ∷ l) at end = (next : ℕ) × step at (Some (read x next)) × Run step l next end
+
+-- The memory S has the first of the values in its places.
+abbrev pub Placed : {X : Type 0} → ℕ → List X → List X → Type 0
+Placed {X} places S values = (i : ℕ) (d : X) → i < length values → i < places → get_or S i d ≡ get_or values i d
+
+-- n values were read, or fewer and then none.
+pub record ManyRead {X : Type 0} (step : ℕ → Option (Read X) → Type 0) (places at n : ℕ) (S : List X) (r : Option ℕ) : Type 0 where
+  pub values : List X
+  pub position : ℕ
+  pub run : Run step values at position
+  pub placed : Placed places S values
+  pub all : IfSome r (λ end. (length values ≡ n) × (position ≡ end))
+  pub refused : IfNone r ((length values < n) × step position None)
 
 -- ---- which word the line begins with
 abbrev pub IsNamed : Verb → Type 0

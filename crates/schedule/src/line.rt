@@ -1,12 +1,12 @@
 // The lines of a schedule. A line is read from the part of the schedule that begins with it; its end is looked for once, and its fields
 // within it.
-ghost use Rattle.std.specs.Prelude.{◌≡◌, false, length};
+ghost use Rattle.std.specs.Prelude.{◌≡◌, ◌==◌, position};
 ghost use Rattle.windows.specs.Windows.{window_in};
 ghost use Rattle.schedule.specs.declared.verb.Verb.TheVariants.{Setup, Send, Give, Turn, Lie};
-ghost use Rattle.schedule.specs.Reading.{body_length, LastAt, SetAt, the_senders, the_windows, OneAt, ManyAt, PutAt, NamedBy, BeginsWith, LiedOf, SetupOf, Understood, LineOf};
+ghost use Rattle.schedule.specs.Reading.{body_length, LastAt, SetAt, the_senders, the_windows, OneAt, ManyAt, ManyRead, NamedBy, BeginsWith, LiedOf, SetupOf, Understood, LineOf};
 
-use crate::verb::{Verb, starts_with, verb_of};
-use statements::{BLOCK, BYTE_MAX, NOTICES, Part, ReadStatement};
+use crate::verb::{Verb, verb_of};
+use statements::{BLOCK, BYTE_MAX, NOTICES, Statement, number_at};
 use text::{NEWLINE, NUMBER_MAX, Read};
 use views::View;
 use windows::WINDOWS;
@@ -34,305 +34,208 @@ pub enum Line {
     Lie,
 }
 
-#[derive(Clone, Copy)]
-pub enum Parsed {
-    Readable(Line),
-    Unreadable,
-}
-
-// What a setup says, and of its senders and windows the counts; `ok` just where the line is one.
+// What a setup says, and of its senders and windows the counts.
 #[derive(Clone, Copy)]
 pub struct ReadSetup {
-    pub ok: bool,
     pub members: u16,
     pub count: usize,
     pub faulty: u16,
     pub windows: usize,
 }
 
-// What a line was read as, and where the next one begins.
+// What a line was read as, if it is readable, and where the next one begins.
 #[derive(Clone, Copy)]
 pub struct ReadLine {
-    pub parsed: Parsed,
+    pub parsed: Option<Line>,
     pub next: usize,
+}
+
+// Where the first newline stands.
+fn newline_in(s: &[u8]) -> Option<usize>
+    ensures { result ≡ position (λ b. b == 10) s.now }
+{
+    s.iter().position(|b| *b == NEWLINE)
 }
 
 // How many bytes stand before the newline, or before the end where there is none.
 fn line_end(s: &[u8]) -> usize
     ensures { result ≡ body_length s.now }
 {
-    let mut i = 0usize;
-    while i < s.len() {
-        if s[i] == NEWLINE {
-            return i;
-        }
-        i += 1;
-    }
-    i
+    newline_in(s).unwrap_or(s.len())
 }
 
 // A comma and a number, to the line's end.
-fn last_at(line: &[u8], at: usize, most: u64) -> Part
+fn last_at(line: &[u8], at: usize, most: u64) -> Option<u64>
     ensures { LastAt line.now at most result }
 {
-    let p = statements::number_at(line, at, most);
-    if p.next < line.len() {
-        return Part {
-            ok: false,
-            value: 0,
-            next: p.next,
-        };
+    let number = number_at(line, at, most)?;
+    if number.next < line.len() {
+        return None;
     }
-    p
+    Some(number.value)
 }
 
-// A comma and a set. As with a number, one that is refused ends where the line does.
-fn set_at(line: &[u8], at: usize) -> Part
+// A comma and a set.
+fn set_at(line: &[u8], at: usize) -> Option<Read<u64>>
     ensures { SetAt line.now at result }
 {
-    let none = Part {
-        ok: false,
-        value: 0,
-        next: line.len(),
-    };
-    if text::comma_at(line, at) {
-        let r = text::read_hex(line, at + 1, SET_DIGITS);
-        let Read::Got { value, next } = r else {
-            return none;
-        };
-        return Part {
-            ok: true,
-            value: value,
-            next: next,
-        };
+    if !text::comma_at(line, at) {
+        return None;
     }
-    none
+    text::read_hex(line, at + 1, SET_DIGITS)
 }
 
 // A line that names a controller and nothing more.
-fn read_named(line: &[u8], verb: Verb, at: usize) -> Parsed
+fn read_named(line: &[u8], verb: Verb, at: usize) -> Option<Line>
     requires { NamedBy line.now verb at }
     ensures { Understood line.now result }
 {
-    let p = last_at(line, at, LAST);
-    if !p.ok {
-        return Parsed::Unreadable;
-    }
-    let k = p.value as u8;
+    let k = last_at(line, at, LAST)? as u8;
     match verb {
-        Verb::Join => Parsed::Readable(Line::Join(k)),
-        Verb::Leave => Parsed::Readable(Line::Leave(k)),
-        _ => Parsed::Readable(Line::All(k)),
+        Verb::Join => Some(Line::Join(k)),
+        Verb::Leave => Some(Line::Leave(k)),
+        _ => Some(Line::All(k)),
     }
 }
 
-fn read_give(line: &[u8]) -> Parsed
+fn read_give(line: &[u8]) -> Option<Line>
     requires { BeginsWith Give line.now }
     ensures { Understood line.now result }
 {
-    let k = statements::number_at(line, 4, LAST);
-    let n = last_at(line, k.next, NUMBER_MAX);
-    if !n.ok {
-        return Parsed::Unreadable;
-    }
-    Parsed::Readable(Line::Give(k.value as u8, n.value))
+    let k = number_at(line, 4, LAST)?;
+    let n = last_at(line, k.next, NUMBER_MAX)?;
+    Some(Line::Give(k.value as u8, n))
 }
 
-fn read_turn(line: &[u8]) -> Parsed
+fn read_turn(line: &[u8]) -> Option<Line>
     requires { BeginsWith Turn line.now }
     ensures { Understood line.now result }
 {
-    let k = statements::number_at(line, 4, LAST);
-    let minute = last_at(line, k.next, SHORT_MAX);
-    if !minute.ok {
-        return Parsed::Unreadable;
-    }
-    Parsed::Readable(Line::Turn(k.value as u8, minute.value as u16))
+    let k = number_at(line, 4, LAST)?;
+    let minute = last_at(line, k.next, SHORT_MAX)?;
+    Some(Line::Turn(k.value as u8, minute as u16))
 }
 
-fn read_send(line: &[u8]) -> Parsed
+fn read_send(line: &[u8]) -> Option<Line>
     requires { BeginsWith Send line.now }
     ensures { Understood line.now result }
 {
-    let k = statements::number_at(line, 4, LAST);
-    let notice = statements::number_at(line, k.next, BYTE_MAX);
-    let payload = last_at(line, notice.next, NUMBER_MAX);
-    if !payload.ok {
-        return Parsed::Unreadable;
-    }
-    Parsed::Readable(Line::Send(k.value as u8, notice.value as u8, payload.value))
+    let k = number_at(line, 4, LAST)?;
+    let notice = number_at(line, k.next, BYTE_MAX)?;
+    let payload = last_at(line, notice.next, NUMBER_MAX)?;
+    Some(Line::Send(k.value as u8, notice.value as u8, payload))
 }
 
-// How many senders have a place. A proof that one was put there asks for it.
-fn places(senders: &[u8; NOTICES]) -> usize
-    ensures { length senders.now ≡ 64 }
-{
-    let s = &senders[..];
-    s.len()
-}
-
-// A sender past the last place goes nowhere: a setup that names so many is refused by their count.
-fn put_sender(senders: &mut [u8; NOTICES], j: usize, sender: u8)
-    ensures { PutAt the_senders senders.old j sender senders.new }
-{
-    places(senders);
-    if j < NOTICES {
-        senders[j] = sender;
-    }
-}
-
-// As many senders as are told, each with the comma before it. One that does not read ends the reading.
-fn senders_at(line: &[u8], from: usize, n: usize, senders: &mut [u8; NOTICES]) -> Part
-    ensures { ManyAt the_senders line.now from n senders.new result }
+// As many values as are told, each as `read` reads it from a position, to where the next field begins. One that does not read ends the reading, since a short line may
+// tell of 65535, and one past the last place goes nowhere: a setup that has so many is refused by their count.
+fn many_at<T: Copy, const N: usize, F: Fn(usize) -> Option<Read<T>>>(
+    from: usize,
+    n: usize,
+    memory: &mut [T; N],
+    read: F,
+) -> Option<usize>
+    requires { F.IsAlwaysCallable read }
+    ensures { ManyRead (F.post read) N from n memory.new result }
 {
     let mut at = from;
-    let mut j = 0usize;
-    while j < n {
-        let p = statements::number_at(line, at, BYTE_MAX);
-        if !p.ok {
-            return Part {
-                ok: false,
-                value: 0,
-                next: line.len(),
-            };
+    for j in 0..n {
+        let Read { value, next } = read(at)?;
+        if j < N {
+            memory[j] = value;
         }
-        put_sender(senders, j, p.value as u8);
-        at = p.next;
-        j += 1;
+        at = next;
     }
-    Part {
-        ok: true,
-        value: 0,
-        next: at,
-    }
+    Some(at)
 }
 
-// How many windows have a place. A proof that one was put there asks for it.
-fn window_places(windows: &[u64; WINDOWS]) -> usize
-    ensures { length windows.now ≡ 8 }
+// A sender's number, with the comma before it.
+fn sender_at(line: &[u8], at: usize) -> Option<Read<u8>>
+    ensures { OneAt the_senders line.now at result }
 {
-    let s = &windows[..];
-    s.len()
+    let number = number_at(line, at, BYTE_MAX)?;
+    Some(Read {
+        value: number.value as u8,
+        next: number.next,
+    })
 }
 
-// A window past the last place goes nowhere: a setup that has so many is refused by their count.
-fn put_window(windows: &mut [u64; WINDOWS], i: usize, word: u64)
-    ensures { PutAt the_windows windows.old i (window_in word) windows.new }
+fn senders_at(line: &[u8], from: usize, n: usize, senders: &mut [u8; NOTICES]) -> Option<usize>
+    ensures { ManyAt the_senders line.now from n senders.new result }
 {
-    window_places(windows);
-    if i < WINDOWS {
-        windows[i] = word;
-    }
+    many_at(from, n, senders, |at| sender_at(line, at))
 }
 
 // A window's three numbers, each with the comma before it, as its word.
-fn window_at(line: &[u8], at: usize) -> Part
-    ensures { OneAt the_windows line.now at (window_in result.value) result }
+fn window_at(line: &[u8], at: usize) -> Option<Read<u64>>
+    ensures { OneAt the_windows line.now at result }
 {
-    let weekday = statements::number_at(line, at, SHORT_MAX);
-    let first = statements::number_at(line, weekday.next, SHORT_MAX);
-    let end = statements::number_at(line, first.next, SHORT_MAX);
-    let word = windows::word_of(weekday.value as u16, first.value as u16, end.value as u16);
-    Part {
-        ok: end.ok,
-        value: word,
+    let weekday = number_at(line, at, SHORT_MAX)?;
+    let first = number_at(line, weekday.next, SHORT_MAX)?;
+    let end = number_at(line, first.next, SHORT_MAX)?;
+    Some(Read {
+        value: windows::word_of(weekday.value as u16, first.value as u16, end.value as u16),
         next: end.next,
-    }
+    })
 }
 
-// As many windows as are told. One that does not read ends the reading, since a short line may tell of 65535.
-fn windows_at(line: &[u8], from: usize, n: usize, windows: &mut [u64; WINDOWS]) -> Part
+fn windows_at(line: &[u8], from: usize, n: usize, windows: &mut [u64; WINDOWS]) -> Option<usize>
     ensures { ManyAt the_windows line.now from n windows.new result }
 {
-    let mut at = from;
-    let mut i = 0usize;
-    while i < n {
-        let p = window_at(line, at);
-        if !p.ok {
-            return Part {
-                ok: false,
-                value: 0,
-                next: line.len(),
-            };
-        }
-        put_window(windows, i, p.value);
-        at = p.next;
-        i += 1;
-    }
-    Part {
-        ok: true,
-        value: 0,
-        next: at,
-    }
+    many_at(from, n, windows, |at| window_at(line, at))
 }
 
-// What is told of a line that is no setup.
-fn no_setup() -> ReadSetup
-    ensures { result.ok ≡ false }
-{
-    ReadSetup {
-        ok: false,
-        members: 0,
-        count: 0,
-        faulty: 0,
-        windows: 0,
-    }
-}
-
-// The fields of a setup after its word. That the count of windows reads is asked, since nothing follows it where there are none.
-fn setup_fields(line: &[u8], senders: &mut [u8; NOTICES], windows: &mut [u64; WINDOWS]) -> ReadSetup
+// The fields of a setup after its word.
+fn setup_fields(
+    line: &[u8],
+    senders: &mut [u8; NOTICES],
+    windows: &mut [u64; WINDOWS],
+) -> Option<ReadSetup>
     requires { BeginsWith Setup line.now }
     ensures { SetupOf line.now senders.new windows.new result }
 {
-    let members = set_at(line, 5);
-    let count = statements::number_at(line, members.next, BYTE_MAX);
+    let members = set_at(line, 5)?;
+    let count = number_at(line, members.next, BYTE_MAX)?;
     let n = count.value as usize;
-    let named = senders_at(line, count.next, n, senders);
-    let faulty = set_at(line, named.next);
-    let many = statements::number_at(line, faulty.next, SHORT_MAX);
-    if !many.ok {
-        return no_setup();
-    }
+    let named = senders_at(line, count.next, n, senders)?;
+    let faulty = set_at(line, named)?;
+    let many = number_at(line, faulty.next, SHORT_MAX)?;
     let w = many.value as usize;
-    let last = windows_at(line, many.next, w, windows);
-    if last.next < line.len() {
-        return no_setup();
+    let last = windows_at(line, many.next, w, windows)?;
+    if last < line.len() {
+        return None;
     }
-    ReadSetup {
-        ok: last.ok,
+    Some(ReadSetup {
         members: members.value as u16,
         count: n,
         faulty: faulty.value as u16,
         windows: w,
-    }
+    })
 }
 
-fn is_setup(line: &[u8]) -> Parsed
+fn is_setup(line: &[u8]) -> Option<Line>
     requires { BeginsWith Setup line.now }
     ensures { Understood line.now result }
 {
     let mut senders = [0u8; NOTICES];
     let mut windows = [0u64; WINDOWS];
-    let r = setup_fields(line, &mut senders, &mut windows);
-    if r.ok {
-        return Parsed::Readable(Line::Setup);
-    }
-    Parsed::Unreadable
+    setup_fields(line, &mut senders, &mut windows)?;
+    Some(Line::Setup)
 }
 
 // All after the comma is to be a statement's text; it is read where the lie is told.
-fn read_lie(line: &[u8]) -> Parsed
+fn read_lie(line: &[u8]) -> Option<Line>
     requires { BeginsWith Lie line.now }
     ensures { Understood line.now result }
 {
     if text::comma_at(line, 3) {
-        return Parsed::Readable(Line::Lie);
+        Some(Line::Lie)
+    } else {
+        None
     }
-    Parsed::Unreadable
 }
 
 // A line without its newline.
-fn read_body(line: &[u8]) -> Parsed
+fn read_body(line: &[u8]) -> Option<Line>
     ensures { Understood line.now result }
 {
     let verb = verb_of(line);
@@ -345,7 +248,7 @@ fn read_body(line: &[u8]) -> Parsed
         Verb::All => read_named(line, verb, 3),
         Verb::Turn => read_turn(line),
         Verb::Lie => read_lie(line),
-        Verb::Unknown => Parsed::Unreadable,
+        Verb::Unknown => None,
     }
 }
 
@@ -361,33 +264,29 @@ pub fn read_line(s: &[u8]) -> ReadLine
         };
     }
     ReadLine {
-        parsed: Parsed::Unreadable,
+        parsed: None,
         next: s.len(),
     }
 }
 
-// What a setup says. Of its senders the first 64, and of its windows the first 8 go to the memories.
+// What a setup says, where the line is one. Of its senders the first 64, and of its windows the first 8 go to the memories.
 pub fn read_setup(
     line: &[u8],
     senders: &mut [u8; NOTICES],
     windows: &mut [u64; WINDOWS],
-) -> ReadSetup
+) -> Option<ReadSetup>
     ensures { SetupOf line.now senders.new windows.new result }
 {
-    if !starts_with(line, b"setup") {
-        return no_setup();
+    if !line.starts_with(b"setup") {
+        return None;
     }
     setup_fields(line, senders, windows)
 }
 
-// The statement of a lie in a ring with this number of notices; `ok` just where the line is one, and its text that of a statement that keeps
-// the field rules.
-pub fn lied(line: &[u8], notices: usize, block: &mut [u64; BLOCK]) -> ReadStatement
+// The statement of a lie in a ring with this number of notices, where the line is one and its text that of a statement that keeps the field rules.
+pub fn lied(line: &[u8], notices: usize, block: &mut [u64; BLOCK]) -> Option<Statement>
     ensures { LiedOf line.now notices block.new result }
 {
-    if !starts_with(line, b"lie,") {
-        // The empty text is no statement's.
-        return statements::read(b"", notices, block);
-    }
-    statements::read(&line[4..], notices, block)
+    let text = line.strip_prefix(b"lie,")?;
+    statements::read(text, notices, block)
 }

@@ -20,7 +20,7 @@ use Rattle.protocol.specs.Sets.{bit}
 use Rattle.protocol.specs.Lists.{first, when, list_of}
 use Rattle.protocol.specs.View.{View, Ring}
 use Rattle.protocol.specs.Statement.{Stmt}
-use Rattle.protocol.specs.Evidence.{wished, candidates, greatest, certificates, is_conflict, is_stored}
+use Rattle.protocol.specs.Evidence.{candidates, certificates, is_conflict, is_stored}
 use Rattle.protocol.specs.Count.{complete_after}
 use Rattle.protocol.proofs.Found.{none≢some, some-injective}
 use Rattle.protocol.proofs.Histories.{sealed-short}

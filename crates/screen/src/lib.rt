@@ -28,11 +28,8 @@ fn put_list(out: &mut [u8], from: usize, list: &[u64; View::LIMIT], n: usize) ->
     ensures { Wrote out.old from (tail_text (views_of list.now n)) result out.new }
 {
     let mut at = from;
-    let mut i = 0usize;
-    while i < n {
-        let v = View::of_word(views::list_at(list, i));
-        at = statements::put_view(out, at, v);
-        i += 1;
+    for word in &list[..n] {
+        at = statements::put_view(out, at, View::of_word(*word));
     }
     at
 }
@@ -52,8 +49,7 @@ fn put_wished(out: &mut [u8], wished: u64) -> usize
     ensures { Wrote out.old 0 (wished_line (view_of wished)) result out.new }
 {
     let a = text::write_text(out, 0, b"wished");
-    let v = View::of_word(wished);
-    let b = statements::put_view(out, a, v);
+    let b = statements::put_view(out, a, View::of_word(wished));
     text::write_text(out, b, b"\n")
 }
 
@@ -88,9 +84,10 @@ fn put_notice(out: &mut [u8], at: usize, one: bool, j: usize) -> usize
     ensures { Wrote out.old at (notice_text one j) result out.new }
 {
     if one {
-        return at;
+        at
+    } else {
+        statements::put_number(out, at, j as u64)
     }
-    statements::put_number(out, at, j as u64)
 }
 
 // Whether it is stored.
@@ -98,10 +95,8 @@ fn put_standing(out: &mut [u8], at: usize, stored: bool) -> usize
     requires { at + 7 ≤ length out.old }
     ensures { Wrote out.old at (44 ∷ kept_or_stored stored) result out.new }
 {
-    if stored {
-        return text::write_text(out, at, b",stored");
-    }
-    text::write_text(out, at, b",kept")
+    let word: &[u8] = if stored { b",stored" } else { b",kept" };
+    text::write_text(out, at, word)
 }
 
 // The line of the certificate of notice j, in at most 47 bytes.
@@ -142,17 +137,14 @@ fn put_lines(
 {
     let one = n == 1;
     let mut at = from;
-    let mut j = 0usize;
-    while j < n {
+    for j in 0..n {
         if !statements::has(e.certified, j) {
-            j += 1;
             continue;
         }
-        let m = evidence::word_of(certs, j);
+        let m = certs[j];
         let is_stored = statements::has(e.stored, j);
         let after = evidence::complete_after(words, ids, init, groups, e.backed as usize, j, m);
         at = put_certificate(out, at, one, j, m, is_stored, after);
-        j += 1;
     }
     at
 }
@@ -216,7 +208,7 @@ pub fn shown(
     if out.len() < SHOWN_BYTES {
         return 0;
     }
-    let n = statements::few(ring.notices);
+    let n = ring.notices.min(NOTICES);
     let mut candidates = [0u64; View::LIMIT];
     let mut greatest = [0u64; View::LIMIT];
     let mut certs = [0u64; NOTICES];

@@ -1,2 +1,3 @@
 -- ---- inside: what functions tell each other, and what loops keep
+pub mod Verdict
 pub mod Memos

@@ -10,7 +10,7 @@ ghost use Rattle.pool.specs.Pool.{record_in};
 ghost use Rattle.votes.specs.Tables.{seals_at};
 ghost use Rattle.sealing.specs.Memos.{Tabled, Among, Memos, Later};
 
-use crate::rows;
+use crate::{Verdict, rows};
 use pool::{POOL_WORDS, RECORD};
 use tables::{CAPACITY, KEYS, ROWS};
 use votes::{AGREEMENTS, CHOICES};
@@ -26,7 +26,7 @@ pub fn candidate(
     init: u64,
     keys: &[u64; KEYS],
     rows: &[u16; ROWS],
-    memo: &mut [u8; MEMO],
+    memo: &mut [Verdict; MEMO],
     v: u64,
 ) -> bool
     requires { Tabled words.now (record_in words.now ids.now) init keys.now rows.now × Memos words.now (record_in words.now ids.now) init keys.now rows.now memo.old }
@@ -35,32 +35,30 @@ pub fn candidate(
     if v == init {
         return true;
     }
-    let f = tables::first(keys, rows, CHOICES, v);
-    if f == 0 {
+    let Some(f) = tables::first(keys, rows, CHOICES, v) else {
         return false;
+    };
+    if let Some(yes) = memo[f].known() {
+        return yes;
     }
-    let known = memo[f - 1];
-    if known != 0 {
-        return known == 1;
-    }
-    let mut x = f;
-    while x > 0 {
-        let t = rows::at(words, rows, CHOICES, x - 1);
+    let mut choice = Some(f);
+    while let Some(x) = choice {
+        let t = rows::at(words, rows, CHOICES, x);
         if t == init {
-            memo[f - 1] = 1;
+            memo[f] = Verdict::Yes;
             return true;
         }
-        let mut y = tables::first(keys, rows, AGREEMENTS, t);
-        while y > 0 {
-            if sealed(words, ids, init, keys, rows, memo, y - 1) {
-                memo[f - 1] = 1;
+        let mut agreement = tables::first(keys, rows, AGREEMENTS, t);
+        while let Some(y) = agreement {
+            if sealed(words, ids, init, keys, rows, memo, y) {
+                memo[f] = Verdict::Yes;
                 return true;
             }
-            y = tables::next(keys, rows, AGREEMENTS, y - 1);
+            agreement = tables::next(keys, rows, AGREEMENTS, y);
         }
-        x = tables::next(keys, rows, CHOICES, x - 1);
+        choice = tables::next(keys, rows, CHOICES, x);
     }
-    memo[f - 1] = 2;
+    memo[f] = Verdict::No;
     false
 }
 
@@ -72,40 +70,36 @@ pub fn sealed(
     init: u64,
     keys: &[u64; KEYS],
     rows: &[u16; ROWS],
-    memo: &mut [u8; MEMO],
+    memo: &mut [Verdict; MEMO],
     a: usize,
 ) -> bool
     requires { Among words.now (record_in words.now ids.now) init keys.now rows.now a × Memos words.now (record_in words.now ids.now) init keys.now rows.now memo.old }
     ensures { (result ≡ seals_at words.now (record_in words.now ids.now) init keys.now rows.now a) × Later words.now (record_in words.now ids.now) init keys.now rows.now memo.old memo.new }
 {
-    let known = memo[CAPACITY + a];
-    if known != 0 {
-        return known == 1;
+    if let Some(yes) = memo[CAPACITY + a].known() {
+        return yes;
     }
     let n = tables::number(rows, AGREEMENTS, a);
-    let e = pool::count(words, n);
-    let mut p = 0usize;
-    while p < e {
+    for p in 0..pool::count(words, n) {
         let v = pool::nth(words, n, p);
         if !candidate(words, ids, init, keys, rows, memo, v) {
-            memo[CAPACITY + a] = 2;
+            memo[CAPACITY + a] = Verdict::No;
             return false;
         }
-        p += 1;
     }
     let t = pool::at(words, n);
     if t == init {
-        memo[CAPACITY + a] = 1;
+        memo[CAPACITY + a] = Verdict::Yes;
         return true;
     }
-    let mut y = tables::first(keys, rows, AGREEMENTS, t);
-    while y > 0 {
-        if sealed(words, ids, init, keys, rows, memo, y - 1) {
-            memo[CAPACITY + a] = 1;
+    let mut agreement = tables::first(keys, rows, AGREEMENTS, t);
+    while let Some(y) = agreement {
+        if sealed(words, ids, init, keys, rows, memo, y) {
+            memo[CAPACITY + a] = Verdict::Yes;
             return true;
         }
-        y = tables::next(keys, rows, AGREEMENTS, y - 1);
+        agreement = tables::next(keys, rows, AGREEMENTS, y);
     }
-    memo[CAPACITY + a] = 2;
+    memo[CAPACITY + a] = Verdict::No;
     false
 }

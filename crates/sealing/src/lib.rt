@@ -4,6 +4,8 @@
 mod cycle;
 mod judge;
 mod rows;
+mod verdict;
 
 pub use cycle::MEMO;
 pub use judge::{is_sealed_top, verdicts};
+pub use verdict::Verdict;

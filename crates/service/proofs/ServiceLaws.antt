@@ -1,6 +1,6 @@
 -- The text of the service screen: its parts in runs, and how they are written one after the other.
 -- Assumes nothing.
-use Rattle.std.specs.Prelude.{if◌then◌else◌}
+use Rattle.std.specs.Prelude.{if◌then◌else◌, Option, Some, None}
 use Prim.Native.Nat.{ℕ, zero, suc, ◌+◌, ◌-◌, ◌<◌, ◌≤◌, min}
 use native.Mathlib.Omega.{arith}
 use native.Mathlib.Numerals.{add-one}
@@ -20,13 +20,12 @@ use Rattle.text.proofs.Decimal.{long-below}
 use Rattle.text.proofs.Stores.{both, wrote_as}
 use Rattle.views.specs.View.{view_of, view_in, views_of}
 use Rattle.views.specs.Held.{held_at, views_is}
-use Rattle.views.specs.declared.View as held
 use Rattle.views.specs.declared.History.{History}
 use Rattle.views.proofs.Held.{views-of}
 use Rattle.views.proofs.Views.{view_in_lem, member-masked}
 use Rattle.statements.specs.Text.{view_text}
 use Rattle.service.specs.Service.{outside_word, entered_word, notice_word, next_word, certificate_word, acked_word, numbers_below, numbers_text, set_text, members_text, views_text, entered_line, binding_text, notice_line, stored_text, certificate_text}
-use Rattle.service.specs.ServiceParts.{start_text, end_text, acked_text}
+use Rattle.service.specs.ServiceParts.{start_text, end_text, acked_text, stored_by, certificate_by}
 
 -- ---- how long numbers are
 
@@ -132,9 +131,13 @@ regroup-six a b c d e f g = simp append_assoc
 regroup-five : (a b c d e f : List ℕ) → (a ++ (b ++ (c ++ (d ++ e)))) ++ f ≡ a ++ (b ++ (c ++ (d ++ (e ++ f))))
 regroup-five a b c d e f = simp append_assoc
 
-pub certificate-runs : (m acked : ℕ) (is : Bool) (by : ℕ) → acked_text m acked ++ (next_word ++ (stored_text is by ++ next_word)) ≡ certificate_text m acked is by ++ next_word
+certificate_runs : (m acked : ℕ) (is : Bool) (by : ℕ) → acked_text m acked ++ (next_word ++ (stored_text is by ++ next_word)) ≡ certificate_text m acked is by ++ next_word
 unfolding certificate_text acked_text
-certificate-runs m acked is by = regroup-six certificate_word (dec_text m) acked_word (set_text acked) next_word (stored_text is by) next_word
+certificate_runs m acked is by = regroup-six certificate_word (dec_text m) acked_word (set_text acked) next_word (stored_text is by) next_word
+
+pub certificate-runs : (m acked : ℕ) (by : Option ℕ) → acked_text m acked ++ (next_word ++ (stored_by by ++ next_word)) ≡ certificate_by m acked by ++ next_word
+certificate-runs m acked (Some a) = certificate_runs m acked true a
+certificate-runs m acked None = certificate_runs m acked false 0
 
 pub line-runs : (i : ℕ) (b : Binding) (middle : List ℕ) (is : Bool) → start_text i b ++ (middle ++ end_text is) ≡ notice_line i b middle is
 unfolding notice_line start_text end_text

@@ -1,7 +1,7 @@
 -- The parts of the service screen, from the evidence as it is held, are its text.
 -- Assumes nothing.
 use Rattle.std.specs.Prelude.{if◌then◌else◌}
-use Prim.Native.Nat.{ℕ, ◌+◌, ◌≤◌, ◌<◌, min}
+use Prim.Native.Nat.{ℕ, ◌≤◌, ◌<◌, min}
 use native.Mathlib.Omega.{arith}
 use mathlib.Core.Path.{◌≡◌, refl, sym, ap, ap₂, subst, ◌∙◌}
 use mathlib.Core.Bool.{Bool, true, false, ◌&&◌}
@@ -38,7 +38,7 @@ use Rattle.evidence.specs.Notices.{senders_of, binding_held}
 use Rattle.evidence.proofs.Fitting.{some-view, length_most, greatest-narrow, wished-narrow}
 use Rattle.rules.specs.declared.Action.{Action}
 use Rattle.rules.specs.declared.Situation.{Situation}
-use Rattle.rules.specs.Actions.{acts}
+use Rattle.std.specs.Prelude as code
 use Rattle.rules.specs.Rules.{SituationOf, ToldOf, Owns, own_statements, Does, rule9_at, merged_by}
 use Rattle.rules.proofs.Applied.{acts-is}
 use Rattle.engine.specs.declared.Controller.{Controller}
@@ -111,8 +111,8 @@ module _ (c : Controller) (X : List Stmt) where
       let z : length (controller_is c).windows ≡ 0 = windows-count ∙ omega arith in
       sym (ap (λ n. ltb 0 n && is_some (turn.rule9 (without_windows (controller_is c)) X 0)) z)
 
-  pub window-some : (s : Situation) (B : List ℕ) (Y : List Stmt) (a : Action) (r : Bool) → (c.windows ≡ 0 → ⊥) → SituationOf (without_windows (controller_is c)) X s → ToldOf (without_windows (controller_is c)) X B → s.minute ≡ 0
-      → Owns X Y s.number → Does (own_statements Y ∷ []) s (rule9_at s.minute) a → r ≡ acts a → r ≡ waits_for_window (controller_is c) X
+  pub window-some : (s : Situation) (B : List ℕ) (Y : List Stmt) (a : code.Option Action) (r : Bool) → (c.windows ≡ 0 → ⊥) → SituationOf (without_windows (controller_is c)) X s → ToldOf (without_windows (controller_is c)) X B → s.minute ≡ 0
+      → Owns X Y s.number → Does (own_statements Y ∷ []) s (rule9_at s.minute) a → r ≡ code.is_some a → r ≡ waits_for_window (controller_is c) X
   unfolding waits_for_window
   window-some s B Y a r n o t m y k f =
       let z : ltb 0 (length (controller_is c).windows) ≡ true = lt-ltb 0 (length (controller_is c).windows) (omega (arith, windows-count)) in

@@ -1,7 +1,8 @@
 -- What the functions that write the service screen promise each other: parts of its lines, from the evidence as it is held.
 -- Assumes nothing.
-use Rattle.std.specs.Prelude.{ℕ, min, Bool, false, not, ◌&&◌, List, [], ◌∷◌, ◌++◌, if◌then◌else◌}
-use Rattle.std.proofs.Math.Option.{Option, some, none}
+use Rattle.std.specs.Prelude.{ℕ, min, Bool, true, false, not, Option, Some, None, ◌&&◌, List, [], ◌∷◌, ◌++◌, if◌then◌else◌}
+use Rattle.std.proofs.Math.Option as known
+use Rattle.std.proofs.Math.Option.{some, none}
 use Rattle.protocol.specs.Sets.{bit, set_of}
 use Rattle.protocol.specs.Lists.{filter}
 use Rattle.protocol.specs.View.{View, Ring, member}
@@ -18,7 +19,7 @@ use Rattle.evidence.specs.Evidence.{ring_is, certificate_at, EvidenceOf, remaini
 use Rattle.evidence.specs.Notices.{senders_of, binding_held}
 use Rattle.engine.specs.declared.Controller.{Controller}
 use Rattle.engine.specs.Situation.{RingOf}
-use Rattle.service.specs.Service.{left_word, conflict_word, notice_word, next_word, uncertified_word, certificate_word, acked_word, refused_seven_word, window_word, set_text, number_line, entered_line, stands_line, wished_line, binding_text, certificate_text, delivered_text, notice_line, lines_below, reports_lines, or_nothing}
+use Rattle.service.specs.Service.{left_word, conflict_word, notice_word, next_word, uncertified_word, certificate_word, acked_word, refused_seven_word, window_word, set_text, stored_text, number_line, entered_line, stands_line, wished_line, binding_text, certificate_text, delivered_text, notice_line, lines_below, reports_lines, or_nothing}
 
 -- ---- the head
 
@@ -44,10 +45,20 @@ end_text is = delivered_text is ++ (10 ∷ [])
 unfoldable pub acked_text : ℕ → ℕ → List ℕ
 acked_text m acked = certificate_word ++ (dec_text m ++ (acked_word ++ set_text acked))
 
+-- By the set of those who stored it, if it is stored.
+abbrev pub stored_by : Option ℕ → List ℕ
+stored_by (Some a) = stored_text true a
+stored_by None = stored_text false 0
+
+-- The same after the certificate for m and the set of those who acked it.
+abbrev pub certificate_by : ℕ → ℕ → Option ℕ → List ℕ
+certificate_by m acked (Some a) = certificate_text m acked true a
+certificate_by m acked None = certificate_text m acked false 0
+
 -- In the ring of the initial view init, with the record X, its evidence e and the payloads P of its certificates.
 module _ (init : ℕ) (X : List Stmt) (e : Evidence) (P : List ℕ) where
   -- What is told of notice i by its certificate.
-  unfoldable pub certified_text : ℕ → Option ℕ → List ℕ
+  unfoldable pub certified_text : ℕ → known.Option ℕ → List ℕ
   certified_text i none = uncertified_word ++ next_word
   certified_text i (some m) = certificate_text m (set_behind (ring_of_word init) X (λ t. acks t i m)) (bit e.stored i) (store_set (ring_of_word init) X i m) ++ next_word
 

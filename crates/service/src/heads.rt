@@ -38,9 +38,8 @@ fn put_entered(out: &mut [u8], at: usize, h: History) -> usize
     if n == 0 {
         return text::write_text(out, at, b"entered nothing\n");
     }
-    let v = h.views[n - 1];
     let a = text::write_text(out, at, b"entered ");
-    let b = sets::put_members(out, a, v.word());
+    let b = sets::put_members(out, a, h.views[n - 1].word());
     text::write_text(out, b, b"\n")
 }
 

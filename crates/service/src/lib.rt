@@ -40,12 +40,9 @@ fn put_conflict(
     requires { (32768 ≤ length out.old) × BackedIn words.now ids.now init groups.now e.backed }
     ensures { Wrote out.old 0 (conflict_screen init (record_in words.now ids.now) e certs.now c) result out.new × (result ≤ 32768) }
 {
-    let t = c.init;
-    let h = c.entered;
-    let a = heads::put_head(out, c.number, false, false, t, h, e.wished);
+    let a = heads::put_head(out, c.number, false, false, c.init, c.entered, e.wished);
     let b = text::write_text(out, a, b"conflict\n");
-    let held = c.held;
-    let n = statements::few(c.notices);
+    let n = c.notices.min(NOTICES);
     let d = notices::put_notices(
         out,
         b,
@@ -56,7 +53,7 @@ fn put_conflict(
         certs,
         groups,
         n,
-        held,
+        c.held,
         c.delivered,
     );
     text::write_text(out, d, b"turns are refused with 7\n")
@@ -80,12 +77,10 @@ fn put_agreed(
 {
     let open = Controller { windows: 0, ..c };
     let s = engine::of_controller(open, ring, e, greatest, 0);
-    let t = s.top;
     let h = c.entered;
-    let a = heads::put_head(out, c.number, s.left, s.stands, t, h, e.wished);
+    let a = heads::put_head(out, c.number, s.left, s.stands, s.top, h, e.wished);
     let b = heads::put_candidates(out, a, e.many, candidates, e.count);
-    let held = c.held;
-    let n = statements::few(c.notices);
+    let n = c.notices.min(NOTICES);
     let d = notices::put_notices(
         out,
         b,
@@ -96,7 +91,7 @@ fn put_agreed(
         certs,
         groups,
         n,
-        held,
+        c.held,
         c.delivered,
     );
     if e.many {
@@ -126,7 +121,6 @@ pub fn screen(
         return text::write_text(out, 0, b"not set up\n");
     }
     let ring = engine::ring_of(c);
-    let senders = c.senders;
     let mut candidates = [0u64; View::LIMIT];
     let mut greatest = [0u64; View::LIMIT];
     let mut certs = [0u64; NOTICES];
@@ -134,7 +128,7 @@ pub fn screen(
         words,
         ids,
         ring,
-        &senders,
+        &c.senders,
         keys,
         groups,
         &mut candidates,

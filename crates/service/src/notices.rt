@@ -4,8 +4,8 @@ ghost use Rattle.text.specs.Written.{Wrote};
 ghost use Rattle.statements.specs.Block.{binding_is};
 ghost use Rattle.pool.specs.Pool.{record_in};
 ghost use Rattle.evidence.specs.Shown.{BackedIn};
-ghost use Rattle.service.specs.Service.{binding_text, stored_text, certificate_text, delivered_text, next_word, notice_line, lines_below};
-ghost use Rattle.service.specs.ServiceParts.{acked_text, start_text, end_text, held_text, held_line};
+ghost use Rattle.service.specs.Service.{binding_text, delivered_text, next_word, notice_line, lines_below};
+ghost use Rattle.service.specs.ServiceParts.{stored_by, certificate_by, acked_text, start_text, end_text, held_text, held_line};
 
 use crate::sets;
 use evidence::{Evidence, GROUPS, Notice};
@@ -56,26 +56,28 @@ fn put_acked(out: &mut [u8], at: usize, m: u64, acked: u32) -> usize
     sets::put_set(out, c, acked)
 }
 
-// Whether it is stored, and by whom, in at most 63 bytes.
-fn put_stored(out: &mut [u8], at: usize, is: bool, by: u32) -> usize
+// By whom it is stored, if it is, in at most 63 bytes.
+fn put_stored(out: &mut [u8], at: usize, by: Option<u32>) -> usize
     requires { at + 63 ≤ length out.old }
-    ensures { Wrote out.old at (stored_text is by) result out.new × (result ≤ at + 63) }
+    ensures { Wrote out.old at (stored_by by) result out.new × (result ≤ at + 63) }
 {
-    if !is {
-        return text::write_text(out, at, b"not stored");
+    match by {
+        None => text::write_text(out, at, b"not stored"),
+        Some(set) => {
+            let a = text::write_text(out, at, b"stored by ");
+            sets::put_set(out, a, set)
+        }
     }
-    let a = text::write_text(out, at, b"stored by ");
-    sets::put_set(out, a, by)
 }
 
 // The certificate for m, who acked it, and who stored it if it is stored, in at most 166 bytes.
-fn put_certificate(out: &mut [u8], at: usize, m: u64, acked: u32, is: bool, by: u32) -> usize
+fn put_certificate(out: &mut [u8], at: usize, m: u64, acked: u32, by: Option<u32>) -> usize
     requires { at + 166 ≤ length out.old }
-    ensures { Wrote out.old at (certificate_text m acked is by ++ next_word) result out.new × (result ≤ at + 166) }
+    ensures { Wrote out.old at (certificate_by m acked by ++ next_word) result out.new × (result ≤ at + 166) }
 {
     let a = put_acked(out, at, m, acked);
     let b = text::write_text(out, a, b"; ");
-    let c = put_stored(out, b, is, by);
+    let c = put_stored(out, b, by);
     text::write_text(out, c, b"; ")
 }
 
@@ -120,14 +122,14 @@ fn put_evidence(
     if !statements::has(e.certified, j) {
         return text::write_text(out, at, b"no certificate; not stored; ");
     }
-    let m = evidence::word_of(certs, j);
+    let m = certs[j];
     let n = e.backed as usize;
     let acked = evidence::acked_by(words, ids, init, groups, n, j as u8, m);
     if !statements::has(e.stored, j) {
-        return put_certificate(out, at, m, acked, false, 0);
+        return put_certificate(out, at, m, acked, None);
     }
     let by = evidence::stored_by(words, ids, init, groups, n, j as u8, m);
-    put_certificate(out, at, m, acked, true, by)
+    put_certificate(out, at, m, acked, Some(by))
 }
 
 // The line of notice j, with its binding and whether it was delivered, in at most 222 bytes.
@@ -170,13 +172,10 @@ pub fn put_notices(
     ensures { Wrote out.old from (lines_below n (held_line init (record_in words.now ids.now) e certs.now held delivered)) result out.new × (result ≤ from + 222 * n) }
 {
     let mut at = from;
-    let mut j = 0usize;
-    while j < n {
-        let h = held[j];
-        let b = h.binding;
+    for j in 0..n {
+        let b = held[j].binding;
         let done = statements::has(delivered, j);
         at = put_notice(out, at, words, ids, init, e, certs, groups, j, b, done);
-        j += 1;
     }
     at
 }

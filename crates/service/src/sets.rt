@@ -9,7 +9,9 @@ ghost use Rattle.service.specs.Service.{numbers_below, numbers_text, set_text, m
 
 use views::View;
 
-const SPACE: u8 = 32;
+const SPACE: u8 = b' ';
+
+const CONTROLLERS: usize = View::WIDTH as usize;
 
 // Digits of a set.
 const DIGITS: usize = 4;
@@ -29,14 +31,11 @@ fn put_controllers(out: &mut [u8], from: usize, set: u32) -> usize
     ensures { Wrote out.old from (numbers_below 16 (bit set)) result out.new × (result ≤ from + 48) }
 {
     let mut at = from;
-    let mut k = 0usize;
-    while k < 16 {
+    for k in 0..CONTROLLERS {
         if !statements::has(set as u64, k) {
-            k += 1;
             continue;
         }
         at = put_controller(out, at, k);
-        k += 1;
     }
     at
 }
@@ -74,8 +73,7 @@ pub fn put_members(out: &mut [u8], at: usize, v: u64) -> usize
     ensures { Wrote out.old at (members_text (view_of v)) result out.new × (result ≤ at + 57) }
 {
     let a = put_view(out, at, v);
-    let held = View::of_word(v);
-    put_numbers(out, a, held.members())
+    put_numbers(out, a, View::of_word(v).members())
 }
 
 // A view after a space.
@@ -93,10 +91,8 @@ pub fn put_views(out: &mut [u8], from: usize, list: &[u64; View::LIMIT], n: usiz
     ensures { Wrote out.old from (views_text (views_of list.now n)) result out.new × (result ≡ from + 9 * n) }
 {
     let mut at = from;
-    let mut i = 0usize;
-    while i < n {
-        at = put_listed(out, at, views::list_at(list, i));
-        i += 1;
+    for v in &list[..n] {
+        at = put_listed(out, at, *v);
     }
     at
 }

@@ -54,16 +54,13 @@ fn put_lines(
     ensures { Wrote out.old from (lines_for (ring_is ring) (senders_of senders.now ring.notices) (record_in words.now ids.now) (view_of t) (views_of list.now n)) result out.new × (result ≤ from + 107 * n) }
 {
     let mut at = from;
-    let mut i = 0usize;
-    while i < n {
-        let u = views::list_at(list, i);
+    for u in &list[..n] {
+        let u = *u;
         let who = evidence::reporters(words, ids, ring, senders, e, candidates, greatest, certs, u);
         if views::makes_quorum(u, who) {
-            i += 1;
             continue;
         }
         at = put_line(out, at, t, u, views::members_without(u, who));
-        i += 1;
     }
     at
 }
@@ -87,10 +84,7 @@ fn put_reports(
     requires { (at + 1712 ≤ length out.old) × Settled (ring_is ring) (senders_of senders.now ring.notices) (record_in words.now ids.now) candidates.now greatest.now certs.now e }
     ensures { Wrote out.old at (reports_held (ring_is ring) (senders_of senders.now ring.notices) (record_in words.now ids.now) (view_is t) k entered) result out.new × (result ≤ at + 1712) }
 {
-    if !t.has_member(k) {
-        return at;
-    }
-    if entered {
+    if !t.has_member(k) || entered {
         return at;
     }
     let mut list = [0u64; View::LIMIT];
@@ -155,17 +149,13 @@ fn tell_notices(
     requires { n ≤ 64 }
     ensures { ToldTo held e certs.now n told.new }
 {
-    let mut j = 0usize;
-    while j < n {
-        let h = held[j];
-        let b = h.binding;
+    for j in 0..n {
         let t = Told {
-            binding: b,
+            binding: held[j].binding,
             stored: statements::has(e.certified, j),
             kept: certs[j],
         };
         statements::tell(told, j, t);
-        j += 1;
     }
 }
 
@@ -185,8 +175,7 @@ fn awaits_window(
     }
     let mut own = [0u16; RECORD];
     rules::own_of(words, ids, s.number, &mut own);
-    let a = rules::rule9(words, &own, told, s);
-    rules::acts(a)
+    rules::rule9(words, &own, told, s).is_some()
 }
 
 // What the controller c waits for where its turns are not refused, in at most 1740 bytes; s is its situation without windows.
@@ -206,14 +195,11 @@ pub fn put_awaited(
     requires { (at + 1740 ≤ length out.old) × RingOf c ring × Settled (ring_is ring) (senders_of c.senders ring.notices) (record_in words.now ids.now) candidates.now greatest.now certs.now e × SituationOf (without_windows (controller_is c)) (record_in words.now ids.now) s × (s.minute ≡ 0) }
     ensures { Wrote out.old at (waits_text (controller_is c) (record_in words.now ids.now)) result out.new × (result ≤ at + 1740) }
 {
-    let senders = c.senders;
-    let held = c.held;
     let mut told = [0u64; BLOCK];
-    tell_notices(&mut told, held, e, certs, statements::few(c.notices));
+    tell_notices(&mut told, c.held, e, certs, c.notices.min(NOTICES));
     let window = awaits_window(c, words, ids, &told, s);
-    let t = s.top;
     put_waits(
-        out, at, words, ids, ring, &senders, e, candidates, greatest, certs, t, s.number,
+        out, at, words, ids, ring, &c.senders, e, candidates, greatest, certs, s.top, s.number,
         s.entered, window,
     )
 }

@@ -4,7 +4,7 @@ use mathlib.Core.Path.{◌≡◌, refl, sym, ap, ap₂, ◌∙◌}
 use mathlib.Core.Bool.{Bool, true, false, ◌&&◌, ◌||◌, and-true, and-false, or-false}
 use mathlib.Core.Logic.{◌⊎◌, inl, inr}
 use mathlib.Core.List.{List, [], ◌∷◌, ◌++◌}
-use Prim.Native.Nat.{ℕ, zero, suc, ◌+◌, ◌≤◌, ◌<◌, ◌^◌, min}
+use Prim.Native.Nat.{ℕ, zero, suc, ◌≤◌, ◌<◌, ◌^◌, min}
 use native.Mathlib.Decide.{dec_lt}
 use native.Mathlib.Omega.{arith}
 use lib.Dec.{eqb, leb, ltb}
@@ -12,7 +12,7 @@ use lib.ListN.{length, get_or}
 use borrow.Author.Tests.{eqb-true, eqb-false, eq-eqb, ne_eqb, le-leb, lt-leb, lt-ltb}
 use Rattle.protocol.specs.Sets.{bit}
 use Rattle.protocol.specs.Lists.{all, list_of, when}
-use Rattle.protocol.specs.View.{View, is_view, has_members}
+use Rattle.protocol.specs.View.{is_view, has_members}
 use Rattle.protocol.specs.Statement.{Group, Stmt, only, no_group, same_groups, same_group, tells, Binding, unbound, bound, barred, no_view, no_at, no_view_field, no_notice, only_payload, no_groups, no_views, is_rising, views_rule, group_rule, group_fits, report_rule, kind_rule, field_rules}
 use Rattle.protocol.proofs.Numbered.{list_of-length}
 use Rattle.views.specs.declared.View as held

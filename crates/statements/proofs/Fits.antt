@@ -4,7 +4,7 @@ use Prim.Native.Nat.{ℕ, zero, suc, ◌≤◌, ◌<◌, ◌^◌, min}
 use native.Mathlib.Omega.{arith}
 use mathlib.Core.Path.{◌≡◌, refl, sym, ap, subst, ◌∙◌}
 use mathlib.Core.Logic.{◌⊎◌, inl, inr}
-use mathlib.Core.Bool.{Bool, true, false, cond, ◌||◌, false≢true}
+use mathlib.Core.Bool.{Bool, true, false, cond, ◌||◌}
 use mathlib.Core.List.Memᴰ
 use mathlib.Core.List.{List, [], ◌∷◌}
 use lib.Dec.{T, eqb}
@@ -20,7 +20,8 @@ use Rattle.protocol.proofs.Asked.{says-same-groups}
 use Rattle.protocol.proofs.FieldRules.{says-fields, says-fits}
 use Rattle.views.specs.declared.View as held
 use Rattle.statements.specs.declared.Statement.{Statement}
-use Rattle.statements.specs.declared.ReadStatement.{ReadStatement}
+use Rattle.std.specs.Prelude.{Some, None}
+use Rattle.std.specs.Bool.{then_some}
 use Rattle.statements.specs.Block.{group_at, groups_of}
 use Rattle.statements.specs.Meaning.{Each, limit, first_views, FitsView, FitsGroup, FitsTold, Fits, stmt_of}
 use Rattle.statements.specs.Promise.{keeps_rules, ReadOf, ParseOf}
@@ -146,21 +147,18 @@ means-fits s B k o n p l = record {
 
 -- ---- reading, with the field rules
 
-module _ (S : List ℕ) (notices m : ℕ) (B : List ℕ) (r : ReadStatement) (e : m ≡ min notices 64) (p : ParseOf S m B r) where
+module _ (S : List ℕ) (notices m : ℕ) (B : List ℕ) (e : m ≡ min notices 64) where
   fits-of : (t : Stmt) → T (keeps_rules notices t) → Fits m t
   fits-of t k = subst (λ n. Fits n t) (sym e) (keeps-fits (min notices 64) t k)
 
-  pub read-refused : r.ok ≡ false → ReadOf S notices B r
-  read-refused o = record { only = p.only; keeps = λ y. absurd (false≢true (sym o ∙ y)); back = λ t k d. p.back t (fits-of t k) d; short = p.short }
+  pub read-refused : ParseOf S m B None → ReadOf S notices B None
+  read-refused p = record { only = tt; keeps = tt; back = λ t k d. p.back t (fits-of t k) d; short = tt }
 
-  pub read_kept : (k : Bool) → r.ok ≡ true → k ≡ keeps_rules notices (stmt_of r.statement B) → ReadOf S notices B (record { ok = k; statement = r.statement })
-  read_kept k o q = record {
-    only = λ y. p.only o;
-    keeps = λ y. subst T (sym y ∙ q) tt;
-    back = λ t h d. let b = p.back t (fits-of t h) d in (q ∙ ap (keeps_rules notices) b.1 ∙ is_true (keeps_rules notices t) h, b.1);
-    short = p.short;
+  pub read_kept : (s : Statement) → ParseOf S m B (Some s) → (k : Bool) → k ≡ keeps_rules notices (stmt_of s B) → ReadOf S notices B (then_some k s)
+  read_kept s p true q = record { only = p.only; keeps = subst T q tt; back = λ t h d. p.back t (fits-of t h) d; short = p.short }
+  read_kept s p false q = record {
+    only = tt;
+    keeps = tt;
+    back = λ t h d. elim (subst T (sym (q ∙ ap (keeps_rules notices) (p.back t (fits-of t h) d))) h) [ ];
+    short = tt;
   }
-    where
-      is_true : (b : Bool) → T b → b ≡ true
-      is_true true t = refl
-      is_true false t = elim t [ ]

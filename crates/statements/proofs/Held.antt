@@ -31,10 +31,6 @@ pub plain-made : (r : Statement) → eqb r.kind 5 ≡ false → r.history.len �
 unfolding stmt_of groups_of
 plain-made r k l = record { means = λ B. rw (k, first-held r.history l); short = l }
 
--- with other views
-pub made-views : {kind k notice payload : ℕ} {at view : View} {H H' : List View} {r : Statement} → H ≡ H' → Made (plain kind k at view notice payload H) r → Made (plain kind k at view notice payload H') r
-made-views {kind} {k} {notice} {payload} {at} {view} e m = record { means = λ B. m.means B ∙ ap (plain kind k at view notice payload) e; short = m.short }
-
 pub report-made : (r : Statement) (H : List View) → r.kind ≡ 5 → r.notice ≡ 0 → r.history.len ≤ 16 → views_is r.history ≡ H → Reports r.origin (view_is r.at) (view_is r.view) r.groups H r
 unfolding stmt_of groups_of
 report-made r H k n l e = record { means = λ B. rw (k, n, first-held r.history l ∙ e); short = l }

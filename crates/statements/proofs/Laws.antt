@@ -10,18 +10,19 @@
 -- Assumes nothing.
 use Prim.Native.Nat.{ℕ, ◌+◌, ◌*◌, ◌<◌, ◌≤◌, min}
 use native.Mathlib.Omega.{arith}
-use mathlib.Core.Path.{◌≡◌, sym, ap, ◌∙◌}
-use mathlib.Core.Bool.{Bool, true, false, ◌&&◌, true≢false, false≢true}
+use mathlib.Core.Path.{◌≡◌, ap, ◌∙◌}
+use mathlib.Core.Bool.{Bool, true, false, ◌&&◌, false≢true}
 use mathlib.Core.List.{List, [], ◌∷◌, ◌++◌}
 use lib.Dec.{T, eqb, leb}
 use lib.ListN.{length, take, drop, length-append}
 use lib.Seq.{sets, sets-eq, take-append_seam}
 use borrow.Author.Tests.{leb-true}
+use Rattle.std.specs.Prelude.{Option, Some, None}
+use Rattle.std.specs.Option.{IsSomeAnd}
 use Rattle.text.specs.Text.{dec_text}
 use Rattle.text.proofs.Decimal.{one-long, long-below, most-long}
 use Rattle.protocol.specs.Statement.{Group, Stmt, only}
 use Rattle.statements.specs.declared.Statement.{Statement}
-use Rattle.statements.specs.declared.ReadStatement.{ReadStatement}
 use Rattle.statements.specs.Text.{text}
 use Rattle.statements.specs.Meaning.{Each, limit, first_fields, FitsGroup, FitsTold, Fits, stmt_of}
 use Rattle.statements.specs.Promise.{keeps_rules, ReadOf, is_writable, written_count, written}
@@ -33,11 +34,11 @@ use Rattle.statements.proofs.Written.{first-size, second-size}
 use Rattle.statements.proofs.Fits.{keeps-fits, means-fits}
 
 -- ---- reading
-pub refused : {S : List ℕ} {n : ℕ} {B : List ℕ} {r : ReadStatement} → ReadOf S n B r → r.ok ≡ false → (t : Stmt) → T (keeps_rules n t) → S ≡ text t → ⊥
-refused p no' t k e = true≢false (sym (p.back t k e).0 ∙ no')
+pub refused : {S : List ℕ} {n : ℕ} {B : List ℕ} → ReadOf S n B None → (t : Stmt) → T (keeps_rules n t) → S ≡ text t → ⊥
+refused p = p.back
 
-pub read-text : {S : List ℕ} {n : ℕ} {B : List ℕ} {r : ReadStatement} → ReadOf S n B r → r.ok ≡ true → (S ≡ text (stmt_of r.statement B)) × T (keeps_rules n (stmt_of r.statement B))
-read-text p o = (p.only o, p.keeps o)
+pub read-text : {S : List ℕ} {n : ℕ} {B : List ℕ} {s : Statement} → ReadOf S n B (Some s) → (S ≡ text (stmt_of s B)) × T (keeps_rules n (stmt_of s B))
+read-text p = (p.only, p.keeps)
 
 -- ---- writing
 first-long : (t : Stmt) → length (first_text (first_fields t)) ≡ length (dec_text t.kind) + length (dec_text t.origin) + length (dec_text t.notice) + 20
@@ -91,8 +92,8 @@ text-most n t k = fits-most (min n 64) t (omega arith) (keeps-fits (min n 64) t 
 pub means-most : (s : Statement) (B : List ℕ) → s.kind ≤ 255 → s.origin ≤ 255 → s.notice ≤ 255 → s.payload ≤ 18446744073709551615 → s.history.len ≤ 16 → length (text (stmt_of s B)) ≤ 3120
 means-most s B k o n p l = fits-most (min s.groups 64) (stmt_of s B) (omega arith) (means-fits s B k o n p l)
 
-pub read-most : {S : List ℕ} {n : ℕ} {B : List ℕ} {r : ReadStatement} → ReadOf S n B r → r.ok ≡ true → length S ≤ 3120
-read-most {n = n} {B = B} {r = r} p o = omega (arith, ap length (p.only o), text-most n (stmt_of r.statement B) (p.keeps o))
+pub read-most : {S : List ℕ} {n : ℕ} {B : List ℕ} {s : Statement} → ReadOf S n B (Some s) → length S ≤ 3120
+read-most {n = n} {B = B} {s = s} p = omega (arith, ap length p.only, text-most n (stmt_of s B) p.keeps)
 
 module _ (s : Statement) (B : List ℕ) (out : List ℕ) (room : is_writable s B out ≡ true) where
   pub count-is : written_count s B out ≡ length (text (stmt_of s B))
@@ -118,5 +119,5 @@ module _ (s : Statement) (B : List ℕ) (out : List ℕ) (room : is_writable s B
       rw room (ap (λ (n : ℕ). take n (sets out 0 t)) count-is ∙ ap (take (length t)) (sets-eq t out 0 h) ∙ take-append_seam t (drop (0 + length t) out))
 
   -- WHAT IS WRITTEN READS BACK
-  pub written-reads : (n : ℕ) (B' : List ℕ) (r : ReadStatement) → T (keeps_rules n (stmt_of s B)) → ReadOf (take (written_count s B out) (written s B out)) n B' r → (r.ok ≡ true) × (stmt_of r.statement B' ≡ stmt_of s B)
+  pub written-reads : (n : ℕ) (B' : List ℕ) (r : Option Statement) → T (keeps_rules n (stmt_of s B)) → ReadOf (take (written_count s B out) (written s B out)) n B' r → IsSomeAnd r (λ s'. stmt_of s' B' ≡ stmt_of s B)
   written-reads n B' r k p = p.back (stmt_of s B) k stands

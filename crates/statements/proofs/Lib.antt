@@ -9,6 +9,7 @@ pub mod Written
 pub mod FieldLaws
 pub mod Fits
 pub mod Held
+pub mod KindNumbers
 pub mod Laws
 pub mod One
 pub mod Example

@@ -2,14 +2,15 @@
 -- Assumes nothing.
 use Rattle.std.specs.Prelude.{if◌then◌else◌}
 use mathlib.Core.Path.{◌≡◌, refl, sym, ap, ◌∙◌}
-use mathlib.Core.Bool.{Bool, true, false, not, ◌&&◌, ◌||◌, true≢false}
+use mathlib.Core.Bool.{Bool, true, false, not, ◌&&◌, true≢false}
 use mathlib.Core.Option.{Option, none}
-use Prim.Native.Nat.{ℕ, zero, suc, ◌+◌, ◌-◌, ◌*◌, ◌/◌, ◌%◌, ◌^◌, ◌≤◌, ◌<◌}
+use Prim.Native.Nat.{ℕ, zero, suc, ◌+◌, ◌-◌, ◌*◌, ◌/◌, ◌%◌, ◌^◌, ◌≤◌, ◌<◌, min}
 use native.Mathlib.Nat.{div-le_self}
 use native.Mathlib.Decide.{dec_lt}
 use native.Mathlib.Omega.{arith}
 use lib.Dec.{eqb}
-use lib.Bits.{bit_and, bit_or, bit_xor, differ, xor_step}
+use lib.Bits.{bit_and, bit_or, and_comm}
+use Rattle.std.proofs.lemmas.Nat.{and-not}
 use lib.Count.{count_trailing_zeros, under}
 use lib.Pow.{pow-lt, shr-shr}
 use borrow.Author.Tests.{eqb-true, eqb-false, eq-eqb, ne_eqb}
@@ -20,40 +21,32 @@ use Rattle.protocol.proofs.Numbered.{or_put}
 use Rattle.views.proofs.Sets.{bit-shift, bit-far, set-without}
 use Rattle.statements.specs.Sets.{PutBit, Common, Union, Except, Next}
 
+-- ---- two sets
+
+pub common-bits : (a b : ℕ) → Common a b (bit_and a b)
+common-bits a b = record { bits = λ i. bit-and i a b }
+
+pub union-bits : (a b : ℕ) → Union a b (bit_or a b)
+union-bits a b = record { bits = λ i. bit-or i a b }
+
+-- without what the other has
+without : (a b : ℕ) → a < 18446744073709551616 → b < 18446744073709551616 → bit_and a (18446744073709551615 - b) ≡ a - bit_and a b
+without a b l m =
+    let e : bit_and (2 ^ 64 - 1 - b) a + bit_and b a ≡ a = and-not 64 b a m l in
+    let c : bit_and b a ≡ bit_and a b = and_comm b a in
+    let d : bit_and (2 ^ 64 - 1 - b) a ≡ bit_and a (18446744073709551615 - b) = and_comm (18446744073709551615 - b) a in
+    omega arith
+
+pub except-bits : (a b : ℕ) → a < 18446744073709551616 → b < 18446744073709551616 → Except a b (bit_and a (18446744073709551615 - b))
+except-bits a b l m = rw (without a b l m) (record { bits = λ i. elim (dec_lt i 64) [ yes h ↦ near i h | no h ↦ far i (omega arith) ] })
+  where
+    near : (i : ℕ) → i < 64 → bit (a - bit_and a b) i ≡ (bit a i && not (bit b i))
+    near i h = ap (λ x. bit x i) (set-without 64 a b l) ∙ bit-set_of 64 (λ k. bit a k && not (bit b k)) i h
+
+    far : (i : ℕ) → 64 ≤ i → bit (a - bit_and a b) i ≡ (bit a i && not (bit b i))
+    far i h = bit-far 64 (a - bit_and a b) i (omega arith) h ∙ sym (ap (λ x. x && not (bit b i)) (bit-far 64 a i l h))
+
 -- ---- one notice more or less
-
-abbrev apart : Bool → Bool → Bool
-apart true b = not b
-apart false b = b
-
-differ-small : (c d : ℕ) → c < 2 → d < 2 → differ c d < 2
-differ-small zero zero p q = omega arith
-differ-small zero (suc zero) p q = omega arith
-differ-small (suc zero) zero p q = omega arith
-differ-small (suc zero) (suc zero) p q = omega arith
-differ-small zero (suc (suc d)) p q = absurd (omega arith)
-differ-small (suc zero) (suc (suc d)) p q = absurd (omega arith)
-differ-small (suc (suc c)) d p q = absurd (omega arith)
-
-differ-odd : (c d : ℕ) → c < 2 → d < 2 → eqb (differ c d) 1 ≡ apart (eqb c 1) (eqb d 1)
-differ-odd zero zero p q = refl
-differ-odd zero (suc zero) p q = refl
-differ-odd (suc zero) zero p q = refl
-differ-odd (suc zero) (suc zero) p q = refl
-differ-odd zero (suc (suc d)) p q = absurd (omega arith)
-differ-odd (suc zero) (suc (suc d)) p q = absurd (omega arith)
-differ-odd (suc (suc c)) d p q = absurd (omega arith)
-
-lowest : (r d : ℕ) → d < 2 → (r * 2 + d) % 2 ≡ d
-lowest r d h = omega arith
-
-others : (r d : ℕ) → d < 2 → (r * 2 + d) / 2 ≡ r
-others r d h = omega arith
-
-bit-xor : (k a b : ℕ) → bit (bit_xor a b) k ≡ apart (bit a k) (bit b k)
-unfolding bit
-bit-xor zero a b = rw (xor_step a b, lowest _ (differ (a % 2) (b % 2)) (differ-small (a % 2) (b % 2) (omega arith) (omega arith))) (differ-odd (a % 2) (b % 2) (omega arith) (omega arith))
-bit-xor (suc k) a b = rw (xor_step a b, others (bit_xor (a / 2) (b / 2)) (differ (a % 2) (b % 2)) (differ-small (a % 2) (b % 2) (omega arith) (omega arith))) (bit-xor k (a / 2) (b / 2))
 
 -- put, where the test is known
 pub put_as : {A : Type 0} (n : ℕ) (a : A) (f : ℕ → A) (i : ℕ) (b : Bool) → eqb i n ≡ b → put n a f i ≡ (if b then a else f i)
@@ -79,36 +72,19 @@ module _ (s j : ℕ) (yes : Bool) where
     pub bit_in : yes ≡ true → PutBit s j yes (bit_or s ((1 * 2 ^ j) % 18446744073709551616))
     bit_in e = rw (power, e) record { bits = λ i l. ap (λ f. f i) (or_put s j) }
 
-    pub bit-out : yes ≡ false → PutBit s j yes (bit_xor (bit_or s ((1 * 2 ^ j) % 18446744073709551616)) ((1 * 2 ^ j) % 18446744073709551616))
-    bit-out e = rw (power, e) record { bits = λ i l. go i (eqb i j) refl }
+    pub bit-out : s < 18446744073709551616 → yes ≡ false → PutBit s j yes (bit_and s (18446744073709551615 - (1 * 2 ^ j) % 18446744073709551616))
+    bit-out l e = rw (power, e) record { bits = λ i q. go i (eqb i j) refl }
       where
-        cut : (b c : Bool) → apart (b || c) c ≡ (if c then false else b)
+        cut : (b c : Bool) → (b && not c) ≡ (if c then false else b)
         cut true true = refl
         cut true false = refl
         cut false true = refl
         cut false false = refl
 
-        go : (i : ℕ) (c : Bool) → eqb i j ≡ c → bit (bit_xor (bit_or s (2 ^ j)) (2 ^ j)) i ≡ put j false (bit s) i
+        go : (i : ℕ) (c : Bool) → eqb i j ≡ c → bit (bit_and s (18446744073709551615 - 2 ^ j)) i ≡ put j false (bit s) i
         go i c q =
             let p : bit (2 ^ j) i ≡ c = bit-pow i j ∙ eqb-sym j i c q in
-            bit-xor i (bit_or s (2 ^ j)) (2 ^ j) ∙ ap (λ b. apart b (bit (2 ^ j) i)) (bit-or i s (2 ^ j)) ∙ ap (λ b. apart (bit s i || b) b) p ∙ cut (bit s i) c ∙ sym (put_as j false (bit s) i c q)
-
--- ---- two sets
-
-pub common-bits : (a b : ℕ) → Common a b (bit_and a b)
-common-bits a b = record { bits = λ i. bit-and i a b }
-
-pub union-bits : (a b : ℕ) → Union a b (bit_or a b)
-union-bits a b = record { bits = λ i. bit-or i a b }
-
-pub except-bits : (a b : ℕ) → a < 18446744073709551616 → Except a b (a - bit_and a b)
-except-bits a b l = record { bits = λ i. elim (dec_lt i 64) [ yes h ↦ near i h | no h ↦ far i (omega arith) ] }
-  where
-    near : (i : ℕ) → i < 64 → bit (a - bit_and a b) i ≡ (bit a i && not (bit b i))
-    near i h = ap (λ x. bit x i) (set-without 64 a b l) ∙ bit-set_of 64 (λ k. bit a k && not (bit b k)) i h
-
-    far : (i : ℕ) → 64 ≤ i → bit (a - bit_and a b) i ≡ (bit a i && not (bit b i))
-    far i h = bit-far 64 (a - bit_and a b) i (omega arith) h ∙ sym (ap (λ x. x && not (bit b i)) (bit-far 64 a i l h))
+            (except-bits s (2 ^ j) l (omega (arith, pow-lt h))).bits i ∙ ap (λ b. bit s i && not b) p ∙ cut (bit s i) c ∙ sym (put_as j false (bit s) i c q)
 
 -- two sets that have the same notices are one
 pub same_set : (a b : ℕ) → a < 18446744073709551616 → b < 18446744073709551616 → ((i : ℕ) → i < 64 → bit a i ≡ bit b i) → a ≡ b
@@ -144,18 +120,19 @@ trailing (suc k) n p h = go (n % 2) refl (λ a b. trailing k (n / 2) a b)
     go zero e rest = lowest-even k n (count_trailing_zeros k (n / 2)) e (rest (omega arith) (omega arith))
     go (suc d) e rest = lowest-odd k n (omega arith)
 
-module _ (s j : ℕ) (l : s < 18446744073709551616) where
-  pub next_past : 64 ≤ j → Next s j 64
-  next_past h = record { most = omega arith; none = λ i a b. absurd (omega arith); here = λ q. absurd (omega arith) }
+no_ones : count_trailing_zeros 64 0 ≡ 64
+unfolding count_trailing_zeros
+no_ones = refl
 
-  pub next-none : s / 2 ^ j ≡ 0 → Next s j 64
+module _ (s j : ℕ) (l : s < 18446744073709551616) where
+  next-none : s / 2 ^ j ≡ 0 → Next s j 64
   next-none e = record {
     most = omega arith;
     none = λ i a b. let q : i ≡ j + (i - j) = omega arith in ap (bit s) q ∙ sym (bit-rest j s (i - j)) ∙ ap (λ x. bit x (i - j)) e ∙ bit-zero (i - j);
     here = λ q. absurd (omega arith);
   }
 
-  pub next-some : 0 < s / 2 ^ j → j < 64 → Next s j (j + count_trailing_zeros 64 (s / 2 ^ j))
+  next-some : 0 < s / 2 ^ j → j < 64 → Next s j (j + count_trailing_zeros 64 (s / 2 ^ j))
   next-some p h = record { most = omega (arith, near); none = λ i a b. early i a (omega arith); here = λ q. (omega arith, found) }
     where
       z : ℕ
@@ -172,6 +149,12 @@ module _ (s j : ℕ) (l : s < 18446744073709551616) where
 
       early : (i : ℕ) → j ≤ i → i < j + z → bit s i ≡ false
       early i a b = let q : i ≡ j + (i - j) = omega arith in ap (bit s) q ∙ sym (bit-rest j s (i - j)) ∙ t.2 (i - j) (omega arith)
+
+  pub next-least : j < 64 → Next s j (min (j + count_trailing_zeros 64 (s / 2 ^ j)) 64)
+  next-least h = elim (dec_lt 0 (s / 2 ^ j)) [
+    | yes p ↦ let n = next-some p h in let e : min (j + count_trailing_zeros 64 (s / 2 ^ j)) 64 ≡ j + count_trailing_zeros 64 (s / 2 ^ j) = omega (arith, n.most) in rw e n
+    | no p ↦ let z : s / 2 ^ j ≡ 0 = omega arith in let e : min (j + count_trailing_zeros 64 (s / 2 ^ j)) 64 ≡ 64 = omega (arith, ap (count_trailing_zeros 64) z, no_ones) in rw e (next-none z)
+  ]
 
 -- none of the first n notices has a value
 pub least-none : {A : Type 0} (n : ℕ) (f : ℕ → Option A) → ((i : ℕ) → i < n → f i ≡ none) → least n f ≡ none

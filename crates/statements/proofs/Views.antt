@@ -4,23 +4,23 @@ use Prim.Native.Nat.{ℕ, zero, suc, ◌+◌, ◌*◌, ◌<◌, ◌≤◌}
 use native.Mathlib.Numerals.{add-one}
 use native.Mathlib.Omega.{arith}
 use mathlib.Core.Path.{◌≡◌, refl, sym, ap, subst, ◌∙◌}
-use mathlib.Core.Bool.{Bool, true, false}
 use mathlib.Core.List.{List, [], ◌∷◌, ◌++◌}
 use lib.ListN.{length, get_or, set, length-append}
 use Rattle.protocol.specs.View.{View}
 use Rattle.protocol.specs.Statement.{no_view}
-use Rattle.text.specs.Scan.{Stops}
+use Rattle.std.specs.Prelude.{Option, Some, None, IfSome}
+use Rattle.std.specs.Option.{option_map}
+use Rattle.text.specs.Scan.{found, Stops}
 use Rattle.text.specs.Written.{Wrote}
 use Rattle.text.proofs.Stores.{both, wrote_as}
 use Rattle.views.specs.declared.View as held
-use Rattle.statements.specs.declared.Part.{Part}
-use Rattle.statements.specs.declared.ViewPart.{ViewPart}
+use Rattle.views.specs.declared.History.{History}
 use Rattle.statements.specs.Text.{view_text}
 use Rattle.views.specs.Held.{view_is}
-use Rattle.statements.specs.Meaning.{first_views, Many, FitsView, FitsViews}
-use Rattle.statements.specs.Parts.{NumberAt, ViewAt, each, comma_view, comma_number, tail_text, views_text, Ends}
+use Rattle.statements.specs.Meaning.{first_views, first_of, Many, FitsView, FitsViews}
+use Rattle.statements.specs.Parts.{NumberAt, ViewAt, each, comma_view, comma_number, tail_text, views_text, From, Ends}
 use Rattle.statements.proofs.Fields.{view-long}
-use Rattle.statements.proofs.Sequence.{Comma, from-number, from_view, SoFar, so-far-first, so-far-next, so-far-all, ends-whole, ends_more, ends-two, ends_as, each_more}
+use Rattle.statements.proofs.Sequence.{Comma, from-number, from_view, two_text, TwoFit, SoFar, so-far-first, so-far-next, so-far-refused, so-far-all, ends-refused, ends-whole, ends_more, ends-none, ends-two, ends_as, each_more}
 
 -- ---- lists of views
 pub comma-view : Comma comma_view
@@ -53,35 +53,57 @@ first-set (u ∷ l) zero v h = refl
 first-set (u ∷ l) (suc i) v h = ap (λ (t : List View). view_is u ∷ t) (first-set l i v (omega arith))
 
 -- ---- reading: i views were read
-module _ (S : List ℕ) (n : ℕ) (ok₀ : Bool) (at₀ : ℕ) where
-  pub views-first : (views : List held.View) → (ok₀ ≡ false → at₀ ≡ length S) → SoFar comma_view FitsView S n ok₀ at₀ (first_views 0 views) ok₀ at₀
-  views-first views stop = subst (λ l. SoFar comma_view FitsView S n ok₀ at₀ l ok₀ at₀) (sym (first-none views)) (so-far-first comma_view FitsView S n ok₀ at₀ stop)
+module _ (S : List ℕ) (n at₀ : ℕ) where
+  abbrev pub ViewsSoFar : List View → ℕ → Type 0
+  ViewsSoFar l at = SoFar comma_view FitsView S n at₀ l at
 
-  module _ (views : List held.View) (i : ℕ) (ok : Bool) (at : ℕ) (sf : SoFar comma_view FitsView S n ok₀ at₀ (first_views i views) ok at) where
-    pub views-next : (p : ViewPart) → i < n → i < length views → ViewAt S at p → SoFar comma_view FitsView S n ok₀ at₀ (first_views (i + 1) (set views i p.view)) p.ok p.next
-    views-next p h size v =
-        subst (λ l. SoFar comma_view FitsView S n ok₀ at₀ l p.ok p.next) (sym (ap (λ k. first_views k (set views i p.view)) (add-one i) ∙ first-set views i p.view size))
-        (so-far-next comma_view FitsView S n ok₀ at₀ (first_views i views) ok at sf comma-view (view_is p.view) p.ok p.next (omega (arith, first-long i views)) (from_view S at p v))
+  pub views-first : (views : List held.View) → ViewsSoFar (first_views 0 views) at₀
+  views-first views = subst (λ l. ViewsSoFar l at₀) (sym (first-none views)) (so-far-first comma_view FitsView S n at₀)
+
+  module _ (views : List held.View) (i at : ℕ) (sf : ViewsSoFar (first_views i views) at) where
+    pub views-next : (v : held.View) (next : ℕ) → i < n → i < length views → ViewAt S at (found v next) → ViewsSoFar (first_views (i + 1) (set views i v)) next
+    views-next v next h size f =
+        subst (λ l. ViewsSoFar l next) (sym (ap (λ k. first_views k (set views i v)) (add-one i) ∙ first-set views i v size))
+        (so-far-next comma_view FitsView S n at₀ (first_views i views) at sf comma-view (view_is v) next (omega (arith, first-long i views)) (from_view S at (found v next) f))
+
+    abbrev Whole : Option (List View) → Type 0
+    Whole r = Ends tail_text (Many FitsView n) S at₀ r
+
+    pub views-refused : i < n → ViewAt S at None → Whole None
+    views-refused h f =
+        ends-refused tail_text (Many FitsView n) S at₀ (so-far-refused comma_view FitsView S n at₀ (first_views i views) at sf comma-view (omega (arith, first-long i views)) (from_view S at None f))
 
     module _ (all : i ≡ n) where
-      abbrev Whole : Bool → Type 0
-      Whole b = Ends tail_text (Many FitsView n) S ok₀ at₀ b (first_views n views)
+      whole : From tail_text (Many FitsView n) S at₀ (found (first_views i views) at)
+      whole = so-far-all comma_view FitsView S n at₀ (first_views i views) at sf (first-long i views ∙ all)
 
-      pub views-more : at < length S → Whole false
-      views-more h = subst (λ k. Ends tail_text (Many FitsView n) S ok₀ at₀ false (first_views k views)) all
-          (ends_more tail_text (Many FitsView n) S ok₀ at₀ ok (first_views i views) at (so-far-all comma_view FitsView S n ok₀ at₀ (first_views i views) ok at sf (first-long i views ∙ all)) h)
+      pub views-more : at < length S → Whole None
+      views-more h = ends_more tail_text (Many FitsView n) S at₀ (first_views i views) at whole h
 
-      pub views-whole : length S ≤ at → Whole ok
-      views-whole h = subst (λ k. Ends tail_text (Many FitsView n) S ok₀ at₀ ok (first_views k views)) all
-          (ends-whole tail_text (Many FitsView n) S ok₀ at₀ ok (first_views i views) at (so-far-all comma_view FitsView S n ok₀ at₀ (first_views i views) ok at sf (first-long i views ∙ all)) h)
+      pub views-whole : length S ≤ at → Whole (Some (first_views n views))
+      views-whole h = subst (λ k. Whole (Some (first_views k views))) all (ends-whole tail_text (Many FitsView n) S at₀ (first_views i views) at whole h)
 
 -- with their count before them
-pub tail_from : (S : List ℕ) (at : ℕ) (count : Part) (ok : Bool) (n : ℕ) (views : List held.View) → NumberAt S at 16 count → n ≡ count.value → Ends tail_text (Many FitsView count.value) S count.ok count.next ok (first_views n views) → Ends views_text FitsViews S true at ok (first_views n views)
-tail_from S at count ok n views c e f =
-    let low : ℕ → Type 0 = λ k. k ≤ 16 in
-    let l : List View = first_views n views in
-    ends_as _ _ views_text FitsViews (count.value, l) l (λ w. (length w, w)) (ap (λ k. comma_number k ++ tail_text l) (first-long n views ∙ e)) (λ w h. refl) (λ w h. (h.0, (refl, h.1))) (λ w h q. ap (λ x. x.1) q) S true at ok
-    (ends-two comma_number low tail_text (Many FitsView) S true at count.ok count.value count.next (from-number S at 16 count c) ok l tail-stops f)
+module _ (S : List ℕ) (at : ℕ) where
+  abbrev Low : ℕ → Type 0
+  Low k = k ≤ 16
+
+  counted : (r : Option (ℕ × List View)) → IfSome r (λ x. length x.1 ≡ x.0) → Ends (two_text comma_number Low tail_text (Many FitsView)) (TwoFit comma_number Low tail_text (Many FitsView)) S at r → Ends views_text FitsViews S at (option_map (λ x. x.1) r)
+  counted r same e =
+      ends_as (two_text comma_number Low tail_text (Many FitsView)) (TwoFit comma_number Low tail_text (Many FitsView)) views_text FitsViews (λ x. x.1) (λ w. (length w, w)) (λ w h. refl) (λ w h. (h.0, (refl, h.1))) (λ v w h q. ap (λ x. x.1) q) S at r
+      (texts r same) e
+    where
+      texts : (r : Option (ℕ × List View)) → IfSome r (λ x. length x.1 ≡ x.0) → IfSome r (λ x. views_text x.1 ≡ two_text comma_number Low tail_text (Many FitsView) x)
+      texts None same = tt
+      texts (Some x) same = ap (λ k. comma_number k ++ tail_text x.1) same
+
+  pub tail-refused : NumberAt S at 16 None → Ends views_text FitsViews S at None
+  tail-refused c = counted None tt (ends-none comma_number Low tail_text (Many FitsView) S at tail-stops (from-number S at 16 None c))
+
+  pub tail_from : (n next : ℕ) (r : Option History) → NumberAt S at 16 (found n next) → IfSome r (λ h. h.len ≡ n) → Ends tail_text (Many FitsView n) S next (option_map first_of r) → Ends views_text FitsViews S at (option_map first_of r)
+  tail_from n next None c e f = counted None tt (ends-two comma_number Low tail_text (Many FitsView) S at n next (from-number S at 16 (found n next) c) tail-stops None f)
+  tail_from n next (Some h) c e f =
+      counted (Some (n, first_of h)) (first-long h.len h.views ∙ e) (ends-two comma_number Low tail_text (Many FitsView) S at n next (from-number S at 16 (found n next) c) tail-stops (Some (first_of h)) f)
 
 -- ---- writing
 pub put_first : (out : List ℕ) (from : ℕ) (l : List held.View) → Wrote out from (tail_text (first_views 0 l)) from out

@@ -10,7 +10,6 @@ use mathlib.Core.List.{List, [], ◌∷◌, ◌++◌, append_assoc}
 use lib.Dec.{leb}
 use lib.ListN.{length, length-append}
 use borrow.Author.Tests.{le-leb, lt-leb, eq-eqb, ne_eqb}
-use mir.Val.{bool_byte}
 use Rattle.text.specs.Text.{dec_text}
 use Rattle.text.proofs.Decimal.{one-long}
 use Rattle.text.specs.Written.{Wrote}
@@ -69,13 +68,6 @@ group-size t p k ep ek =
     let m = when t.stored t.kept in
     ap (λ x. length (dec_text x) + length (dec_text k) + 6) ep ∙ ap (λ x. length (dec_text (binding_payload b)) + length (dec_text x) + 6) ek
     ∙ sym (second-size (binding_number b) (binding_payload b) (stored_number m) (kept_payload m) ∙ omega (arith, one-digit b, one_bit t.stored t.kept))
-
-bool-byte : (b : Bool) (m : ℕ) → bool_byte b ≡ stored_number (when b m)
-bool-byte true m = refl
-bool-byte false m = refl
-
-pub group-run : (t : Told) (b p k : ℕ) → b ≡ binding_number (binding_is t.binding) → p ≡ binding_payload (binding_is t.binding) → k ≡ kept_payload (when t.stored t.kept) → second_text b p (bool_byte t.stored) k ≡ group_text (told_is t)
-group-run t b p k eb ep ek = rw (eb, ep, ek, bool-byte t.stored t.kept)
 
 -- ---- for each notice
 

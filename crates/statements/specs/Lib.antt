@@ -6,6 +6,7 @@ pub mod Block
 pub mod Meaning
 pub mod Promise
 -- ---- inside: what functions tell each other, and what loops keep
+pub mod Kind
 pub mod Sets
 pub mod Parts
 pub mod Made

@@ -1,14 +1,13 @@
 -- What the functions that read and write one field promise each other. A part stands at a position of the text, with the comma before it.
 -- Assumes nothing.
-use Rattle.std.specs.Prelude.{ℕ, ◌+◌, ◌≤◌, ◌≡◌, Bool, true, false, cond, List, [], ◌∷◌, ◌++◌, eqb, length, drop}
+use Rattle.std.specs.Prelude.{ℕ, ◌+◌, ◌≤◌, ◌≡◌, Bool, true, cond, List, [], ◌∷◌, ◌++◌, Option, Some, IfSome, eqb, length, drop}
+use Rattle.std.specs.Option.{option_map, IsSomeAnd}
 use Rattle.text.specs.declared.Read.{Read}
-use Rattle.text.specs.declared.Read.TheVariants.{Got}
 use Rattle.text.specs.Text.{dec_text}
-use Rattle.text.specs.Scan.{Stops, is_comma}
+use Rattle.text.specs.Scan.{read, found, Stops, is_comma}
 use Rattle.protocol.specs.View.{View}
 use Rattle.protocol.specs.Statement.{Group, only}
-use Rattle.statements.specs.declared.Part.{Part}
-use Rattle.statements.specs.declared.ViewPart.{ViewPart}
+use Rattle.views.specs.declared.View as held
 use Rattle.statements.specs.declared.Head.{Head}
 use Rattle.statements.specs.declared.Binding.{Binding}
 use Rattle.statements.specs.declared.Binding.TheVariants.{Unbound, Bound, Barred}
@@ -58,23 +57,25 @@ payload_text m = group_text (only m)
 abbrev pub groups_text : List Group → List ℕ
 groups_text l = each group_text l
 
--- ---- reading. A part that is refused ends at the end of the text, where no comma stands, so that all after it is refused too.
-pub record Bounded (S : List ℕ) (r : Read) (most : ℕ) (p : Part) : Type 0 where
-  pub only : p.ok ≡ true → r ≡ Got p.value p.next
-  pub back : (v n : ℕ) → v ≤ most → r ≡ Got v n → (p.ok ≡ true) × (p.value ≡ v) × (p.next ≡ n)
-  pub low : p.value ≤ most
-  pub stop : p.ok ≡ false → p.next ≡ length S
+-- ---- reading. A part that is refused ends the reading.
 
-pub record NumberAt (S : List ℕ) (at most : ℕ) (p : Part) : Type 0 where
-  pub only : p.ok ≡ true → drop at S ≡ 44 ∷ (dec_text p.value ++ drop p.next S)
-  pub back : (v : ℕ) (rest : List ℕ) → v ≤ most → Stops rest → drop at S ≡ 44 ∷ (dec_text v ++ rest) → (p.ok ≡ true) × (p.value ≡ v) × (drop p.next S ≡ rest)
-  pub low : p.value ≤ most
-  pub stop : p.ok ≡ false → p.next ≡ length S
+-- What was read, with each value as what it means.
+abbrev pub meant : {A B : Type 0} → (A → B) → Option (Read A) → Option (Read B)
+meant f r = option_map (λ p. read (f p.value) p.next) r
 
-pub record ViewAt (S : List ℕ) (at : ℕ) (p : ViewPart) : Type 0 where
-  pub only : p.ok ≡ true → drop at S ≡ 44 ∷ (view_text (view_is p.view) ++ drop p.next S)
-  pub back : (v : View) (rest : List ℕ) → FitsView v → drop at S ≡ 44 ∷ (view_text v ++ rest) → (p.ok ≡ true) × (view_is p.view ≡ v) × (drop p.next S ≡ rest)
-  pub stop : p.ok ≡ false → p.next ≡ length S
+-- p is r, if that is a number of at most `most`, and nothing otherwise.
+pub record Bounded (r : Option (Read ℕ)) (most : ℕ) (p : Option (Read ℕ)) : Type 0 where
+  pub only : IfSome p (λ q. (r ≡ Some q) × (q.value ≤ most))
+  pub back : (v n : ℕ) → v ≤ most → r ≡ found v n → p ≡ found v n
+
+pub record NumberAt (S : List ℕ) (at most : ℕ) (r : Option (Read ℕ)) : Type 0 where
+  pub only : IfSome r (λ p. drop at S ≡ 44 ∷ (dec_text p.value ++ drop p.next S))
+  pub back : (v : ℕ) (rest : List ℕ) → v ≤ most → Stops rest → drop at S ≡ 44 ∷ (dec_text v ++ rest) → IsSomeAnd r (λ p. (p.value ≡ v) × (drop p.next S ≡ rest))
+  pub low : IfSome r (λ p. p.value ≤ most)
+
+pub record ViewAt (S : List ℕ) (at : ℕ) (r : Option (Read held.View)) : Type 0 where
+  pub only : IfSome r (λ p. drop at S ≡ 44 ∷ (view_text (view_is p.value) ++ drop p.next S))
+  pub back : (v : View) (rest : List ℕ) → FitsView v → drop at S ≡ 44 ∷ (view_text v ++ rest) → IsSomeAnd r (λ p. (view_is p.value ≡ v) × (drop p.next S ≡ rest))
 
 -- A comma and a 0 stand at a position.
 abbrev pub Zero : List ℕ → ℕ → Type 0
@@ -92,16 +93,15 @@ pub record NothingAt (S : List ℕ) (at : ℕ) (r : Bool) : Type 0 where
   pub kept : r ≡ true → Zero S (at + 6)
   pub then : r ≡ true → is_comma S (at + 8) ≡ true
 
--- A value v, written as `text` says, was read from `at` on, where the part before it ended; ok₀ says that this was accepted. Every value that fits is read.
-pub record From {A : Type 0} (text : A → List ℕ) (Fit : A → Type 0) (S : List ℕ) (ok₀ : Bool) (at : ℕ) (ok : Bool) (v : A) (next : ℕ) : Type 0 where
-  pub only : ok ≡ true → (ok₀ ≡ true) × (drop at S ≡ text v ++ drop next S)
-  pub back : (w : A) (rest : List ℕ) → Fit w → Stops rest → ok₀ ≡ true → drop at S ≡ text w ++ rest → (ok ≡ true) × (v ≡ w) × (drop next S ≡ rest)
-  pub stop : ok ≡ false → next ≡ length S
+-- A value, written as `text` says, was read from `at` on, or nothing was. Every value that fits is read.
+pub record From {A : Type 0} (text : A → List ℕ) (Fit : A → Type 0) (S : List ℕ) (at : ℕ) (r : Option (Read A)) : Type 0 where
+  pub only : IfSome r (λ p. drop at S ≡ text p.value ++ drop p.next S)
+  pub back : (w : A) (rest : List ℕ) → Fit w → Stops rest → drop at S ≡ text w ++ rest → IsSomeAnd r (λ p. (p.value ≡ w) × (drop p.next S ≡ rest))
 
 -- The same where the value goes to the end of the text.
-pub record Ends {A : Type 0} (text : A → List ℕ) (Fit : A → Type 0) (S : List ℕ) (ok₀ : Bool) (at : ℕ) (ok : Bool) (v : A) : Type 0 where
-  pub only : ok ≡ true → (ok₀ ≡ true) × (drop at S ≡ text v)
-  pub back : (w : A) → Fit w → ok₀ ≡ true → drop at S ≡ text w → (ok ≡ true) × (v ≡ w)
+pub record Ends {A : Type 0} (text : A → List ℕ) (Fit : A → Type 0) (S : List ℕ) (at : ℕ) (r : Option A) : Type 0 where
+  pub only : IfSome r (λ v. drop at S ≡ text v)
+  pub back : (w : A) → Fit w → drop at S ≡ text w → IsSomeAnd r (λ v. v ≡ w)
 
 -- The fields that a Head has.
 abbrev pub head_fields : Head → First

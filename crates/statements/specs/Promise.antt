@@ -1,10 +1,10 @@
 -- What is promised of reading and writing a statement.
 -- Assumes nothing.
-use Rattle.std.specs.Prelude.{ℕ, ◌≤◌, min, ◌≡◌, Bool, true, cond, ◌&&◌, List, T, leb, length}
+use Rattle.std.specs.Prelude.{ℕ, ◌≤◌, min, ◌≡◌, Bool, cond, ◌&&◌, List, Option, IfSome, T, leb, length}
+use Rattle.std.specs.Option.{IsSomeAnd}
 use Rattle.std.proofs.lemmas.List.Edits.{sets}
 use Rattle.protocol.specs.Statement.{Stmt, field_rules}
 use Rattle.statements.specs.declared.Statement.{Statement}
-use Rattle.statements.specs.declared.ReadStatement.{ReadStatement}
 use Rattle.statements.specs.Text.{text}
 use Rattle.statements.specs.Meaning.{stmt_of, Fits}
 
@@ -14,17 +14,17 @@ keeps_rules notices s = field_rules 16 (min notices 64) s
 
 -- Reading S, with the block B after it: an accepted text is exactly that of the statement that is answered, and this keeps the field rules; and the text of every
 -- statement that keeps them is accepted, as that statement. So a text that is refused is that of none.
-pub record ReadOf (S : List ℕ) (notices : ℕ) (B : List ℕ) (r : ReadStatement) : Type 0 where
-  pub only : r.ok ≡ true → S ≡ text (stmt_of r.statement B)
-  pub keeps : r.ok ≡ true → T (keeps_rules notices (stmt_of r.statement B))
-  pub back : (t : Stmt) → T (keeps_rules notices t) → S ≡ text t → (r.ok ≡ true) × (stmt_of r.statement B ≡ t)
-  pub short : r.statement.history.len ≤ 16
+pub record ReadOf (S : List ℕ) (notices : ℕ) (B : List ℕ) (r : Option Statement) : Type 0 where
+  pub only : IfSome r (λ s. S ≡ text (stmt_of s B))
+  pub keeps : IfSome r (λ s. T (keeps_rules notices (stmt_of s B)))
+  pub back : (t : Stmt) → T (keeps_rules notices t) → S ≡ text t → IsSomeAnd r (λ s. stmt_of s B ≡ t)
+  pub short : IfSome r (λ s. s.history.len ≤ 16)
 
 -- The same for every statement that fits, whether or not it keeps the rules of its kind.
-pub record ParseOf (S : List ℕ) (n : ℕ) (B : List ℕ) (r : ReadStatement) : Type 0 where
-  pub only : r.ok ≡ true → S ≡ text (stmt_of r.statement B)
-  pub back : (t : Stmt) → Fits n t → S ≡ text t → (r.ok ≡ true) × (stmt_of r.statement B ≡ t)
-  pub short : r.statement.history.len ≤ 16
+pub record ParseOf (S : List ℕ) (n : ℕ) (B : List ℕ) (r : Option Statement) : Type 0 where
+  pub only : IfSome r (λ s. S ≡ text (stmt_of s B))
+  pub back : (t : Stmt) → Fits n t → S ≡ text t → IsSomeAnd r (λ s. stmt_of s B ≡ t)
+  pub short : IfSome r (λ s. s.history.len ≤ 16)
 
 -- A statement is written if it has at most 16 views and its text has room.
 unfoldable pub is_writable : Statement → List ℕ → List ℕ → Bool

@@ -1,5 +1,5 @@
 // What a report tells of each notice, in lent words (specs/Block.antt). Every block means some list of groups.
-ghost use Rattle.std.specs.Prelude.{◌≡◌, ◌<◌, length, get_or};
+ghost use Rattle.std.specs.Prelude.{◌≡◌, ◌<◌};
 ghost use Rattle.protocol.specs.Statement.{binding_payload};
 ghost use Rattle.statements.specs.Block.{block_word, binding_is, told_is, binding_at, group_at, TellsGroup, Nothing, is_bound, is_barred};
 
@@ -16,27 +16,12 @@ const PAYLOAD: usize = 3;
 
 const KEPT: usize = 4;
 
-// How many words the block has. A proof that a word was written asks for it.
-fn size(block: &[u64; BLOCK]) -> usize
-    ensures { length block.now ≡ 131 }
-{
-    let s = &block[..];
-    s.len()
-}
-
-fn raw(block: &[u64; BLOCK], i: usize) -> u64
-    requires { i < 131 }
-    ensures { result ≡ get_or block.now i 0 }
-{
-    block[i]
-}
-
 // The word at i.
 fn word(block: &[u64; BLOCK], i: usize) -> u64
     requires { i < 131 }
     ensures { result ≡ block_word block.now i }
 {
-    raw(block, i)
+    block[i]
 }
 
 fn binding_at(block: &[u64; BLOCK], j: usize) -> Binding
@@ -63,31 +48,24 @@ pub fn told_at(block: &[u64; BLOCK], j: usize) -> Told
             kept: 0,
         };
     }
-    let b = binding_at(block, j);
     Told {
-        binding: b,
+        binding: binding_at(block, j),
         stored: sets::has(word(block, STORED), j),
         kept: word(block, KEPT + 2 * j),
     }
 }
 
-fn is_bound(b: Binding) -> bool
-    ensures { result ≡ is_bound b }
-{
-    match b {
-        Binding::Unbound => false,
-        Binding::Bound(_) => true,
-        Binding::Barred => false,
+impl Binding {
+    fn is_bound(self) -> bool
+        ensures { result ≡ is_bound self }
+    {
+        matches!(self, Binding::Bound(_))
     }
-}
 
-fn is_barred(b: Binding) -> bool
-    ensures { result ≡ is_barred b }
-{
-    match b {
-        Binding::Unbound => false,
-        Binding::Bound(_) => false,
-        Binding::Barred => true,
+    fn is_barred(self) -> bool
+        ensures { result ≡ is_barred self }
+    {
+        matches!(self, Binding::Barred)
     }
 }
 
@@ -96,9 +74,8 @@ pub fn bound_payload(b: Binding) -> u64
     ensures { result ≡ binding_payload (binding_is b) }
 {
     match b {
-        Binding::Unbound => 0,
         Binding::Bound(m) => m,
-        Binding::Barred => 0,
+        Binding::Unbound | Binding::Barred => 0,
     }
 }
 
@@ -106,18 +83,16 @@ pub fn bound_payload(b: Binding) -> u64
 pub fn tell(block: &mut [u64; BLOCK], j: usize, t: Told)
     ensures { TellsGroup block.old j t block.new }
 {
-    size(block);
     if j >= NOTICES {
         return;
     }
-    let b = t.binding;
-    let bound = sets::put_notice(word(block, BOUND), j, is_bound(b));
-    let barred = sets::put_notice(word(block, BARRED), j, is_barred(b));
+    let bound = sets::put_notice(word(block, BOUND), j, t.binding.is_bound());
+    let barred = sets::put_notice(word(block, BARRED), j, t.binding.is_barred());
     let stored = sets::put_notice(word(block, STORED), j, t.stored);
     block[BOUND] = bound;
     block[BARRED] = barred;
     block[STORED] = stored;
-    block[PAYLOAD + 2 * j] = bound_payload(b);
+    block[PAYLOAD + 2 * j] = bound_payload(t.binding);
     block[KEPT + 2 * j] = t.kept;
 }
 
@@ -125,7 +100,6 @@ pub fn tell(block: &mut [u64; BLOCK], j: usize, t: Told)
 pub fn clear(block: &mut [u64; BLOCK])
     ensures { Nothing block.new 0 }
 {
-    size(block);
     block[BOUND] = 0;
     block[BARRED] = 0;
     block[STORED] = 0;

@@ -6,134 +6,135 @@ ghost use Rattle.protocol.specs.Statement.{no_at, no_view_field, no_notice, no_g
 ghost use Rattle.statements.specs.Meaning.{stmt_of};
 ghost use Rattle.statements.specs.Promise.{keeps_rules};
 
-use crate::{BLOCK, Statement, groups};
+use crate::{BLOCK, Kind, NOTICES, Statement, UNUSED};
 use views::View;
 
-fn no_at(st: Statement) -> bool
-    ensures { result ≡ no_at (stmt_of st []) }
-{
-    let t = st.at;
-    t.same(View { joined: 0, left: 0 })
-}
-
-fn no_view(st: Statement) -> bool
-    ensures { result ≡ no_view_field (stmt_of st []) }
-{
-    let v = st.view;
-    v.same(View { joined: 0, left: 0 })
-}
-
-fn no_notice(st: Statement) -> bool
-    ensures { result ≡ no_notice (stmt_of st []) }
-{
-    st.notice == 0
-}
-
-// No payload either.
-fn no_groups(st: Statement) -> bool
-    requires { st.kind ≡ 5 → ⊥ }
-    ensures { result ≡ no_groups (stmt_of st []) }
-{
-    st.payload == 0
-}
-
-fn no_views(st: Statement) -> bool
-    ensures { result ≡ no_views (stmt_of st []) }
-{
-    let h = st.history;
-    h.len == 0
-}
-
-fn manned_at(st: Statement) -> bool
-    ensures { result ≡ has_members 16 (stmt_of st []).at }
-{
-    let t = st.at;
-    t.has_members()
-}
-
-fn manned_view(st: Statement) -> bool
-    ensures { result ≡ has_members 16 (stmt_of st []).view }
-{
-    let v = st.view;
-    v.has_members()
-}
-
-// From 1 to 16 views that rise strictly, each with members.
-fn views_rule(st: Statement) -> bool
-    ensures { result ≡ views_rule 16 (stmt_of st []) }
-{
-    let h = st.history;
-    if h.len > View::LIMIT {
-        return false;
+#[tactic(auto, unfolding(crate::specs::Meaning::stmt_of, protocol::specs::View::same_view))]
+impl Statement {
+    fn no_at(&self) -> bool
+        ensures { result ≡ no_at (stmt_of self.now []) }
+    {
+        self.at == UNUSED
     }
-    (h.len >= 1) & h.rising() & h.each_has_members()
-}
 
-// As many groups as there are notices.
-fn report_rule(st: Statement, n: usize) -> bool
-    requires { st.kind ≡ 5 }
-    ensures { result ≡ report_rule n (stmt_of st []) }
-{
-    groups::few(st.groups) == n
-}
+    fn no_view(&self) -> bool
+        ensures { result ≡ no_view_field (stmt_of self.now []) }
+    {
+        self.view == UNUSED
+    }
 
-// A join or a leave uses nothing more.
-fn wish_rule(st: Statement, n: usize) -> bool
-    requires { (1 ≤ st.kind) × (st.kind ≤ 2) }
-    ensures { result ≡ kind_rule 16 n (stmt_of st []) }
-{
-    no_at(st) & no_view(st) & no_notice(st) & no_groups(st) & no_views(st)
-}
+    fn no_notice(&self) -> bool
+        ensures { result ≡ no_notice (stmt_of self.now []) }
+    {
+        self.notice == 0
+    }
 
-fn agree_view_rule(st: Statement, n: usize) -> bool
-    requires { st.kind ≡ 3 }
-    ensures { result ≡ kind_rule 16 n (stmt_of st []) }
-{
-    manned_at(st) & manned_view(st) & no_notice(st) & no_groups(st) & no_views(st)
-}
+    // No payload either.
+    fn no_groups(&self) -> bool
+        requires { self.now.kind ≡ 5 → ⊥ }
+        ensures { result ≡ no_groups (stmt_of self.now []) }
+    {
+        self.payload == 0
+    }
 
-fn agree_history_rule(st: Statement, n: usize) -> bool
-    requires { st.kind ≡ 4 }
-    ensures { result ≡ kind_rule 16 n (stmt_of st []) }
-{
-    manned_at(st) & no_view(st) & no_notice(st) & no_groups(st) & views_rule(st)
-}
+    fn no_views(&self) -> bool
+        ensures { result ≡ no_views (stmt_of self.now []) }
+    {
+        self.history.len == 0
+    }
 
-fn report_kind_rule(st: Statement, n: usize) -> bool
-    requires { st.kind ≡ 5 }
-    ensures { result ≡ kind_rule 16 n (stmt_of st []) }
-{
-    manned_at(st) & no_notice(st) & report_rule(st, n) & views_rule(st)
-}
+    fn manned_at(&self) -> bool
+        ensures { result ≡ has_members 16 (stmt_of self.now []).at }
+    {
+        self.at.has_members()
+    }
 
-fn prepare_rule(st: Statement, n: usize) -> bool
-    requires { st.kind ≡ 6 }
-    ensures { result ≡ kind_rule 16 n (stmt_of st []) }
-{
-    no_at(st) & no_view(st) & no_views(st)
-}
+    fn manned_view(&self) -> bool
+        ensures { result ≡ has_members 16 (stmt_of self.now []).view }
+    {
+        self.view.has_members()
+    }
 
-// An ack or a store.
-fn vote_rule(st: Statement, n: usize) -> bool
-    requires { (7 ≤ st.kind) × (st.kind ≤ 8) }
-    ensures { result ≡ kind_rule 16 n (stmt_of st []) }
-{
-    manned_at(st) & no_view(st) & no_views(st)
-}
+    // From 1 to 16 views that rise strictly, each with members.
+    fn views_rule(&self) -> bool
+        ensures { result ≡ views_rule 16 (stmt_of self.now []) }
+    {
+        let h = self.history;
+        if h.len > View::LIMIT {
+            return false;
+        }
+        (h.len >= 1) & h.rising() & h.each_has_members()
+    }
 
-// What the kind uses, and that the rest is 0.
-fn kind_rule(st: Statement, n: usize) -> bool
-    ensures { result ≡ kind_rule 16 n (stmt_of st []) }
-{
-    let k = st.kind;
-    match k {
-        1 | 2 => wish_rule(st, n),
-        3 => agree_view_rule(st, n),
-        4 => agree_history_rule(st, n),
-        5 => report_kind_rule(st, n),
-        6 => prepare_rule(st, n),
-        7 | 8 => vote_rule(st, n),
-        _ => false,
+    // As many groups as there are notices.
+    fn report_rule(&self, n: usize) -> bool
+        requires { self.now.kind ≡ 5 }
+        ensures { result ≡ report_rule n (stmt_of self.now []) }
+    {
+        self.groups.min(NOTICES) == n
+    }
+
+    // A join or a leave uses nothing more.
+    fn wish_rule(&self, n: usize) -> bool
+        requires { (1 ≤ self.now.kind) × (self.now.kind ≤ 2) }
+        ensures { result ≡ kind_rule 16 n (stmt_of self.now []) }
+    {
+        self.no_at() & self.no_view() & self.no_notice() & self.no_groups() & self.no_views()
+    }
+
+    fn agree_view_rule(&self, n: usize) -> bool
+        requires { self.now.kind ≡ 3 }
+        ensures { result ≡ kind_rule 16 n (stmt_of self.now []) }
+    {
+        self.manned_at()
+            & self.manned_view()
+            & self.no_notice()
+            & self.no_groups()
+            & self.no_views()
+    }
+
+    fn agree_history_rule(&self, n: usize) -> bool
+        requires { self.now.kind ≡ 4 }
+        ensures { result ≡ kind_rule 16 n (stmt_of self.now []) }
+    {
+        self.manned_at() & self.no_view() & self.no_notice() & self.no_groups() & self.views_rule()
+    }
+
+    fn report_kind_rule(&self, n: usize) -> bool
+        requires { self.now.kind ≡ 5 }
+        ensures { result ≡ kind_rule 16 n (stmt_of self.now []) }
+    {
+        self.manned_at() & self.no_notice() & self.report_rule(n) & self.views_rule()
+    }
+
+    fn prepare_rule(&self, n: usize) -> bool
+        requires { self.now.kind ≡ 6 }
+        ensures { result ≡ kind_rule 16 n (stmt_of self.now []) }
+    {
+        self.no_at() & self.no_view() & self.no_views()
+    }
+
+    // An ack or a store.
+    fn vote_rule(&self, n: usize) -> bool
+        requires { (7 ≤ self.now.kind) × (self.now.kind ≤ 8) }
+        ensures { result ≡ kind_rule 16 n (stmt_of self.now []) }
+    {
+        self.manned_at() & self.no_view() & self.no_views()
+    }
+
+    // What the kind uses, and that the rest is 0.
+    fn kind_rule(&self, n: usize) -> bool
+        ensures { result ≡ kind_rule 16 n (stmt_of self.now []) }
+    {
+        match Kind::try_from(self.kind) {
+            Ok(Kind::Join | Kind::Leave) => self.wish_rule(n),
+            Ok(Kind::AgreeView) => self.agree_view_rule(n),
+            Ok(Kind::AgreeHistory) => self.agree_history_rule(n),
+            Ok(Kind::Report) => self.report_kind_rule(n),
+            Ok(Kind::Prepare) => self.prepare_rule(n),
+            Ok(Kind::Ack | Kind::Store) => self.vote_rule(n),
+            Err(_) => false,
+        }
     }
 }
 
@@ -142,15 +143,12 @@ fn kind_rule(st: Statement, n: usize) -> bool
 pub fn keeps_field_rules(st: Statement, block: &[u64; BLOCK], notices: usize) -> bool
     ensures { result ≡ keeps_rules notices (stmt_of st block.now) }
 {
-    let h = st.history;
-    if h.len > View::LIMIT {
+    if st.history.len > View::LIMIT {
         return false;
     }
-    let t = st.at;
-    let v = st.view;
     (st.origin < View::WIDTH)
-        & t.is_view()
-        & v.is_view()
-        & h.each_is_view()
-        & kind_rule(st, groups::few(notices))
+        & st.at.is_view()
+        & st.view.is_view()
+        & st.history.each_is_view()
+        & st.kind_rule(notices.min(NOTICES))
 }

@@ -1,14 +1,16 @@
 // The four fields from binding to kept, for each notice of a report and once in every other kind: read and written.
-ghost use Rattle.std.specs.Prelude.{◌≡◌, true, ◌+◌, ◌*◌, ◌≤◌, min, eqb, length};
+ghost use Rattle.std.specs.Prelude.{◌≡◌, ◌+◌, ◌*◌, ◌≤◌, min, eqb, length};
+ghost use Rattle.std.specs.Option.{option_map};
+ghost use Rattle.text.specs.Scan.{read};
 ghost use Rattle.text.specs.Written.{Wrote};
 ghost use Rattle.protocol.specs.Statement.{binding_number, kept_payload};
 ghost use Rattle.protocol.specs.Lists.{when, list_of};
 ghost use Rattle.statements.specs.Block.{binding_is, told_is, group_at, groups_of};
 ghost use Rattle.statements.specs.Meaning.{limit, FitsGroup, FitsPayload, FitsGroups, FitsTold};
-ghost use Rattle.statements.specs.Parts.{ZeroAt, NothingAt, From, binding_from, second_text, group_text, payload_text, groups_text};
+ghost use Rattle.statements.specs.Parts.{ZeroAt, NothingAt, meant, From, binding_from, second_text, group_text, payload_text, groups_text};
 
-use crate::{BLOCK, Binding, GroupPart, NOTICES, Part, REPORT, Told, block, number_at, put_number};
-use text::{COMMA, NUMBER_MAX, ZERO};
+use crate::{BLOCK, Binding, Kind, NOTICES, Statement, Told, block, number_at, put_number};
+use text::{COMMA, NUMBER_MAX, Read, ZERO};
 
 // The bytes of a group all of whose fields are 0.
 const EMPTY_BYTES: usize = 8;
@@ -19,72 +21,53 @@ const FIXED_BYTES: usize = 6;
 // The same of a group with a payload alone, in which what is kept is 0.
 const PAYLOAD_BYTES: usize = 7;
 
-// At most 64.
-pub fn few(n: usize) -> usize
-    ensures { (result ≡ min n 64) × (result ≤ 64) }
-{
-    if n < NOTICES {
-        return n;
-    }
-    NOTICES
-}
-
 // The largest payload of a field that is used, and of one that is not.
 fn limit(used: bool) -> u64
     ensures { result ≡ limit used }
 {
-    if used {
-        return NUMBER_MAX;
-    }
-    0
+    if used { NUMBER_MAX } else { 0 }
 }
 
 fn binding_of(n: u64, payload: u64) -> Binding
     ensures { result ≡ binding_from n payload }
 {
-    if n == 1 {
-        return Binding::Bound(payload);
-    }
-    if n == 2 {
-        Binding::Barred
-    } else {
-        Binding::Unbound
+    match n {
+        1 => Binding::Bound(payload),
+        2 => Binding::Barred,
+        _ => Binding::Unbound,
     }
 }
 
 // One notice's fields. A payload that is not bound and one kept that is not stored are 0.
-fn group_at(s: &[u8], at: usize) -> GroupPart
-    ensures { From group_text FitsGroup s.now true at result.ok (told_is result.told) result.next }
+fn group_at(s: &[u8], at: usize) -> Option<Read<Told>>
+    ensures { From group_text FitsGroup s.now at (meant told_is result) }
 {
-    let binding = number_at(s, at, 2);
-    let payload = number_at(s, binding.next, limit(binding.value == 1));
-    let stored = number_at(s, payload.next, 1);
-    let kept = number_at(s, stored.next, limit(stored.value == 1));
-    let told = Told {
-        binding: binding_of(binding.value, payload.value),
-        stored: stored.value == 1,
-        kept: kept.value,
-    };
-    GroupPart {
-        ok: kept.ok,
-        told: told,
+    let binding = number_at(s, at, 2)?;
+    let payload = number_at(s, binding.next, limit(binding.value == 1))?;
+    let stored = number_at(s, payload.next, 1)?;
+    let kept = number_at(s, stored.next, limit(stored.value == 1))?;
+    Some(Read {
+        value: Told {
+            binding: binding_of(binding.value, payload.value),
+            stored: stored.value == 1,
+            kept: kept.value,
+        },
         next: kept.next,
-    }
+    })
 }
 
 // The fields of a kind that uses the payload at most.
-fn payload_at(s: &[u8], at: usize) -> Part
-    ensures { From payload_text FitsPayload s.now true at result.ok result.value result.next }
+fn payload_at(s: &[u8], at: usize) -> Option<Read<u64>>
+    ensures { From payload_text FitsPayload s.now at result }
 {
-    let binding = number_at(s, at, 0);
-    let payload = number_at(s, binding.next, NUMBER_MAX);
-    let stored = number_at(s, payload.next, 0);
-    let kept = number_at(s, stored.next, 0);
-    Part {
-        ok: kept.ok,
+    let binding = number_at(s, at, 0)?;
+    let payload = number_at(s, binding.next, NUMBER_MAX)?;
+    let stored = number_at(s, payload.next, 0)?;
+    let kept = number_at(s, stored.next, 0)?;
+    Some(Read {
         value: payload.value,
         next: kept.next,
-    }
+    })
 }
 
 // Whether a comma and a 0 stand at a position.
@@ -99,10 +82,7 @@ fn zero_at(s: &[u8], at: usize) -> bool
 fn nothing_at(s: &[u8], at: usize) -> bool
     ensures { NothingAt s.now at result }
 {
-    if at >= s.len() {
-        return false;
-    }
-    if s.len() - at <= EMPTY_BYTES {
+    if s.len().saturating_sub(at) <= EMPTY_BYTES {
         return false;
     }
     zero_at(s, at)
@@ -112,47 +92,39 @@ fn nothing_at(s: &[u8], at: usize) -> bool
         & (s[at + EMPTY_BYTES] == COMMA)
 }
 
-// The fields of n notices, which the block tells from now on. A damaged group ends the reading.
-fn groups_at(s: &[u8], from: usize, n: usize, block: &mut [u64; BLOCK]) -> Part
+// The fields of n notices, which the block tells from now on, and the position after them. A damaged group ends the reading.
+fn groups_at(s: &[u8], from: usize, n: usize, block: &mut [u64; BLOCK]) -> Option<usize>
     requires { n ≤ 64 }
-    ensures { From groups_text (FitsGroups n) s.now true from result.ok (list_of n (group_at block.new)) result.next }
+    ensures { From groups_text (FitsGroups n) s.now from (option_map (read (list_of n (group_at block.new))) result) }
 {
     block::clear(block);
     let mut at = from;
-    let mut j = 0usize;
-    while j < n {
+    for j in 0..n {
         if nothing_at(s, at) {
             at += EMPTY_BYTES;
-            j += 1;
             continue;
         }
-        let p = group_at(s, at);
-        if !p.ok {
-            return Part {
-                ok: false,
-                value: 0,
-                next: s.len(),
-            };
-        }
-        let t = p.told;
-        block::tell(block, j, t);
-        at = p.next;
-        j += 1;
+        let group = group_at(s, at)?;
+        block::tell(block, j, group.value);
+        at = group.next;
     }
-    Part {
-        ok: true,
-        value: 0,
-        next: at,
-    }
+    Some(at)
 }
 
 // The groups of a statement of this kind: a report's go into the block, and the payload of any other kind is answered.
-pub fn told_from(s: &[u8], from: usize, kind: u8, n: usize, block: &mut [u64; BLOCK]) -> Part
+pub fn told_from(
+    s: &[u8],
+    from: usize,
+    kind: u8,
+    n: usize,
+    block: &mut [u64; BLOCK],
+) -> Option<Read<u64>>
     requires { n ≤ 64 }
-    ensures { From groups_text (FitsTold (eqb kind 5) n) s.now true from result.ok (groups_of kind n result.value block.new) result.next }
+    ensures { From groups_text (FitsTold (eqb kind 5) n) s.now from (meant (λ m. groups_of kind n m block.new) result) }
 {
-    if kind == REPORT {
-        return groups_at(s, from, n, block);
+    if kind == Kind::Report as u8 {
+        let next = groups_at(s, from, n, block)?;
+        return Some(Read { value: 0, next });
     }
     payload_at(s, from)
 }
@@ -168,44 +140,42 @@ pub fn number_of(b: Binding) -> u64
     }
 }
 
-fn kept_of(stored: bool, kept: u64) -> u64
-    ensures { result ≡ kept_payload (when stored kept) }
-{
-    if stored {
-        return kept;
+impl Told {
+    // The payload that is kept, or 0.
+    fn kept_payload(self) -> u64
+        ensures { result ≡ kept_payload (when self.stored self.kept) }
+    {
+        if self.stored { self.kept } else { 0 }
     }
-    0
 }
 
 // How long the text of one notice's fields is.
 fn group_len(t: Told) -> usize
     ensures { (result ≡ length (group_text (told_is t))) × (result ≤ 46) }
 {
-    let b = t.binding;
-    text::dec_len(block::bound_payload(b)) + text::dec_len(kept_of(t.stored, t.kept)) + FIXED_BYTES
+    text::dec_len(block::bound_payload(t.binding)) + text::dec_len(t.kept_payload()) + FIXED_BYTES
 }
 
 fn groups_len(block: &[u64; BLOCK], n: usize) -> usize
     requires { n ≤ 64 }
     ensures { (result ≡ length (groups_text (list_of n (group_at block.now)))) × (result ≤ 46 * n) }
 {
-    let mut size = 0usize;
-    let mut j = 0usize;
-    while j < n {
+    let mut size = 0;
+    for j in 0..n {
         size += group_len(block::told_at(block, j));
-        j += 1;
     }
     size
 }
 
-// How long the text of the groups is.
-pub fn told_len(kind: u8, groups: usize, payload: u64, block: &[u64; BLOCK]) -> usize
-    ensures { (result ≡ length (groups_text (groups_of kind groups payload block.now))) × (result ≤ 2944) }
+// How long the text of a statement's groups is.
+pub fn told_len(st: &Statement, block: &[u64; BLOCK]) -> usize
+    ensures { (result ≡ length (groups_text (groups_of st.now.kind st.now.groups st.now.payload block.now))) × (result ≤ 2944) }
 {
-    if kind == REPORT {
-        return groups_len(block, few(groups));
+    if st.kind == Kind::Report as u8 {
+        groups_len(block, st.groups.min(NOTICES))
+    } else {
+        text::dec_len(st.payload) + PAYLOAD_BYTES
     }
-    text::dec_len(payload) + PAYLOAD_BYTES
 }
 
 // Writes the fields from the binding to what is kept.
@@ -230,14 +200,13 @@ fn put_group(out: &mut [u8], at: usize, t: Told) -> usize
     requires { at + length (group_text (told_is t)) ≤ length out.old }
     ensures { Wrote out.old at (group_text (told_is t)) result out.new }
 {
-    let b = t.binding;
     put_second(
         out,
         at,
-        number_of(b),
-        block::bound_payload(b),
-        t.stored as u64,
-        kept_of(t.stored, t.kept),
+        number_of(t.binding),
+        block::bound_payload(t.binding),
+        u64::from(t.stored),
+        t.kept_payload(),
     )
 }
 
@@ -246,28 +215,20 @@ fn put_groups(out: &mut [u8], from: usize, block: &[u64; BLOCK], n: usize) -> us
     ensures { Wrote out.old from (groups_text (list_of n (group_at block.now))) result out.new }
 {
     let mut at = from;
-    let mut j = 0usize;
-    while j < n {
+    for j in 0..n {
         at = put_group(out, at, block::told_at(block, j));
-        j += 1;
     }
     at
 }
 
-// Writes the groups from a position with room for them, and answers the next position.
-pub fn put_told(
-    out: &mut [u8],
-    at: usize,
-    kind: u8,
-    groups: usize,
-    payload: u64,
-    block: &[u64; BLOCK],
-) -> usize
-    requires { at + length (groups_text (groups_of kind groups payload block.now)) ≤ length out.old }
-    ensures { Wrote out.old at (groups_text (groups_of kind groups payload block.now)) result out.new }
+// Writes a statement's groups from a position with room for them, and answers the next position.
+pub fn put_told(out: &mut [u8], at: usize, st: &Statement, block: &[u64; BLOCK]) -> usize
+    requires { at + length (groups_text (groups_of st.now.kind st.now.groups st.now.payload block.now)) ≤ length out.old }
+    ensures { Wrote out.old at (groups_text (groups_of st.now.kind st.now.groups st.now.payload block.now)) result out.new }
 {
-    if kind == REPORT {
-        return put_groups(out, at, block, few(groups));
+    if st.kind == Kind::Report as u8 {
+        put_groups(out, at, block, st.groups.min(NOTICES))
+    } else {
+        put_second(out, at, 0, st.payload, 0, 0)
     }
-    put_second(out, at, 0, payload, 0, 0)
 }

@@ -9,10 +9,7 @@ use crate::NOTICES;
 pub fn has(set: u64, j: usize) -> bool
     ensures { result ≡ bit set j }
 {
-    if j >= NOTICES {
-        return false;
-    }
-    (set >> j) % 2 == 1
+    j < NOTICES && (set >> j) % 2 == 1
 }
 
 // The set, with notice j in it or not. A number above 63 changes nothing.
@@ -23,11 +20,7 @@ pub fn put_notice(set: u64, j: usize, yes: bool) -> u64
         return set;
     }
     let one = 1u64 << j;
-    let more = set | one;
-    if yes {
-        return more;
-    }
-    more ^ one
+    if yes { set | one } else { set & !one }
 }
 
 // The set with notice j in it.
@@ -55,7 +48,7 @@ pub fn either(a: u64, b: u64) -> u64
 pub fn except(a: u64, b: u64) -> u64
     ensures { Except a b result }
 {
-    a - (a & b)
+    a & !b
 }
 
 // The least notice of the set from j on, or 64 where there is none.
@@ -65,9 +58,5 @@ pub fn next_in(set: u64, j: usize) -> usize
     if j >= NOTICES {
         return NOTICES;
     }
-    let rest = set >> j;
-    if rest == 0 {
-        return NOTICES;
-    }
-    j + u64::trailing_zeros(rest) as usize
+    (j + (set >> j).trailing_zeros() as usize).min(NOTICES)
 }

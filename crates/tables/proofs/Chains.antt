@@ -2,47 +2,50 @@
 -- Assumes nothing.
 use mathlib.Core.Path.{◌≡◌, refl, sym, ap, ◌∙◌}
 use mathlib.Core.List.{List}
-use Prim.Native.Nat.{ℕ, ◌+◌, ◌-◌, ◌*◌, ◌≤◌, ◌<◌}
+use Prim.Native.Nat.{ℕ, ◌+◌, ◌*◌, ◌≤◌, ◌<◌}
 use native.Mathlib.Decide.{ℕ_discrete}
 use native.Mathlib.Omega.{arith}
 use lib.ListN.{replicate, get_or-replicate}
-use Rattle.tables.specs.Index.{newest_at, older_at, SameRows, SameKeys, Empty, RowLinked, RowNumbered, RowKeyed, Newest, Chained, slot_of, slot_at, Indexed, RowAdded}
+use Rattle.std.specs.Prelude.{Option, Some, None}
+use Rattle.tables.specs.Index.{row_of, newest_at, older_at, SameRows, SameKeys, Empty, RowLinked, RowNumbered, RowKeyed, Newest, Chained, slot_of, slot_at, Indexed, RowAdded}
 
-newest-first : (at : ℕ → ℕ) (s x : ℕ) → x ≡ 0 → Newest at 0 s x
-newest-first at s x e = record { most = omega arith; here = λ p. absurd (omega arith); all = λ i l. absurd (omega arith) }
+newest-first : (at : ℕ → ℕ) (s : ℕ) {x : Option ℕ} → x ≡ None → Newest at 0 s x
+newest-first at s e = record { here = λ i f. absurd (cc); all = λ i l. absurd (omega arith) }
 
-newest-same : (at at' : ℕ → ℕ) (n s s' x : ℕ) → ((i : ℕ) → i < n → at' i ≡ at i) → s' ≡ s → Newest at n s x → Newest at' n s' x
-newest-same at at' n s s' x f e w = record {
-  most = w.most;
-  here = λ p. f (x - 1) (omega (arith, w.most)) ∙ w.here p ∙ sym e;
+newest-same : (at at' : ℕ → ℕ) (n s s' : ℕ) {x : Option ℕ} → ((i : ℕ) → i < n → at' i ≡ at i) → s' ≡ s → Newest at n s x → Newest at' n s' x
+newest-same at at' n s s' f e w = record {
+  here = λ i q. let h = w.here i q in (h.0, f i h.0 ∙ h.1 ∙ sym e);
   all = λ i l q. w.all i l (sym (f i l) ∙ q ∙ e);
 }
 
 -- row n is of slot s
-newest-new : (at : ℕ → ℕ) (n s x : ℕ) → at n ≡ s → x ≡ n + 1 → Newest at (n + 1) s x
-newest-new at n s x e f = rw f (record { most = omega arith; here = λ p. let q : n + 1 - 1 ≡ n = omega arith in rw q e; all = λ i l q. l })
+newest-new : (at : ℕ → ℕ) (n s : ℕ) {x : Option ℕ} → at n ≡ s → x ≡ Some n → Newest at (n + 1) s x
+newest-new at n s e f = record {
+  here = λ i q. let h : i ≡ n = cc in (omega arith, ap at h ∙ e);
+  all = λ i l q. (n, f, omega arith);
+}
 
 -- row n is of another
-newest-old : (at : ℕ → ℕ) (n s x : ℕ) → (at n ≡ s → ⊥) → Newest at n s x → Newest at (n + 1) s x
-newest-old at n s x d w = record { most = omega (arith, w.most); here = w.here; all = λ i l q. go i l q (ℕ_discrete i n) }
+newest-old : (at : ℕ → ℕ) (n s : ℕ) {x : Option ℕ} → (at n ≡ s → ⊥) → Newest at n s x → Newest at (n + 1) s x
+newest-old at n s {x} d w = record { here = λ i q. let h = w.here i q in (omega (arith, h.0), h.1); all = λ i l q. go i l q (ℕ_discrete i n) }
   where
-    go : (i : ℕ) → i < n + 1 → at i ≡ s → Dec (i ≡ n) → i < x
+    go : (i : ℕ) → i < n + 1 → at i ≡ s → Dec (i ≡ n) → (j : ℕ) × (x ≡ Some j) × (i ≤ j)
     go i l q (yes u) = absurd (d (rw u at q))
     go i l q (no u) = w.all i (omega arith) q
 
 -- an array that was just made
 pub empty-made : (t : ℕ) → t < 2 → Empty (replicate 2560 0) t
-unfolding newest_at
-empty-made t l = record { none = λ s h. get_or-replicate {A = ℕ} 2560 (t * 1280 + s) 0 0 (omega arith) }
+unfolding newest_at row_of
+empty-made t l = record { none = λ s h. ap row_of (get_or-replicate {A = ℕ} 2560 (t * 1280 + s) 0 0 (omega arith)) }
 
 pub chained-first : {at : ℕ → ℕ} {R : List ℕ} {t : ℕ} → Empty R t → Chained at R t 0
-chained-first f = record { slots = λ s l. newest-first _ s _ (f.none s l); links = λ i l. absurd (omega arith) }
+chained-first f = record { slots = λ s l. newest-first _ s (f.none s l); links = λ i l. absurd (omega arith) }
 
 -- the rows below n are of the same slots
 pub chained_same : {at at' : ℕ → ℕ} {R : List ℕ} {t n : ℕ} → ((i : ℕ) → i < n → at' i ≡ at i) → Chained at R t n → Chained at' R t n
 chained_same f w = record {
-  slots = λ s l. newest-same _ _ _ s s _ f refl (w.slots s l);
-  links = λ i l. newest-same _ _ i _ _ _ (λ j m. f j (omega arith)) (f i l) (w.links i l);
+  slots = λ s l. newest-same _ _ _ s s f refl (w.slots s l);
+  links = λ i l. newest-same _ _ i _ _ (λ j m. f j (omega arith)) (f i l) (w.links i l);
 }
 
 -- the index is the same
@@ -61,8 +64,8 @@ pub chained-new : {at : ℕ → ℕ} {R R' : List ℕ} {t s n : ℕ} → n < 512
 chained-new {at} {R} {R'} {t} {s} {n} l m e put w = record { slots = λ z h. slot z h (ℕ_discrete z s); links = λ i h. link i h (ℕ_discrete i n) }
   where
     slot : (z : ℕ) → z < 256 → Dec (z ≡ s) → Newest at (n + 1) z (newest_at R' t z)
-    slot z h (yes u) = newest-new at n z _ (e ∙ sym u) (ap (newest_at R' t) u ∙ put.newest)
-    slot z h (no u) = rw (put.slots z h u) (newest-old at n z _ (λ v. u (sym v ∙ e)) (w.slots z h))
+    slot z h (yes u) = newest-new at n z (e ∙ sym u) (ap (newest_at R' t) u ∙ put.newest)
+    slot z h (no u) = rw (put.slots z h u) (newest-old at n z (λ v. u (sym v ∙ e)) (w.slots z h))
 
     link : (i : ℕ) → i < n + 1 → Dec (i ≡ n) → Newest at i (at i) (older_at R' t i)
     link i h (yes u) = rw (u, put.older, e) (w.slots s m)

@@ -1,6 +1,6 @@
 // The memory of the tables, read and written.
-ghost use Rattle.std.specs.Prelude.{◌≡◌, ◌<◌, length};
-ghost use Rattle.tables.specs.Index.{newest_at, older_at, number_at, key_at, SlotsCleared, RowLinked, RowNumbered, RowKeyed};
+ghost use Rattle.std.specs.Prelude.{◌≡◌, ◌<◌};
+ghost use Rattle.tables.specs.Index.{row_of, newest_at, older_at, number_at, key_at, SlotsCleared, RowLinked, RowNumbered, RowKeyed};
 
 // The most rows of a table.
 pub const CAPACITY: usize = 512;
@@ -21,42 +21,27 @@ pub const ROWS: usize = 2 * TABLE;
 // The keys of two tables.
 pub const KEYS: usize = 2 * CAPACITY;
 
-// How many numbers and words the memory has. A proof that one was written asks for it.
-
-fn rows_room(rows: &[u16; ROWS]) -> usize
-    ensures { length rows.now ≡ 2560 }
+// The row that a link stands for. This is the one place where links are read as rows.
+fn row_of(link: u16) -> Option<usize>
+    ensures { result ≡ row_of link }
 {
-    let s = &rows[..];
-    s.len()
+    usize::from(link).checked_sub(1)
 }
 
-fn keys_room(keys: &[u64; KEYS]) -> usize
-    ensures { length keys.now ≡ 1024 }
-{
-    let s = &keys[..];
-    s.len()
-}
-
-fn wide(x: u16) -> usize
-    ensures { result ≡ x }
-{
-    x as usize
-}
-
-// The newest row of a slot, plus one.
-pub fn newest(rows: &[u16; ROWS], t: usize, slot: usize) -> usize
+// The newest row of a slot.
+pub fn newest(rows: &[u16; ROWS], t: usize, slot: usize) -> Option<usize>
     requires { (t < 2) × (slot < 256) }
     ensures { result ≡ newest_at rows.now t slot }
 {
-    wide(rows[t * TABLE + slot])
+    row_of(rows[t * TABLE + slot])
 }
 
-// The row before this one in its slot, plus one.
-pub fn older(rows: &[u16; ROWS], t: usize, row: usize) -> usize
+// The row before this one in its slot.
+pub fn older(rows: &[u16; ROWS], t: usize, row: usize) -> Option<usize>
     requires { (t < 2) × (row < 512) }
     ensures { result ≡ older_at rows.now t row }
 {
-    wide(rows[t * TABLE + LINKS + row])
+    row_of(rows[t * TABLE + LINKS + row])
 }
 
 // The number of a row.
@@ -80,13 +65,8 @@ pub fn clear(rows: &mut [u16; ROWS], t: usize)
     requires { t < 2 }
     ensures { SlotsCleared rows.old t rows.new }
 {
-    rows_room(rows);
     let from = t * TABLE;
-    let mut s = 0usize;
-    while s < SLOTS {
-        rows[from + s] = 0;
-        s += 1;
-    }
+    rows[from..from + SLOTS].fill(0);
 }
 
 // Puts a row into a slot, before the rows that the slot has.
@@ -94,7 +74,6 @@ pub fn link(rows: &mut [u16; ROWS], t: usize, slot: usize, row: usize)
     requires { (t < 2) × (slot < 256) × (row < 512) }
     ensures { RowLinked rows.old t slot row rows.new }
 {
-    rows_room(rows);
     let before = rows[t * TABLE + slot];
     rows[t * TABLE + LINKS + row] = before;
     rows[t * TABLE + slot] = row as u16 + 1;
@@ -105,7 +84,6 @@ pub fn set_number(rows: &mut [u16; ROWS], t: usize, row: usize, x: u16)
     requires { (t < 2) × (row < 512) }
     ensures { RowNumbered rows.old t row x rows.new }
 {
-    rows_room(rows);
     rows[t * TABLE + NUMBERS + row] = x;
 }
 
@@ -114,6 +92,5 @@ pub fn set_key(keys: &mut [u64; KEYS], t: usize, row: usize, w: u64)
     requires { (t < 2) × (row < 512) }
     ensures { RowKeyed keys.old t row w keys.new }
 {
-    keys_room(keys);
     keys[t * CAPACITY + row] = w;
 }

@@ -1,6 +1,6 @@
 // The rows of a key.
-ghost use Rattle.std.specs.Prelude.{◌≡◌, ℕ, ◌-◌, ◌/◌, ◌%◌, ◌≤◌, ◌<◌};
-ghost use Rattle.tables.specs.Index.{key_at, slot_of, slot_at, Indexed, RowAdded, Latest};
+ghost use Rattle.std.specs.Prelude.{◌≡◌, Bool, ℕ, ◌/◌, ◌%◌, ◌≤◌, ◌<◌};
+ghost use Rattle.tables.specs.Index.{key_at, slot_of, Leads, Tells, Finds, Indexed, RowAdded, Latest};
 
 use crate::rows;
 use crate::rows::{KEYS, ROWS, SLOTS};
@@ -42,40 +42,43 @@ pub fn add(keys: &mut [u64; KEYS], rows: &mut [u16; ROWS], t: usize, row: usize,
     rows::link(rows, t, slot(w), row);
 }
 
-// Of the rows below `from`, whose last is of the slot of w, the newest with the key w, plus one.
-fn walk(keys: &[u64; KEYS], rows: &[u16; ROWS], t: usize, w: u64, from: usize) -> usize
-    requires { (t < 2) × ((n : ℕ) × Indexed keys.now rows.now t n × (from ≤ n)) × (0 < from → slot_at keys.now t (from - 1) ≡ slot_of w) }
-    ensures { Latest keys.now t w from result }
+// The first row that `has` holds of, from `from` on down its slot.
+pub fn find<F: Fn(usize) -> bool>(
+    rows: &[u16; ROWS],
+    t: usize,
+    from: Option<usize>,
+    has: F,
+) -> Option<usize>
+    requires table { t < 2 }
+    requires linked { Leads rows.now t from }
+    requires callable { (row : ℕ) → row < 512 → F.pre has row }
+    ensures { (test : ℕ → Bool) → Tells (F.post has) test → Finds rows.now t from test result }
 {
-    let mut x = from;
-    while x > 0 {
-        let i = x - 1;
-        if rows::key(keys, t, i) == w {
-            return x;
+    let mut at = from;
+    while let Some(row) = at {
+        if has(row) {
+            return Some(row);
         }
-        x = rows::older(rows, t, i);
+        at = rows::older(rows, t, row);
     }
-    0
+    None
 }
 
-// The newest row with the key w, plus one.
-pub fn first(keys: &[u64; KEYS], rows: &[u16; ROWS], t: usize, w: u64) -> usize
+// The newest row with the key w.
+pub fn first(keys: &[u64; KEYS], rows: &[u16; ROWS], t: usize, w: u64) -> Option<usize>
     requires { (t < 2) × ((n : ℕ) × Indexed keys.now rows.now t n) }
     ensures { (n : ℕ) → Indexed keys.now rows.now t n → Latest keys.now t w n result }
 {
-    walk(keys, rows, t, w, rows::newest(rows, t, slot(w)))
+    let newest = rows::newest(rows, t, slot(w));
+    find(rows, t, newest, |row| rows::key(keys, t, row) == w)
 }
 
-// The newest row before this one that has its key, plus one.
-pub fn next(keys: &[u64; KEYS], rows: &[u16; ROWS], t: usize, row: usize) -> usize
+// The newest row before this one that has its key.
+pub fn next(keys: &[u64; KEYS], rows: &[u16; ROWS], t: usize, row: usize) -> Option<usize>
     requires { (t < 2) × ((n : ℕ) × Indexed keys.now rows.now t n × (row < n)) }
     ensures { Latest keys.now t (key_at keys.now t row) row result }
 {
-    walk(
-        keys,
-        rows,
-        t,
-        rows::key(keys, t, row),
-        rows::older(rows, t, row),
-    )
+    let w = rows::key(keys, t, row);
+    let before = rows::older(rows, t, row);
+    find(rows, t, before, |row| rows::key(keys, t, row) == w)
 }

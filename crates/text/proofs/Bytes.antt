@@ -1,13 +1,28 @@
 -- Digits and their bytes. Assumes nothing.
-use Prim.Native.Nat.{ℕ, zero, suc, ◌+◌, ◌-◌, ◌<◌, ◌≤◌}
+use Prim.Native.Nat.{ℕ, ◌+◌, ◌-◌, ◌<◌, ◌≤◌}
 use native.Mathlib.Omega.{arith}
-use mathlib.Core.Path.{◌≡◌, refl, ◌∙◌}
-use mathlib.Core.Bool.{Bool, true, false, false≢true}
+use mathlib.Core.Path.{◌≡◌, refl, ap, ◌∙◌}
+use Rattle.std.specs.Prelude.{Option, None, Some}
+use mathlib.Core.Bool.{Bool, true, false}
 use mathlib.Core.Logic.{◌⊎◌, inl, inr, ⊎_elim}
 use lib.Dec.{ltb}
 use borrow.Author.Tests.{ltb-true, ltb-false, lt-ltb, le-ltb}
+use Rattle.std.specs.Char.{is_ascii_digit}
 use Rattle.text.specs.Text.{glyph}
-use Rattle.text.specs.Scan.{is_digit, hex_val}
+use Rattle.text.specs.declared.Read.{Read}
+use Rattle.text.specs.Scan.{found, hex_val, hex_digit}
+
+-- ---- what was found is one value and one position
+abbrev value_of : Option (Read ℕ) → ℕ
+value_of None = 0
+value_of (Some r) = r.value
+
+abbrev next_of : Option (Read ℕ) → ℕ
+next_of None = 0
+next_of (Some r) = r.next
+
+pub same_found : {a i v n : ℕ} → found a i ≡ found v n → (a ≡ v) × (i ≡ n)
+same_found e = (ap value_of e, ap next_of e)
 
 pub below? : (a b : ℕ) → (a < b) ⊎ (b ≤ a)
 below? a b = go (ltb a b) refl
@@ -16,29 +31,17 @@ below? a b = go (ltb a b) refl
     go true e = inl (ltb-true a b e)
     go false e = inr (ltb-false a b e)
 
-pub digit-is : (c : ℕ) → 48 ≤ c → c < 58 → is_digit c ≡ true
-digit-is c l h = simp (le-ltb c 48 l, lt-ltb c 58 h)
+pub digit-is : (c : ℕ) → 48 ≤ c → c < 58 → is_ascii_digit c ≡ true
+digit-is c l h = grind arith
 
-pub digit-range : (c : ℕ) → is_digit c ≡ true → (48 ≤ c) × (c < 58)
-digit-range c e = ⊎_elim (λ l. absurd (false≢true (simp (lt-ltb c 48 l) at e))) (λ g. (g, ltb-true c 58 (simp (le-ltb c 48 g) at e))) (below? c 48)
+pub digit-range : (c : ℕ) → is_ascii_digit c ≡ true → (48 ≤ c) × (c < 58)
+digit-range c e = grind arith
 
 pub digit-back : (c : ℕ) → (48 ≤ c) × (c < 58) → 48 + (c - 48) ≡ c
 digit-back c h = omega arith
 
 pub digit-less : (c : ℕ) → (48 ≤ c) × (c < 58) → c - 48 < 10
 digit-less c h = omega arith
-
--- ---- what the last arm of a table knows: none of the numbers before it
-abbrev pub NoneOf : ℕ → ℕ → Type 0
-NoneOf zero d = Unit {0}
-NoneOf (suc n) d = NoneOf n d × (d ≡ n → ⊥)
-
-pub not-below : (n d : ℕ) → NoneOf n d → n ≤ d
-not-below zero d h = omega arith
-not-below (suc n) d h = let l : n ≤ d = not-below n d h.0 in let k : d ≡ n → ⊥ = h.1 in omega arith
-
-pub last_one : (n d : ℕ) → NoneOf n d → d < suc n → d ≡ n
-last_one n d h l = let k : n ≤ d = not-below n d h in omega arith
 
 pub glyph-small : (d : ℕ) → d < 10 → glyph d ≡ 48 + d
 glyph-small d h = simp (lt-ltb d 10 h)
@@ -73,3 +76,12 @@ byte_of c h =
     (λ g2. ⊎_elim (λ l. absurd (omega (arith, val-3 c g2 l)))
     (λ g3. ⊎_elim (λ l. let k : 10 ≤ c - 87 = omega arith in rw (val-4 c g3 l) (rw (le-ltb (c - 87) 10 k) (omega arith)))
     (λ g4. absurd (omega (arith, val-5 c g4))) (below? c 103)) (below? c 97)) (below? c 58)) (below? c 48)
+
+-- ---- whether a byte has a value
+pub digit_none : (c : ℕ) → None ≡ hex_digit c → 16 ≤ hex_val c
+digit_none c e = ⊎_elim (λ l. absurd (let z : ◌≡◌ {A = Option ℕ} None (Some (hex_val c)) = e ∙ rw (lt-ltb (hex_val c) 16 l) in let y : ◌≡◌ {A = ℕ} 0 1 = cc in omega arith)) (λ g. g) (below? (hex_val c) 16)
+
+pub digit_some : (c d : ℕ) → Some d ≡ hex_digit c → (d ≡ hex_val c) × (d < 16)
+digit_some c d e =
+    ⊎_elim (λ l. let z : ◌≡◌ {A = Option ℕ} (Some d) (Some (hex_val c)) = e ∙ rw (lt-ltb (hex_val c) 16 l) in let y : d ≡ hex_val c = cc in (y, omega arith))
+    (λ g. absurd (let z : ◌≡◌ {A = Option ℕ} (Some d) None = e ∙ rw (le-ltb (hex_val c) 16 g) in let y : ◌≡◌ {A = ℕ} 0 1 = cc in omega arith)) (below? (hex_val c) 16)

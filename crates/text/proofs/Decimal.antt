@@ -12,10 +12,10 @@ use mathlib.Core.List.{List, [], ◌∷◌, ◌++◌, append_assoc}
 use lib.Dec.{ltb, eqb}
 use lib.ListN.{length, length-append}
 use borrow.Author.Tests.{ltb-true, lt-ltb, le-ltb, eqb-true, eqb-false, ne_eqb}
-use Rattle.text.specs.declared.Read.TheVariants.{Got}
+use Rattle.std.specs.Char.{is_ascii_digit}
 use Rattle.text.specs.Text.{glyph, digits, dec_text}
-use Rattle.text.specs.Scan.{is_digit, Stops, scan_dec, zero_then, dec_from}
-use Rattle.text.proofs.Bytes.{below?, digit-is, digit-range, digit-back, digit-less, glyph-small}
+use Rattle.text.specs.Scan.{found, Stops, scan_dec, zero_then, dec_from}
+use Rattle.text.proofs.Bytes.{same_found, below?, digit-is, digit-range, digit-back, digit-less, glyph-small}
 
 -- ---- the text
 -- any number of steps from n on is enough
@@ -67,7 +67,7 @@ pub most-long : (n : ℕ) → n < 18446744073709551616 → length (dec_text n) �
 most-long n h = long-below 19 n (omega arith)
 
 -- ---- reading
-scan-stops : (n i : ℕ) (s : List ℕ) → Stops s → scan_dec n i s ≡ Got n i
+scan-stops : (n i : ℕ) (s : List ℕ) → Stops s → scan_dec n i s ≡ found n i
 unfolding scan_dec
 scan-stops n i [] h = refl
 scan-stops n i (c ∷ s) h = rw h
@@ -120,13 +120,13 @@ from-scan d i t h l =
     let e : 0 * 10 + d ≡ 48 + d - 48 = omega arith in
     rw (ne_eqb (48 + d) 48 ne) (rw (digit-is (48 + d) (omega arith) (omega arith)) (sym (scan-digit 0 d i t l (zero-fits d l) ∙ ap (λ (k : ℕ). scan_dec k (i + 1) t) e)))
 
-from_zero : (i : ℕ) (s : List ℕ) → Stops s → dec_from i (dec_text 0 ++ s) ≡ Got 0 (i + length (dec_text 0))
+from_zero : (i : ℕ) (s : List ℕ) → Stops s → dec_from i (dec_text 0 ++ s) ≡ found 0 (i + length (dec_text 0))
 unfolding dec_text digits dec_from zero_then
 from_zero i [] h = refl
 from_zero i (c ∷ s) h = rw h
 
 -- WHAT IS WRITTEN IS READ BACK
-pub dec-from : (n i : ℕ) (s : List ℕ) → n < 18446744073709551616 → Stops s → dec_from i (dec_text n ++ s) ≡ Got n (i + length (dec_text n))
+pub dec-from : (n i : ℕ) (s : List ℕ) → n < 18446744073709551616 → Stops s → dec_from i (dec_text n ++ s) ≡ found n (i + length (dec_text n))
 dec-from n i s hn stop = ⊎_elim (λ pos.
     let p = dec-head n n (omega arith) pos in
     ap (λ (t : List ℕ). dec_from i (t ++ s)) p.4 ∙ from-scan p.0 i (p.1 ++ s) p.2 p.3
@@ -144,13 +144,12 @@ abbrev Reached : List ℕ → ℕ → List ℕ → ℕ → ℕ → Type 0
 Reached pre i s v n = (rest : List ℕ) × (pre ++ s ≡ dec_text v ++ rest) × (n + length rest ≡ i + length s) × (v < 18446744073709551616)
 
 abbrev Only : List ℕ → Type 0
-Only s = (a i v n : ℕ) → 0 < a → a < 18446744073709551616 → scan_dec a i s ≡ Got v n → Reached (dec_text a) i s v n
+Only s = (a i v n : ℕ) → 0 < a → a < 18446744073709551616 → scan_dec a i s ≡ found v n → Reached (dec_text a) i s v n
 
 -- it stopped here
-here : (a i v n : ℕ) (s : List ℕ) → a < 18446744073709551616 → Got a i ≡ Got v n → Reached (dec_text a) i s v n
+here : (a i v n : ℕ) (s : List ℕ) → a < 18446744073709551616 → found a i ≡ found v n → Reached (dec_text a) i s v n
 here a i v n s ha e =
-    let ev : a ≡ v = cc in
-    let en : i ≡ n = cc in
+    let (ev, en) = same_found e in
     (s, rw ev, rw en, rw ev at ha)
 
 step-list : (a c : ℕ) (s : List ℕ) → 0 < a → (48 ≤ c) × (c < 58) → dec_text (a * 10 + (c - 48)) ++ s ≡ dec_text a ++ (c ∷ s)
@@ -158,16 +157,16 @@ step-list a c s ha r = ap (λ (t : List ℕ). t ++ s) (dec-step a (c - 48) ha (d
 
 only_step : (c : ℕ) (s : List ℕ) → Only s → Only (c ∷ s)
 unfolding scan_dec
-only_step c s ih a i v n ha fits e = go (is_digit c) refl
+only_step c s ih a i v n ha fits e = go (is_ascii_digit c) refl
   where
-    took : is_digit c ≡ true → (t : Bool) → ltb (a * 10 + (c - 48)) 18446744073709551616 ≡ t → Reached (dec_text a) i (c ∷ s) v n
+    took : is_ascii_digit c ≡ true → (t : Bool) → ltb (a * 10 + (c - 48)) 18446744073709551616 ≡ t → Reached (dec_text a) i (c ∷ s) v n
     took p false q = absurd (let z : ◌≡◌ {A = ℕ} 0 1 = cc (simp (p, q) at e) in omega arith)
     took p true q =
         let h = ltb-true (a * 10 + (c - 48)) 18446744073709551616 q in
         let r = ih (a * 10 + (c - 48)) (i + 1) v n (omega arith) h (simp (p, q) at e) in
         (r.0, sym (step-list a c s ha (digit-range c p)) ∙ r.1, omega (arith, r.2), r.3)
 
-    go : (t : Bool) → is_digit c ≡ t → Reached (dec_text a) i (c ∷ s) v n
+    go : (t : Bool) → is_ascii_digit c ≡ t → Reached (dec_text a) i (c ∷ s) v n
     go false p = here a i v n (c ∷ s) fits (simp p at e)
     go true p = took p (ltb (a * 10 + (c - 48)) 18446744073709551616) refl
 
@@ -180,26 +179,24 @@ pub record DecTaken (i : ℕ) (s : List ℕ) (v n : ℕ) : Type 0 where
   pub taken : Taken (dec_text v) i s n
   pub fits : v < 18446744073709551616
 
-only_zero : (i : ℕ) (s : List ℕ) (v n : ℕ) → zero_then (i + 1) s ≡ Got v n → DecTaken i (48 ∷ s) v n
+only_zero : (i : ℕ) (s : List ℕ) (v n : ℕ) → zero_then (i + 1) s ≡ found v n → DecTaken i (48 ∷ s) v n
 unfolding zero_then dec_text digits
 only_zero i [] v n e =
-    let ev : 0 ≡ v = cc in
-    let en : i + 1 ≡ n = cc in
+    let (ev, en) = same_found e in
     rw (← ev, ← en) (record { taken = record { rest = []; split = refl; next = refl }; fits = omega arith })
-only_zero i (c ∷ s) v n e = go (is_digit c) refl
+only_zero i (c ∷ s) v n e = go (is_ascii_digit c) refl
   where
-    go : (t : Bool) → is_digit c ≡ t → DecTaken i (48 ∷ c ∷ s) v n
+    go : (t : Bool) → is_ascii_digit c ≡ t → DecTaken i (48 ∷ c ∷ s) v n
     go true p = absurd (let z : ◌≡◌ {A = ℕ} 0 1 = cc (simp p at e) in omega arith)
     go false p =
-        let e' : Got 0 (i + 1) ≡ Got v n = simp p at e in
-        let ev : 0 ≡ v = cc in
-        let en : i + 1 ≡ n = cc in
+        let e' : found 0 (i + 1) ≡ found v n = simp p at e in
+        let (ev, en) = same_found e' in
         rw (← ev, ← en) (record { taken = record { rest = c ∷ s; split = refl; next = refl }; fits = omega arith })
 
 counted : (text : List ℕ) (i : ℕ) (s rest : List ℕ) (n : ℕ) → s ≡ text ++ rest → n + length rest ≡ i + length s → n ≡ i + length text
 counted text i s rest n e c = omega (arith, c, ap length e ∙ length-append text rest)
 
-only-digits : (i c : ℕ) (s : List ℕ) (v n : ℕ) → (c ≡ 48 → ⊥) → is_digit c ≡ true → scan_dec (c - 48) (i + 1) s ≡ Got v n → DecTaken i (c ∷ s) v n
+only-digits : (i c : ℕ) (s : List ℕ) (v n : ℕ) → (c ≡ 48 → ⊥) → is_ascii_digit c ≡ true → scan_dec (c - 48) (i + 1) s ≡ found v n → DecTaken i (c ∷ s) v n
 only-digits i c s v n ne p e =
     let g = digit-range c p in
     let r = scan-only s (c - 48) (i + 1) v n (omega arith) (omega arith) e in
@@ -208,15 +205,15 @@ only-digits i c s v n ne p e =
     record { taken = record { rest = r.0; split = all; next = counted (dec_text v) i (c ∷ s) r.0 n all (omega (arith, r.2)) }; fits = r.3 }
 
 -- ONLY WHAT IS WRITTEN IS ACCEPTED
-pub dec-taken : (i : ℕ) (s : List ℕ) (v n : ℕ) → dec_from i s ≡ Got v n → DecTaken i s v n
+pub dec-taken : (i : ℕ) (s : List ℕ) (v n : ℕ) → dec_from i s ≡ found v n → DecTaken i s v n
 unfolding dec_from
 dec-taken i [] v n e = absurd (let z : ◌≡◌ {A = ℕ} 0 1 = cc in omega arith)
 dec-taken i (c ∷ s) v n e = go (eqb c 48) refl
   where
-    go2 : eqb c 48 ≡ false → (t : Bool) → is_digit c ≡ t → DecTaken i (c ∷ s) v n
+    go2 : eqb c 48 ≡ false → (t : Bool) → is_ascii_digit c ≡ t → DecTaken i (c ∷ s) v n
     go2 q false p = absurd (let z : ◌≡◌ {A = ℕ} 0 1 = cc (simp (q, p) at e) in omega arith)
     go2 q true p = only-digits i c s v n (eqb-false c 48 q) p (simp (q, p) at e)
 
     go : (t : Bool) → eqb c 48 ≡ t → DecTaken i (c ∷ s) v n
     go true q = let is : c ≡ 48 = eqb-true c 48 q in rw is (only_zero i s v n (simp q at e))
-    go false q = go2 q (is_digit c) refl
+    go false q = go2 q (is_ascii_digit c) refl

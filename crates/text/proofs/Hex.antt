@@ -11,10 +11,9 @@ use mathlib.Core.List.{List, [], ◌∷◌, ◌++◌, append_assoc}
 use lib.Dec.{ltb}
 use lib.ListN.{length, length-append}
 use borrow.Author.Tests.{ltb-true, lt-ltb}
-use Rattle.text.specs.declared.Read.TheVariants.{Got}
 use Rattle.text.specs.Text.{glyph, hex_text}
-use Rattle.text.specs.Scan.{hex_val, scan_hex}
-use Rattle.text.proofs.Bytes.{val_of, byte_of}
+use Rattle.text.specs.Scan.{found, hex_val, scan_hex}
+use Rattle.text.proofs.Bytes.{same_found, val_of, byte_of}
 use Rattle.text.proofs.Decimal.{Taken}
 
 pub hex-length : (k n : ℕ) → length (hex_text k n) ≡ k
@@ -45,7 +44,7 @@ scan-hex (suc k) j n i s h =
     ∙ rw (back n) (ap (λ (m : ℕ). scan_hex j n m s) (omega arith)))
 
 -- WHAT IS WRITTEN IS READ BACK
-pub hex-from : (k n i : ℕ) (s : List ℕ) → n < 16 ^ k → scan_hex k 0 i (hex_text k n ++ s) ≡ Got n (i + k)
+pub hex-from : (k n i : ℕ) (s : List ℕ) → n < 16 ^ k → scan_hex k 0 i (hex_text k n ++ s) ≡ found n (i + k)
 unfolding scan_hex
 hex-from k n i s h = ap (λ (m : ℕ). scan_hex m 0 i (hex_text k n ++ s)) (sym (zero-add k)) ∙ scan-hex k 0 n i s h
 
@@ -69,16 +68,15 @@ hex-list m a c s g = ap (λ (t : List ℕ). t ++ s) (hex-step m a (hex_val c) g)
 turn : (m k : ℕ) → suc m + k ≡ m + suc k
 turn m k = suc-add m k ∙ sym (add-suc m k)
 
-reached : (k m a i : ℕ) (s : List ℕ) (v n : ℕ) → a < 16 ^ m → scan_hex k a i s ≡ Got v n → Reached k m a i s v n
+reached : (k m a i : ℕ) (s : List ℕ) (v n : ℕ) → a < 16 ^ m → scan_hex k a i s ≡ found v n → Reached k m a i s v n
 unfolding scan_hex
 reached zero m a i s v n ha e =
-    let ev : a ≡ v = cc in
-    let en : i ≡ n = cc in
+    let (ev, en) = same_found e in
     rw (add-zero m, ← ev, ← en, add-zero i) (s, refl, refl, ha)
 reached (suc k) m a i [] v n ha e = absurd (let z : ◌≡◌ {A = ℕ} 0 1 = cc in omega arith)
 reached (suc k) m a i (c ∷ s) v n ha e = go (λ a'. reached k (suc m) a' (i + 1) s v n) (ltb (hex_val c) 16) refl
   where
-    go : ((a' : ℕ) → a' < 16 ^ suc m → scan_hex k a' (i + 1) s ≡ Got v n → Reached k (suc m) a' (i + 1) s v n) → (t : Bool) → ltb (hex_val c) 16 ≡ t → Reached (suc k) m a i (c ∷ s) v n
+    go : ((a' : ℕ) → a' < 16 ^ suc m → scan_hex k a' (i + 1) s ≡ found v n → Reached k (suc m) a' (i + 1) s v n) → (t : Bool) → ltb (hex_val c) 16 ≡ t → Reached (suc k) m a i (c ∷ s) v n
     go ih false p = absurd (let z : ◌≡◌ {A = ℕ} 0 1 = cc (simp p at e) in omega arith)
     go ih true p =
         let g = ltb-true (hex_val c) 16 p in
@@ -90,7 +88,7 @@ pub record HexTaken (k i : ℕ) (s : List ℕ) (v n : ℕ) : Type 0 where
   pub taken : Taken (hex_text k v) i s n
   pub fits : v < 16 ^ k
 
-pub hex-taken : (k i : ℕ) (s : List ℕ) (v n : ℕ) → scan_hex k 0 i s ≡ Got v n → HexTaken k i s v n
+pub hex-taken : (k i : ℕ) (s : List ℕ) (v n : ℕ) → scan_hex k 0 i s ≡ found v n → HexTaken k i s v n
 unfolding hex_text
 hex-taken k i s v n e =
     let r = reached k 0 0 i s v n (omega arith) e in

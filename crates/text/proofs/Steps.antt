@@ -11,26 +11,27 @@ use mathlib.Core.List.{List, ◌∷◌}
 use lib.ListN.{length, drop, get_or, drop_of_length-le}
 use lib.Seq.{drop-cons}
 use borrow.Author.Tests.{lt-ltb, le-ltb, eq-eqb, ne_eqb}
-use Rattle.text.specs.declared.Read.TheVariants.{Got, Refused}
+use Rattle.std.specs.Prelude.{None}
+use Rattle.std.specs.Char.{is_ascii_digit}
 use Rattle.text.specs.Text.{dec_text}
-use Rattle.text.specs.Scan.{is_digit, hex_val, scan_dec, zero_then, dec_from, dec_at, scan_hex}
+use Rattle.text.specs.Scan.{found, hex_val, scan_dec, zero_then, dec_from, dec_at, scan_hex}
 use Rattle.text.proofs.Bytes.{below?}
 use Rattle.text.proofs.Decimal.{one-long, one-longer}
 use Rattle.text.proofs.Hex.{hex-grow}
 
 -- ---- digits
 module _ (s : List ℕ) (i a : ℕ) where
-  pub scan-end : length s ≤ i → scan_dec a i (drop i s) ≡ Got a i
+  pub scan-end : length s ≤ i → scan_dec a i (drop i s) ≡ found a i
   unfolding scan_dec
   scan-end h = rw (drop_of_length-le s h)
 
   module _ (h : i < length s) where
-    pub scan-stop : is_digit (get_or s i 0) ≡ false → scan_dec a i (drop i s) ≡ Got a i
+    pub scan-stop : is_ascii_digit (get_or s i 0) ≡ false → scan_dec a i (drop i s) ≡ found a i
     unfolding scan_dec
     scan-stop p = rw (drop-cons s i 0 h) (rw p)
 
-    module _ (p : is_digit (get_or s i 0) ≡ true) where
-      pub scan-over : 18446744073709551616 ≤ a * 10 + (get_or s i 0 - 48) → scan_dec a i (drop i s) ≡ Refused
+    module _ (p : is_ascii_digit (get_or s i 0) ≡ true) where
+      pub scan-over : 18446744073709551616 ≤ a * 10 + (get_or s i 0 - 48) → scan_dec a i (drop i s) ≡ None
       unfolding scan_dec
       scan-over g = rw (drop-cons s i 0 h) (rw p (rw (le-ltb (a * 10 + (get_or s i 0 - 48)) 18446744073709551616 g)))
 
@@ -39,7 +40,7 @@ module _ (s : List ℕ) (i a : ℕ) where
       scan-next l = rw (drop-cons s i 0 h) (rw p (rw (lt-ltb (a * 10 + (get_or s i 0 - 48)) 18446744073709551616 l) (rw (add-one i))))
 
 -- ---- a number, by the byte that stands at the position
-pub at-end : (s : List ℕ) (i : ℕ) → length s ≤ i → dec_at s i ≡ Refused
+pub at-end : (s : List ℕ) (i : ℕ) → length s ≤ i → dec_at s i ≡ None
 unfolding dec_at dec_from
 at-end s i h = rw (drop_of_length-le s h)
 
@@ -51,39 +52,39 @@ module _ (s : List ℕ) (i : ℕ) (h : i < length s) where
   unfolding dec_at dec_from
   at_zero e = rw one_on (rw (eq-eqb (get_or s i 0) 48 e))
 
-  pub at_other : (get_or s i 0 ≡ 48 → ⊥) → is_digit (get_or s i 0) ≡ false → dec_at s i ≡ Refused
+  pub at_other : (get_or s i 0 ≡ 48 → ⊥) → is_ascii_digit (get_or s i 0) ≡ false → dec_at s i ≡ None
   unfolding dec_at dec_from
   at_other ne p = rw one_on (rw (ne_eqb (get_or s i 0) 48 ne) (rw p))
 
-  pub at-digit : (get_or s i 0 ≡ 48 → ⊥) → is_digit (get_or s i 0) ≡ true → dec_at s i ≡ scan_dec (get_or s i 0 - 48) (i + 1) (drop (i + 1) s)
+  pub at-digit : (get_or s i 0 ≡ 48 → ⊥) → is_ascii_digit (get_or s i 0) ≡ true → dec_at s i ≡ scan_dec (get_or s i 0 - 48) (i + 1) (drop (i + 1) s)
   unfolding dec_at dec_from
   at-digit ne p = rw one_on (rw (ne_eqb (get_or s i 0) 48 ne) (rw p))
 
-pub zero-end : (s : List ℕ) (i : ℕ) → length s ≤ i → zero_then i (drop i s) ≡ Got 0 i
+pub zero-end : (s : List ℕ) (i : ℕ) → length s ≤ i → zero_then i (drop i s) ≡ found 0 i
 unfolding zero_then
 zero-end s i h = rw (drop_of_length-le s h)
 
-pub zero_more : (s : List ℕ) (i : ℕ) → i < length s → is_digit (get_or s i 0) ≡ true → zero_then i (drop i s) ≡ Refused
+pub zero_more : (s : List ℕ) (i : ℕ) → i < length s → is_ascii_digit (get_or s i 0) ≡ true → zero_then i (drop i s) ≡ None
 unfolding zero_then
 zero_more s i h p = rw (drop-cons s i 0 h) (rw p)
 
-pub zero-stop : (s : List ℕ) (i : ℕ) → i < length s → is_digit (get_or s i 0) ≡ false → zero_then i (drop i s) ≡ Got 0 i
+pub zero-stop : (s : List ℕ) (i : ℕ) → i < length s → is_ascii_digit (get_or s i 0) ≡ false → zero_then i (drop i s) ≡ found 0 i
 unfolding zero_then
 zero-stop s i h p = rw (drop-cons s i 0 h) (rw p)
 
 -- ---- hexadecimal digits
-pub hex-end : (a i k : ℕ) (s : List ℕ) → k ≤ 0 → scan_hex k a i s ≡ Got a i
+pub hex-end : (a i k : ℕ) (s : List ℕ) → k ≤ 0 → scan_hex k a i s ≡ found a i
 unfolding scan_hex
 hex-end a i k s h = let e : k ≡ 0 = omega arith in rw e
 
 module _ (s : List ℕ) (i a : ℕ) where
-  pub hex-short : (k : ℕ) → 0 < k → length s ≤ i → scan_hex k a i (drop i s) ≡ Refused
+  pub hex-short : (k : ℕ) → 0 < k → length s ≤ i → scan_hex k a i (drop i s) ≡ None
   unfolding scan_hex
   hex-short zero p h = absurd (omega arith)
   hex-short (suc k) p h = rw (drop_of_length-le s h)
 
   module _ (h : i < length s) where
-    pub hex-stop : (k : ℕ) → 0 < k → 16 ≤ hex_val (get_or s i 0) → scan_hex k a i (drop i s) ≡ Refused
+    pub hex-stop : (k : ℕ) → 0 < k → 16 ≤ hex_val (get_or s i 0) → scan_hex k a i (drop i s) ≡ None
     unfolding scan_hex
     hex-stop zero q p = absurd (omega arith)
     hex-stop (suc k) q p = rw (drop-cons s i 0 h) (rw (le-ltb (hex_val (get_or s i 0)) 16 p))
@@ -94,7 +95,7 @@ module _ (s : List ℕ) (i a : ℕ) where
     hex-go (suc k) q p = let e : suc k - 1 ≡ k = omega arith in rw (drop-cons s i 0 h) (rw (lt-ltb (hex_val (get_or s i 0)) 16 p) (rw (add-one i, e)))
 
 -- fewer bytes than digits: wherever the scan stops, it refuses
-pub hex-room : (k : ℕ) (s : List ℕ) (i a : ℕ) → length s - i < k → scan_hex k a i (drop i s) ≡ Refused
+pub hex-room : (k : ℕ) (s : List ℕ) (i a : ℕ) → length s - i < k → scan_hex k a i (drop i s) ≡ None
 hex-room zero s i a h = absurd (omega arith)
 hex-room (suc k) s i a h =
     ⊎_elim (λ l. ⊎_elim (λ d. let e : suc k - 1 ≡ k = omega arith in hex-go s i a l (suc k) (omega arith) d ∙ rw e (hex-room k s (i + 1) (a * 16 + hex_val (get_or s i 0)) (omega arith)))

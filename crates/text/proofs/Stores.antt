@@ -4,9 +4,9 @@ use native.Mathlib.Nat.{add-zero, suc-add, add-suc}
 use native.Mathlib.Numerals.{add-one}
 use native.Mathlib.Omega.{arith}
 use mathlib.Core.Path.{◌≡◌, refl, sym, ap, subst, ◌∙◌}
-use mathlib.Core.List.{List, [], ◌∷◌, ◌++◌, append-nil, append_assoc}
+use mathlib.Core.List.{List, [], ◌∷◌, ◌++◌, append_assoc}
 use lib.ListN.{length, take, get_or, set, length-append}
-use lib.Seq.{sets, take-suc, take_all, length-take-le, length-sets, set_comm}
+use lib.Seq.{sets, take-suc, take_all, length-take-le, set_comm}
 use Rattle.text.specs.Text.{glyph, dec_text, hex_text}
 use Rattle.text.specs.Written.{Wrote}
 use Rattle.text.proofs.Decimal.{dec-small, dec-grow, one-long, one-longer, some-long}
@@ -67,13 +67,7 @@ pub record Left (out₀ : List ℕ) (at v : ℕ) (out : List ℕ) (i x : ℕ) : 
   pub stored : out ≡ sets out₀ i tail
 
 module _ (out₀ : List ℕ) (at v : ℕ) where
-  pub left-first : (i : ℕ) → i ≡ at + length (dec_text v) → Left out₀ at v out₀ i v
-  left-first i e = record { tail = []; split = sym (append-nil (dec_text v)); place = e; stored = refl }
-
   module _ (out : List ℕ) (i x : ℕ) (l : Left out₀ at v out i x) where
-    pub left-length : length out ≡ length out₀
-    left-length = ap length l.stored ∙ length-sets out₀ i l.tail
-
     pub left_one : 0 < i
     left_one = omega (arith, l.place, some-long x)
 
@@ -125,13 +119,7 @@ unfolding hex_text
 hex-none x = refl
 
 module _ (out₀ : List ℕ) (at v k : ℕ) where
-  pub hex-first : (i : ℕ) → i ≡ at + k → HexLeft out₀ at v k out₀ i v
-  hex-first i e = let d : i - at ≡ k = omega arith in record { tail = []; split = sym (append-nil (hex_text k v)) ∙ ap (λ (j : ℕ). hex_text j v ++ []) (sym d); stored = refl }
-
   module _ (out : List ℕ) (i x : ℕ) (l : HexLeft out₀ at v k out i x) where
-    pub hex-length-kept : length out ≡ length out₀
-    hex-length-kept = ap length l.stored ∙ length-sets out₀ i l.tail
-
     pub hex-step-back : at < i → HexLeft out₀ at v k (set out (i - 1) (glyph (x % 16))) (i - 1) (x / 16)
     hex-step-back h =
         let d : i - at - 1 ≡ i - 1 - at = omega arith in record {

@@ -4,7 +4,7 @@
 
 ghost use Rattle.std.specs.Prelude.{◌≡◌, ◌+◌, ◌-◌, ◌<◌, ◌≤◌, length, drop};
 ghost use Rattle.text.specs.Text.{glyph, dec_text, hex_text};
-ghost use Rattle.text.specs.Scan.{is_digit, hex_val, scan_dec, zero_then, dec_at, hex_at, is_comma};
+ghost use Rattle.text.specs.Scan.{hex_digit, scan_dec, zero_then, dec_at, hex_at, is_comma};
 ghost use Rattle.text.specs.Written.{Wrote};
 
 pub const COMMA: u8 = 44;
@@ -15,149 +15,89 @@ pub const NEWLINE: u8 = 10;
 pub const ZERO: u8 = 48;
 
 // The greatest number that a field has: 64 bits.
-pub const NUMBER_MAX: u64 = 18446744073709551615;
-// With one digit more a greater number than this is too great.
-const NUMBER_TENTH: u64 = 1844674407370955161;
+pub const NUMBER_MAX: u64 = u64::MAX;
 
+// What was read at a position, and the position after it.
 #[derive(Clone, Copy)]
-pub enum Read {
-    Got { value: u64, next: usize },
-    Refused,
+pub struct Read<T> {
+    pub value: T,
+    pub next: usize,
 }
 
-fn wide(b: u8) -> u64
-    ensures { result ≡ b }
+// The value of a hexadecimal digit. A letter is a lower-case one.
+fn hex_value(b: u8) -> Option<u64>
+    ensures { result ≡ hex_digit b }
 {
-    b as u64
-}
-
-fn digit(b: u8) -> bool
-    ensures { result ≡ is_digit b }
-{
-    if b < 48 { false } else { b < 58 }
-}
-
-// The value of a hexadecimal digit, and 16 for any other byte.
-fn hex_value(b: u8) -> u64
-    ensures { result ≡ hex_val b }
-{
-    if b < 48 {
-        return 16;
+    match b {
+        b'0'..=b'9' => Some(u64::from(b - b'0')),
+        b'a'..=b'f' => Some(u64::from(b - b'a') + 10),
+        _ => None,
     }
-    if b < 58 {
-        return wide(b) - 48;
-    }
-    if b < 97 {
-        return 16;
-    }
-    if b < 103 {
-        return wide(b) - 87;
-    }
-    16
 }
 
 // The number goes on with the digits from a position: `start` is what stands before it.
-fn scan_dec(s: &[u8], from: usize, start: u64) -> Read
+fn scan_dec(s: &[u8], from: usize, start: u64) -> Option<Read<u64>>
     ensures { result ≡ scan_dec start from (drop from s.now) }
 {
-    let mut i = from;
-    let mut acc = start;
-    while i < s.len() {
-        let c = s[i];
-        let ok = digit(c);
-        if !ok {
-            return Read::Got {
-                value: acc,
-                next: i,
-            };
+    let mut value = start;
+    for next in from..s.len() {
+        let c = s[next];
+        if !c.is_ascii_digit() {
+            return Some(Read { value, next });
         }
-        let d = wide(c) - 48;
-        if acc > NUMBER_TENTH {
-            return Read::Refused;
-        }
-        let t = acc * 10;
-        if d > NUMBER_MAX - t {
-            return Read::Refused;
-        }
-        acc = t + d;
-        i += 1;
+        value = value.checked_mul(10)?.checked_add(u64::from(c - b'0'))?;
     }
-    Read::Got {
-        value: acc,
-        next: i,
-    }
+    Some(Read {
+        value,
+        next: from.max(s.len()),
+    })
 }
 
 // After a leading zero no digit may follow.
-fn after_zero(s: &[u8], next: usize) -> Read
+fn after_zero(s: &[u8], next: usize) -> Option<Read<u64>>
     ensures { result ≡ zero_then next (drop next s.now) }
 {
-    if next < s.len() {
-        if digit(s[next]) {
-            return Read::Refused;
-        }
+    if next < s.len() && s[next].is_ascii_digit() {
+        return None;
     }
-    Read::Got {
-        value: 0,
-        next: next,
-    }
+    Some(Read { value: 0, next })
 }
 
 // The decimal number at a position. Only `0` itself begins with a zero, so that a number has one text.
-pub fn read_dec(s: &[u8], at: usize) -> Read
+pub fn read_dec(s: &[u8], at: usize) -> Option<Read<u64>>
     ensures { result ≡ dec_at s.now at }
 {
-    if s.len() <= at {
-        return Read::Refused;
-    }
-    let c = s[at];
+    let c = *s.get(at)?;
     let next = at + 1;
     if c == ZERO {
         return after_zero(s, next);
     }
-    let ok = digit(c);
-    if !ok {
-        return Read::Refused;
+    if !c.is_ascii_digit() {
+        return None;
     }
-    scan_dec(s, next, wide(c) - 48)
-}
-
-// How many bytes there are from a position on.
-fn room(s: &[u8], at: usize) -> usize
-    ensures { result ≡ length s.now - at }
-{
-    if at < s.len() { s.len() - at } else { 0 }
+    scan_dec(s, next, u64::from(c - b'0'))
 }
 
 // The set of exactly `digits` digits at a position.
-pub fn read_hex(s: &[u8], at: usize, digits: usize) -> Read
+pub fn read_hex(s: &[u8], at: usize, digits: usize) -> Option<Read<u64>>
     requires { digits ≤ 16 }
     ensures { result ≡ hex_at s.now at digits }
 {
-    if room(s, at) < digits {
-        return Read::Refused;
+    if s.len().saturating_sub(at) < digits {
+        return None;
     }
-    let end = at + digits;
-    let mut i = at;
-    let mut acc: u64 = 0;
-    while i < end {
-        let d = hex_value(s[i]);
-        if d > 15 {
-            return Read::Refused;
-        }
-        acc = acc * 16 + d;
-        i += 1;
+    let next = at + digits;
+    let mut value = 0;
+    for i in at..next {
+        value = value * 16 + hex_value(s[i])?;
     }
-    Read::Got {
-        value: acc,
-        next: end,
-    }
+    Some(Read { value, next })
 }
 
 pub fn comma_at(s: &[u8], at: usize) -> bool
     ensures { result ≡ is_comma s.now at }
 {
-    if at < s.len() { s[at] == COMMA } else { false }
+    at < s.len() && s[at] == COMMA
 }
 
 // How many digits a number below ten thousand has.
@@ -165,13 +105,12 @@ fn short_len(v: u64) -> usize
     requires { v < 10000 }
     ensures { result ≡ length (dec_text v) }
 {
-    if v < 10 {
-        return 1;
+    match v {
+        0..=9 => 1,
+        10..=99 => 2,
+        100..=999 => 3,
+        _ => 4,
     }
-    if v < 100 {
-        return 2;
-    }
-    if v < 1000 { 3 } else { 4 }
 }
 
 // How many digits a number has. Four go at a time, since a division is slow.
@@ -217,12 +156,9 @@ pub fn write_text(out: &mut [u8], at: usize, t: &[u8]) -> usize
     requires { at + length t.now ≤ length out.old }
     ensures { Wrote out.old at t.now result out.new }
 {
-    let mut i = 0usize;
-    while i < t.len() {
-        out[at + i] = t[i];
-        i += 1;
-    }
-    at + i
+    let end = at + t.len();
+    out[at..end].copy_from_slice(t);
+    end
 }
 
 // Writes v from a position with room for it, and answers the next position. The digits go in from the last one on, two at a time.
@@ -260,10 +196,8 @@ pub fn write_hex(out: &mut [u8], at: usize, v: u64, digits: usize) -> usize
     ensures { Wrote out.old at (hex_text digits v) result out.new }
 {
     let end = at + digits;
-    let mut i = end;
     let mut x = v;
-    while i > at {
-        i -= 1;
+    for i in (at..end).rev() {
         out[i] = glyph_of(x % 16);
         x /= 16;
     }

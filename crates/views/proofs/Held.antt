@@ -1,13 +1,14 @@
 -- Laws of the structs View and History: each is what one method needs.
 -- Assumes nothing.
 use mathlib.Core.Path.{◌≡◌, sym, ap, ap₂, ◌∙◌}
-use mathlib.Core.Bool.{Bool, false, not, ◌&&◌}
+use mathlib.Core.Bool.{Bool, not, ◌&&◌}
 use mathlib.Core.List.{List, [], ◌∷◌, ◌++◌}
-use Prim.Native.Nat.{ℕ, suc, ◌+◌, ◌-◌, ◌/◌, ◌%◌, ◌^◌, ◌≤◌, ◌<◌, min}
+use Prim.Native.Nat.{ℕ, suc, ◌+◌, ◌-◌, ◌/◌, ◌%◌, ◌<◌, min}
+use native.Mathlib.Decide.{dec_lt}
 use native.Mathlib.Numerals.{add-one}
 use native.Mathlib.Omega.{arith}
 use lib.Dec.{eqb}
-use lib.Bits.{bit_and, and_mask, mask_lt}
+use lib.Bits.{bit_and}
 use lib.ListN.{length, set}
 use lib.Seq.{get_or-set_same, get_or-set_other}
 use borrow.Author.Tests.{lt-ltb, le-ltb}
@@ -21,7 +22,7 @@ use Rattle.views.specs.declared.View as held
 use Rattle.views.specs.declared.History.{History}
 use Rattle.views.specs.View.{view_of, view_in}
 use Rattle.views.specs.Held.{view_is, held_at, views_is}
-use Rattle.views.proofs.Sets.{bit-shift, bit-far, set-without}
+use Rattle.views.proofs.Sets.{bit-far, set_of-lt, set-without}
 use Rattle.views.proofs.Tables.{take-list_of}
 use Rattle.views.proofs.Views.{pair}
 
@@ -35,9 +36,6 @@ pub of-word-is : (w j l : ℕ) → j ≡ w % 4294967296 → l ≡ w / 4294967296
 unfolding view_in
 of-word-is w j l e f i = record { joined = (let q : j % 65536 ≡ w % 65536 = omega arith in q) i; left = (let q : l % 65536 ≡ w / 4294967296 % 65536 = omega arith in q) i }
 
-pub set-low : (a : ℕ) → (bit_and a 65535 ≡ a % 65536) × (bit_and a 65535 < 65536)
-set-low a = (and_mask a 16, mask_lt a 16)
-
 -- every struct means a view of the sixteen controllers
 pub held_fits : (v : held.View) → Fits 16 (view_is v)
 held_fits v = record { joined = omega arith; left = omega arith }
@@ -45,11 +43,11 @@ held_fits v = record { joined = omega arith; left = omega arith }
 pub members-are : (v : View) (a b : ℕ) → a ≡ v.joined → a < 65536 → b ≡ v.left → a - bit_and a b ≡ set_of 16 (member v)
 members-are v a b e p f = set-without 16 a b p ∙ ap₂ (λ x y. set_of 16 (λ k. bit x k && not (bit y k))) e f
 
-pub member-far : (a b k : ℕ) → a < 65536 → 16 ≤ k → false ≡ member (pair a b) k
-member-far a b k p l = ap (λ x. x && not (bit b k)) (sym (bit-far 16 a k p l))
-
-pub member-at : (v : View) (r k : ℕ) → r ≡ set_of 16 (member v) → k < 16 → eqb (r / 2 ^ k % 2) 1 ≡ member v k
-member-at v r k e l = bit-shift k r ∙ ap (λ x. bit x k) e ∙ bit-set_of 16 (member v) k l
+pub member-bit : (v : View) (r k : ℕ) {b : Bool} → r ≡ set_of 16 (member v) → b ≡ bit r k → v.joined < 65536 → b ≡ member v k
+member-bit v r k {b} e q l = q ∙ ap (λ x. bit x k) e ∙ (elim (dec_lt k 16) [
+  | yes m ↦ bit-set_of 16 (member v) k m
+  | no m ↦ bit-far 16 (set_of 16 (member v)) k (set_of-lt 16 (member v)) (omega arith) ∙ sym (ap (λ x. x && not (bit v.left k)) (bit-far 16 v.joined k l (omega arith)))
+])
 
 pub view-test : (v : View) (a b : ℕ) → a ≡ v.joined → a < 65536 → b ≡ v.left → b < 65536 → eqb (bit_and b a) b ≡ is_view 16 v
 unfolding is_view
@@ -91,12 +89,19 @@ held_more l n v f h e q = rw add-one (set_view l n v h ∙ ap₂ (λ k u. k ++ (
 pub cut-is : (l : List held.View) (n : ℕ) (v : held.View) (h : History) → length l ≡ 16 → n < 16 → h.views ≡ set l n v → h.len ≡ n + 1 → views_is h ≡ list_of n (held_at l) ++ (view_is v ∷ [])
 cut-is l n v h a b p q = sym (views-of h (suc n) (omega arith)) ∙ ap (λ k. list_of (suc n) (held_at k)) p ∙ set_view l n v (omega arith)
 
-pub push-room : (h : History) (n : ℕ) (v : View) → n ≡ min h.len 16 → n < 16 → list_of n (held_at h.views) ++ (v ∷ []) ≡ entered_after v (views_is h)
+push-room : (h : History) (n : ℕ) (v : View) → n ≡ min h.len 16 → n < 16 → list_of n (held_at h.views) ++ (v ∷ []) ≡ entered_after v (views_is h)
 unfolding entered_after
 push-room h n v e l = of-history (entered_after v) h n e (sym (rw (lt-ltb (length (list_of n (held_at h.views))) 16 (rw (list_of-length n (held_at h.views)) l))))
 
-pub push-full : (h : History) (n : ℕ) (v : View) → n ≡ min h.len 16 → (n < 16 → ⊥) → list_of 15 (held_at h.views) ++ (v ∷ []) ≡ entered_after v (views_is h)
+push-full : (h : History) (n : ℕ) (v : View) → n ≡ min h.len 16 → (n < 16 → ⊥) → list_of 15 (held_at h.views) ++ (v ∷ []) ≡ entered_after v (views_is h)
 unfolding entered_after
 push-full h n v e l =
     of-history (entered_after v) h n e
     (sym (rw (le-ltb (length (list_of n (held_at h.views))) 16 (omega (arith, list_of-length n (held_at h.views))), take-list_of n 15 (held_at h.views) (omega arith))))
+
+-- v goes after the views that count, but in place of the last where there are 16
+pub push-last : (h : History) (n at : ℕ) (v : View) → n ≡ min h.len 16 → at ≡ min n 15 → list_of at (held_at h.views) ++ (v ∷ []) ≡ entered_after v (views_is h)
+push-last h n at v e q = elim (dec_lt n 16) [
+  | yes l ↦ (let z : at ≡ n = omega arith in ap (λ k. list_of k (held_at h.views) ++ (v ∷ [])) z) ∙ push-room h n v e l
+  | no l ↦ (let z : at ≡ 15 = omega arith in ap (λ k. list_of k (held_at h.views) ++ (v ∷ [])) z) ∙ push-full h n v e l
+]

@@ -1,6 +1,8 @@
+pub mod Chains
 pub mod Held
 pub mod Histories
 pub mod Sets
+pub mod Options
 pub mod Tables
 pub mod Tallies
 pub mod Views

@@ -7,7 +7,6 @@ use native.Mathlib.Omega.{arith}
 use lib.Dec.{eqb}
 use native.Mathlib.Nat.{pow-succ', div-div-eq-div-mul}
 use lib.Bits.{bit_and, bit_or, or_lt, and_le_l, and_le_r, and_mask, or_add_and}
-use borrow.Author.Tests.{ne_eqb}
 use Rattle.protocol.specs.Sets.{bit, one, count, set_of, every, subset}
 use Rattle.protocol.proofs.Bits.{bit-and, bit-or, bit-zero, bit-pow, bit-set_of, bits-ext}
 use Rattle.views.specs.Steps.{Noted}
@@ -26,9 +25,6 @@ or-far false false e h = refl
 
 pub note-none : (seen o : ℕ) (hit : Bool) → hit ≡ false → Noted seen hit o seen
 note-none seen o hit e = record { small = λ l. l; bits = λ k l. or-none (bit seen k) hit (eqb o k) e }
-
-pub note-far : (seen o : ℕ) (hit : Bool) → 16 ≤ o → Noted seen hit o seen
-note-far seen o hit h = record { small = λ l. l; bits = λ k l. or-far (bit seen k) hit (eqb o k) (ne_eqb o k (λ q. omega arith)) }
 
 one-le : (b : Bool) → one b ≤ 1
 one-le true = omega arith

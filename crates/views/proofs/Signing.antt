@@ -1,16 +1,18 @@
 -- Sets of signers of a view, and the order in which views are written.
 -- Assumes nothing.
+use Rattle.std.specs.Prelude.{Some}
+use Rattle.std.specs.declared.cmp.Ordering.TheVariants.{Less, Equal, Greater}
+use Rattle.std.specs.Ordering.{is_some_and, is_lt, partial_ordering_then}
 use mathlib.Core.Path.{◌≡◌, refl, sym, ap, ap₂, ◌∙◌}
-use mathlib.Core.Bool.{Bool, true, false, not, ◌&&◌, ◌||◌}
+use mathlib.Core.Bool.{Bool, true, false, cond, not, ◌&&◌, ◌||◌}
 use Prim.Native.Nat.{ℕ, ◌-◌, ◌%◌, ◌<◌}
 use native.Mathlib.Omega.{arith}
-use lib.Dec.{leb, ltb}
+use lib.Dec.{leb}
 use lib.Bits.{bit_and, and_le_l, and_mask}
 use lib.Count.{ones}
-use borrow.Author.Tests.{eq-eqb, ne_eqb, le-ltb}
 use Rattle.protocol.specs.Sets.{bit, count, set_of}
 use Rattle.protocol.specs.View.{View, member, quorum, member_count, has_members}
-use Rattle.protocol.specs.Signers.{makes_quorum, written_before}
+use Rattle.protocol.specs.Signers.{makes_quorum}
 use Rattle.protocol.proofs.Bits.{bit-and, bit-set_of, bits-ext, ones-count}
 use Rattle.views.specs.View.{view_of, view_in}
 use Rattle.views.specs.Sets.{Among}
@@ -19,23 +21,13 @@ use Rattle.views.proofs.Views.{view_in_lem, member-masked, count_masked, members
 
 -- ---- as written
 
-module _ (u v a b : ℕ) (f : a ≡ (view_of u).joined) (g : b ≡ (view_of v).joined) where
-  pub before-first : (a ≡ b → ⊥) → ltb a b ≡ written_before (view_of u) (view_of v)
-  unfolding written_before
-  before-first d =
-      ap₂ ltb f g ∙ or_no (ltb (view_of u).joined (view_of v).joined)
-      ∙ sym (ap (λ e. ltb (view_of u).joined (view_of v).joined || e && ltb (view_of u).left (view_of v).left) (ne_eqb (view_of u).joined (view_of v).joined (λ q. d (f ∙ q ∙ sym g))))
-    where
-      or_no : (x : Bool) → x ≡ (x || false)
-      or_no true = refl
-      or_no false = refl
-
-  pub before-second : a ≡ b → (x y : ℕ) → x ≡ (view_of u).left → y ≡ (view_of v).left → ltb x y ≡ written_before (view_of u) (view_of v)
-  unfolding written_before
-  before-second e x y p q =
-      let same : (view_of u).joined ≡ (view_of v).joined = sym f ∙ e ∙ g in
-      ap₂ ltb p q
-      ∙ sym (ap₂ (λ l i. l || i && ltb (view_of u).left (view_of v).left) (le-ltb (view_of u).joined (view_of v).joined (omega (arith, same))) (eq-eqb (view_of u).joined (view_of v).joined same))
+-- pairs are compared by the first, and where that is the same by the second
+pub pairs-lt : (l e m f : Bool) → is_some_and is_lt (partial_ordering_then (Some (cond l Less (cond e Equal Greater))) (Some (cond m Less (cond f Equal Greater)))) ≡ (l || e && m)
+pairs-lt true e m f = refl
+pairs-lt false true true f = refl
+pairs-lt false true false true = refl
+pairs-lt false true false false = refl
+pairs-lt false false m f = refl
 
 -- ---- members
 

@@ -4,7 +4,7 @@ use mathlib.Core.Path.{◌≡◌, refl, sym, ap, ap₂, subst, ◌∙◌}
 use mathlib.Core.Logic.{◌⊎◌, inl, inr}
 use mathlib.Core.Bool.{Bool, true, false, not, ◌&&◌, ◌||◌}
 use mathlib.Core.List.{List, [], ◌∷◌, ◌++◌}
-use Prim.Native.Nat.{ℕ, zero, suc, ◌+◌, ◌-◌, ◌*◌, ◌/◌, ◌%◌, ◌^◌, ◌≤◌, ◌<◌}
+use Prim.Native.Nat.{ℕ, zero, suc, ◌+◌, ◌-◌, ◌*◌, ◌/◌, ◌%◌, ◌^◌, ◌≤◌, ◌<◌, max}
 use native.Mathlib.Decide.{ℕ_discrete}
 use native.Mathlib.Omega.{arith}
 use lib.Dec.{T, eqb, leb}
@@ -16,7 +16,6 @@ use Rattle.protocol.specs.Lists.{any}
 use Rattle.protocol.specs.View.{View, member, quorum, member_count, has_members}
 use Rattle.protocol.specs.Statement.{Stmt}
 use Rattle.protocol.specs.Evidence.{signs, tally, has_quorum, signed_by_quorum}
-use Rattle.protocol.specs.Count as protocol
 use Rattle.protocol.specs.Count.{count_quorum}
 use Rattle.protocol.proofs.Bits.{bit-and, bit-zero, bit-set_of, bit-pow, bits-ext}
 use Rattle.protocol.proofs.Says.{says_map, says-unique, says-eqb, says-leb}
@@ -245,9 +244,6 @@ module _ (x o place : ℕ) where
   pub sign-passes : (l : o < 16) → held x o l ≡ 0 → Signed x o place x
   sign-passes l z = stays (λ t who m a k j e. let q : o ≡ k = says-eqb.sound e in sym (a.waiting k j) ∙ ap (bit (waiting_in x)) (sym q) ∙ unheld x o l z)
 
-  pub sign-closed : (m : Bool) → m ≡ eqb (missing_in x) 0 → m ≡ true → Signed x o place x
-  sign-closed m known y = stays (λ t who l a k j e. let z : missing_in x ≡ 0 = says-eqb.sound (subst T (sym (sym known ∙ y)) tt) in absurd (omega arith))
-
 -- ---- the same in words of 64 bits, where a shift is cut off
 
 module _ (x o place b : ℕ) (small : o < 16) (is : b ≡ bit_and x (65536 * 2 ^ o % 18446744073709551616)) where
@@ -314,13 +310,13 @@ module _ (v : View) (q : ℕ) (is : q ≡ quorum (member_count 16 v)) where
   some-members : has_members 16 v ≡ true → 1 ≤ member_count 16 v
   some-members h = (says-leb {m = 1} {n = member_count 16 v}).sound (subst T (sym h) tt)
 
-  pub needed-one : q ≡ 0 → Needed v 1
+  pub needed-most : {r : ℕ} → r ≡ max q 1 → Needed v r
   unfolding quorum
-  needed-one z = record { some = λ h. absurd (omega (arith, is, z, some-members h)); none = λ h. refl; few = omega arith }
-
-  pub needed-some : (q ≡ 0 → ⊥) → Needed v q
-  unfolding quorum
-  needed-some d = record { some = λ h. is; none = λ h. absurd (d (omega (arith, is, no_leb (member_count 16 v) h))); few = omega (arith, is, at_most v) }
+  needed-most {r} e = record {
+    some = λ h. omega (arith, is, some-members h);
+    none = λ h. omega (arith, is, no_leb (member_count 16 v) h);
+    few = omega (arith, is, at_most v);
+  }
 
 -- ---- what a tally says of a record
 

@@ -204,3 +204,11 @@ module _ (u v a b : ℕ) (n : Narrowed u a) (m : Narrowed v b) where
 
   pub below-words : (w : Bool) → w ≡ within 16 (view_of u) (view_of v) → w ≡ true → not (eqb a b) ≡ below 16 (view_of u) (view_of v)
   below-words w e t = below-fits (lies w e t) ∙ ap₂ (below 16) (narrowed-view u a n) (narrowed-view v b m) ∙ below-masked (view_of u) (view_of v)
+
+-- it does not matter which of the two is asked
+pub same-flip : (u v : View) → same_view u v ≡ same_view v u
+same-flip u v = says-unique (says_map (λ e. sym e) (λ e. sym e) says_same) says_same
+
+-- bits that stand for no controller do not matter to who lies below whom
+pub below-in : (u v : ℕ) → below 16 (view_in u) (view_in v) ≡ below 16 (view_of u) (view_of v)
+below-in u v = ap₂ (below 16) (view_in_lem u) (view_in_lem v) ∙ below-masked (view_of u) (view_of v)

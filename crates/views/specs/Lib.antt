@@ -6,4 +6,5 @@ pub mod View
 pub mod Sets
 pub mod Tally
 -- ---- inside: what functions tell each other, and what loops keep
+pub mod Options
 pub mod Steps

@@ -1,7 +1,10 @@
 // Views, histories and quorums. A history's unused places may differ from one correct program to another: only its first len views count.
 #![tactic(auto)]
 
-ghost use Rattle.std.specs.Prelude.{◌≡◌, [], ◌∷◌, ◌++◌, ◌+◌, ◌<◌, ◌≤◌, min};
+ghost use Rattle.std.specs.Prelude.{◌≡◌, [], ◌∷◌, ◌++◌, ◌+◌, ◌<◌, ◌≤◌, min, take, ◌==◌};
+ghost use Rattle.std.proofs.Common.{rules};
+ghost use Rattle.std.specs.Cmp.Rules.{comparing};
+ghost use Rattle.std.specs.Ordering.{on, eq_of_both};
 ghost use Rattle.protocol.specs.Sets.{bit, set_of};
 ghost use Rattle.protocol.specs.Lists.{any, all, list_of};
 ghost use Rattle.protocol.specs.View.{same_view, member, quorum, is_view, member_count, has_members, below};
@@ -10,12 +13,10 @@ ghost use Rattle.protocol.specs.Turn.{entered_after};
 ghost use Rattle.views.specs.View.{view_of, view_in};
 ghost use Rattle.views.specs.Held.{view_is, held_at, views_is};
 
-mod lists;
 mod signers;
 mod tally;
 mod words;
 
-pub use lists::{list_at, list_room};
 pub use signers::{makes_quorum, members_among, members_without, written_before};
 pub use tally::{Count, is_complete, own_of, place_of, sign, unsigned};
 pub use words::{
@@ -88,7 +89,7 @@ impl View {
     pub fn count(self) -> u32
         ensures { (result ≡ member_count 16 (view_is self)) × (result ≤ 16) }
     {
-        u32::count_ones(self.members())
+        self.members().count_ones()
     }
 
     // How many of the members make a quorum.
@@ -96,10 +97,7 @@ impl View {
         ensures { result ≡ quorum (member_count 16 (view_is self)) }
     {
         let n = self.count();
-        if n == 0 {
-            return 0;
-        }
-        n - (n - 1) / 3
+        n - n.saturating_sub(1) / 3
     }
 
     pub fn has_members(self) -> bool
@@ -119,20 +117,14 @@ impl View {
     pub fn has_member(self, k: u8) -> bool
         ensures { result ≡ member (view_is self) k }
     {
-        if k >= View::WIDTH {
-            return false;
-        }
-        (self.members() >> k) % 2 == 1
+        words::has(self.members(), k)
     }
 
     // Whether controller k is in the left set.
     pub fn has_left(self, k: u8) -> bool
         ensures { result ≡ bit (view_is self).left k }
     {
-        if k >= View::WIDTH {
-            return false;
-        }
-        (self.left_set() >> k) % 2 == 1
+        words::has(self.left_set(), k)
     }
 
     // Strictly within.
@@ -141,11 +133,16 @@ impl View {
     {
         words::below_view(self.word(), v.word())
     }
+}
 
-    pub fn same(self, v: View) -> bool
-        ensures { result ≡ same_view (view_is self) (view_is v) }
-    {
-        self.word() == v.word()
+// Two views are equal if the same controllers joined and left: bits that stand for none are not read.
+impl PartialEq for View {
+    ghost eq = { eq_of_both (on (λ v. (view_is v).joined) ◌==◌) (on (λ v. (view_is v).left) ◌==◌) };
+
+    ghost laws = { Prim.search (comparing, rules) };
+
+    fn eq(&self, other: &View) -> bool {
+        self.word() == other.word()
     }
 }
 
@@ -163,10 +160,14 @@ impl History {
     pub fn count(self) -> usize
         ensures { (result ≡ min self.len 16) × (result ≤ 16) }
     {
-        if self.len < View::LIMIT {
-            return self.len;
-        }
-        View::LIMIT
+        self.len.min(View::LIMIT)
+    }
+
+    // The views that count.
+    fn counted(&self) -> &[View]
+        ensures { result.now ≡ take (min self.now.len 16) self.now.views }
+    {
+        &self.views[..self.count()]
     }
 
     // The first `at` views, and v after them.
@@ -176,91 +177,41 @@ impl History {
     {
         let mut views = self.views;
         views[at] = v;
-        History {
-            views: views,
-            len: at + 1,
-        }
+        History { views, len: at + 1 }
     }
 
     // The views and v after them. Where there are 16 already, v takes the place of the last.
     pub fn push(self, v: View) -> History
         ensures { (views_is result ≡ entered_after (view_is v) (views_is self)) × (result.len ≤ 16) }
     {
-        let n = self.count();
-        if n < View::LIMIT {
-            return self.cut(n, v);
-        }
-        self.cut(View::LIMIT - 1, v)
+        self.cut(self.count().min(View::LIMIT - 1), v)
     }
 
     pub fn has(self, v: View) -> bool
         ensures { result ≡ any (same_view (view_is v)) (views_is self) }
     {
-        let n = self.count();
-        let views = self.views;
-        let mut p = 0usize;
-        while p < n {
-            let u = views[p];
-            if v.same(u) {
-                return true;
-            }
-            p += 1;
-        }
-        false
+        self.counted().contains(&v)
     }
 
     // Whether there are views and they rise strictly.
     pub fn rising(self) -> bool
         ensures { result ≡ is_rising 16 (views_is self) }
     {
-        let n = self.count();
-        if n == 0 {
-            return false;
-        }
-        let views = self.views;
-        let mut p = 1usize;
-        while p < n {
-            let u = views[p - 1];
-            let v = views[p];
-            if !u.below(v) {
-                return false;
-            }
-            p += 1;
-        }
-        true
+        let views = self.counted();
+        !views.is_empty() && views.windows(2).all(|pair| pair[0].below(pair[1]))
     }
 
     // Whether each view has its left set within the joined.
     pub fn each_is_view(self) -> bool
         ensures { result ≡ all (is_view 16) (views_is self) }
     {
-        let n = self.count();
-        let views = self.views;
-        let mut p = 0usize;
-        while p < n {
-            let v = views[p];
-            if !v.is_view() {
-                return false;
-            }
-            p += 1;
-        }
-        true
+        self.counted().iter().all(|v| v.is_view())
     }
 
     // Whether each view has members.
     pub fn each_has_members(self) -> bool
         ensures { result ≡ all (has_members 16) (views_is self) }
     {
-        let n = self.count();
-        let views = self.views;
-        let mut p = 0usize;
-        while p < n {
-            let v = views[p];
-            if !v.has_members() {
-                return false;
-            }
-            p += 1;
-        }
-        true
+        self.counted().iter().all(|v| v.has_members())
     }
 }

@@ -12,20 +12,14 @@ use crate::{View, words};
 pub fn written_before(u: u64, v: u64) -> bool
     ensures { result ≡ written_before (view_of u) (view_of v) }
 {
-    let a = words::low_half(u);
-    let b = words::low_half(v);
-    if a != b {
-        return a < b;
-    }
-    words::high_half(u) < words::high_half(v)
+    (words::low_half(u), words::high_half(u)) < (words::low_half(v), words::high_half(v))
 }
 
 // The members of v that are in the set.
 pub fn members_among(v: u64, set: u32) -> u32
     ensures { Among (view_of v) set result }
 {
-    let m = View::of_word(v).members();
-    m & set
+    View::of_word(v).members() & set
 }
 
 // The members of v that are not.
@@ -41,8 +35,5 @@ pub fn makes_quorum(v: u64, set: u32) -> bool
     ensures { result ≡ makes_quorum 16 (view_of v) set }
 {
     let w = View::of_word(v);
-    if !w.has_members() {
-        return false;
-    }
-    u32::count_ones(set & View::ALL) >= w.quorum()
+    w.has_members() && (set & View::ALL).count_ones() >= w.quorum()
 }

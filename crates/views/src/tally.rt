@@ -32,11 +32,7 @@ pub struct Count {
 fn needed(v: View) -> u32
     ensures { Needed (view_is v) result }
 {
-    let q = v.quorum();
-    if q == 0 {
-        return 1;
-    }
-    q
+    v.quorum().max(1)
 }
 
 // Nobody of t has signed.

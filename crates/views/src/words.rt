@@ -1,5 +1,6 @@
 // Sets and views in one word. A set is a word of 32 bits; a view has who joined in the low 32 bits and who left in the high. Tests of views look at the controllers below the width alone.
-ghost use Rattle.std.specs.Prelude.{◌≡◌, ◌/◌, ◌%◌, ◌≤◌};
+ghost use Rattle.std.specs.Prelude.{◌≡◌, ◌/◌, ◌%◌, ◌≤◌, ◌<◌};
+ghost use Rattle.protocol.specs.Sets.{bit};
 ghost use Rattle.protocol.specs.View.{has_members, within, below, size};
 ghost use Rattle.views.specs.Steps.{Noted, Joined};
 ghost use Rattle.views.specs.View.{view_of, view_in};
@@ -40,17 +41,23 @@ pub fn narrow(w: u64) -> u64
     w & BOTH
 }
 
+// Whether controller k is in the set.
+pub fn has(set: u32, k: u8) -> bool
+    requires { set < 65536 }
+    ensures { result ≡ bit set k }
+{
+    k < View::WIDTH && (set >> k) % 2 == 1
+}
+
 // `seen`, and o too where `yes` is true.
 pub fn note(seen: u32, yes: bool, o: u64) -> u32
     ensures { Noted seen yes o result }
 {
-    if !yes {
-        return seen;
+    if yes && o < View::WIDTH as u64 {
+        seen | (1u32 << o)
+    } else {
+        seen
     }
-    if o >= View::WIDTH as u64 {
-        return seen;
-    }
-    seen | (1u32 << o)
 }
 
 // What a has and what b has.
@@ -80,15 +87,12 @@ pub fn within_view(u: u64, v: u64) -> bool
 pub fn below_view(u: u64, v: u64) -> bool
     ensures { result ≡ below 16 (view_of u) (view_of v) }
 {
-    if !within_view(u, v) {
-        return false;
-    }
-    narrow(u) != narrow(v)
+    within_view(u, v) && narrow(u) != narrow(v)
 }
 
 // How many joined in v and how many left.
 pub fn size_view(v: u64) -> u32
     ensures { (result ≡ size 16 (view_of v)) × (result ≤ 32) }
 {
-    u64::count_ones(narrow(v))
+    narrow(v).count_ones()
 }

@@ -14,9 +14,8 @@ use lib.Dec.{T, eqb}
 use lib.ListN.{length}
 use borrow.Author.Tests.{eq-eqb, ne_eqb, le-leb, lt-leb}
 use Rattle.protocol.specs.View.{View}
-use Rattle.protocol.specs.History.{same_views}
 use Rattle.protocol.specs.Lists.{list_of}
-use Rattle.protocol.specs.Statement.{Stmt, payload_of, is_kind, agrees_view, agrees_history, acks, stores}
+use Rattle.protocol.specs.Statement.{Stmt, payload_of, agrees_view, agrees_history, acks, stores}
 use Rattle.protocol.proofs.Says.{Says, from-true, says_map, says-unique, says-and, says-or, says-imp, says-eqb}
 use Rattle.protocol.proofs.Bits.{Fits}
 use Rattle.protocol.proofs.Decided.{says_same, says-sames, says-kind}
@@ -42,10 +41,6 @@ Vote s = (((s.kind ≡ 3) ⊎ (s.kind ≡ 4)) ⊎ (s.kind ≡ 7)) ⊎ (s.kind �
 pub says-vote : (s : Stmt) → Says (is_vote s) (Vote s)
 unfolding is_vote
 says-vote s = says-or (says-or (says-or (says-kind 3 s) (says-kind 4 s)) (says-kind 7 s)) (says-kind 8 s)
-
-pub vote-last : (s : Stmt) (k : ℕ) → k ≡ s.kind → (k ≡ 3 → ⊥) → (k ≡ 4 → ⊥) → (k ≡ 7 → ⊥) → eqb k 8 ≡ is_vote s
-unfolding is_vote is_kind
-vote-last s k e a b c = rw (sym e, ne_eqb k 3 a, ne_eqb k 4 b, ne_eqb k 7 c)
 
 -- it is no report
 pub vote-plain : (s : Stmt) → is_vote s ≡ true → eqb s.kind 5 ≡ false
@@ -288,13 +283,6 @@ says-names : (a s : Stmt) → Says (same_names a s) (s.kind ≡ 4 → a.views �
 unfolding same_names
 says-names a s = says-imp says-eqb (says-sames a.views s.views)
 
-pub names-none : (a s : Stmt) (k : ℕ) → k ≡ s.kind → (k ≡ 4 → ⊥) → true ≡ same_names a s
-names-none a s k e d = sym (passes (says-names a s) (λ q. absurd (d (e ∙ q))))
-
-pub names-both : (a s : Stmt) (k : ℕ) (b : Bool) → k ≡ s.kind → k ≡ 4 → b ≡ same_views a.views s.views → b ≡ same_names a s
-unfolding same_names
-names-both a s k b e f g = rw (eq-eqb s.kind 4 (sym e ∙ f)) g
-
 -- what a search finds out of the vote a and the statement s: other words, other histories, alike
 
 pub other-what : (a s : Stmt) (x y : ℕ) → x ≡ what_of a → y ≡ what_of s → (x ≡ y → ⊥) → alike a s ≡ false
@@ -317,12 +305,6 @@ pub record Words (a s : Stmt) (x y x' y' x'' y'' : ℕ) : Type 0 where
   pub what-other : y' ≡ what_of s
   pub tag : x'' ≡ tag_by a
   pub tag-other : y'' ≡ tag_by s
-
-pub other-slot : (a s : Stmt) {x y x' y' x'' y'' : ℕ} → Words a s x y x' y' x'' y'' → (slot_by x x' x'' ≡ slot_by y y' y'' → ⊥) → alike a s ≡ false
-other-slot a s w d = fails (says-alike a s) (λ al. d (slots (w.at ∙ ap key_of (sym al.at) ∙ sym w.at_other) (w.what ∙ what-same a s al al.vote ∙ sym w.what-other) (w.tag ∙ tag_same a s al ∙ sym w.tag-other)))
-  where
-    slots : {x y x' y' x'' y'' : ℕ} → x ≡ y → x' ≡ y' → x'' ≡ y'' → slot_by x x' x'' ≡ slot_by y y' y''
-    slots p q r = cc
 
 pub same-words : (a s : Stmt) {x y x' y' x'' y'' : ℕ} (b : Bool) → Narrow a → Narrow s → T (is_vote a) → Words a s x y x' y' x'' y'' → x ≡ y → x' ≡ y' → x'' ≡ y'' → b ≡ same_names a s → b ≡ true → alike a s ≡ true
 same-words a s b p q v w e f g h t =

@@ -18,12 +18,13 @@ use Rattle.views.specs.Tally.{place_in, own_in, Tallied, Signed, TallyOf}
 use Rattle.views.proofs.Views.{passes, fails}
 use Rattle.pool.specs.Pool.{stmt_at, record_up_to}
 use Rattle.pool.proofs.Records.{whole, count-first, count-passes, count-signs}
+use Rattle.std.specs.Prelude.{Option, Some, None}
 use Rattle.tables.specs.Index.{key_at, Empty, RowLinked, RowKeyed}
 use Rattle.tables.proofs.Chains.{chained-first, chained_same, chained-new, empty-kept}
 use Rattle.protocol.proofs.Says.{from-true}
 use Rattle.votes.specs.declared.keys.Vote.{Vote}
 use Rattle.votes.specs.Votes.{is_vote, alike, entry, tag_by, vote_at, GroupCounts, Groups}
-use Rattle.votes.specs.Keys.{key_of, what_of, slot_by, group_slot, Key, Place, Sofar}
+use Rattle.votes.specs.Keys.{key_of, what_of, slot_by, group_slot, Key, Grouped, Place, Sofar}
 use Rattle.votes.proofs.Alike.{Alike, says-vote, says-alike, alike-vote, alike_self, alike_both, alike_turned, alike_same, view-of-key, what-same, tag_same, narrow, no-T}
 
 -- the word u is of a group that begins with entry i, before anybody signed
@@ -62,6 +63,10 @@ module _ (W ids : List ℕ) where
     distinct = λ g h l. absurd (omega arith);
   }
 
+  -- the groups as the search for one asks for them
+  pub grouped : {i n : ℕ} {K R G : List ℕ} → Sofar W ids i K R G n → Grouped W ids K R G n
+  grouped so = record { few = so.groups.most; worded = so.worded; chained = so.chained }
+
   module _ {i n : ℕ} {K R G : List ℕ} (small : i < 512) (so : Sofar W ids i K R G n) where
     -- no vote: all stays
     pub sofar-skip : (b : Bool) → b ≡ is_vote (entry W ids i) → b ≡ false → Sofar W ids (i + 1) K R G n
@@ -89,14 +94,14 @@ module _ (W ids : List ℕ) where
         covered j v (yes m) l = so.groups.covers j (omega arith) v
         covered j v (no m) l = let q : j ≡ i = omega arith in absurd (none (subst (λ x. T (is_vote (entry W ids x))) q v))
 
-    module _ (v : Vote) (g o : ℕ) (is : v.number ≡ get_or ids i 0) (found : Place W ids G n v.number g) (by : o ≡ (entry W ids i).origin) where
-      at : Place W ids G n (get_or ids i 0) g
-      at = subst (λ s. Place W ids G n s g) is found
+    module _ (v : Vote) (r : Option ℕ) (o : ℕ) (is : v.number ≡ get_or ids i 0) (found : Place W ids G n v.number r) (by : o ≡ (entry W ids i).origin) where
+      at : Place W ids G n (get_or ids i 0) r
+      at = subst (λ s. Place W ids G n s r) is found
 
       -- a vote of group g
-      pub sofar-old : (x : ℕ) → g < n → Signed (get_or G g 0) o i x → Sofar W ids (i + 1) K R (set G g x) n
+      pub sofar-old : (g x : ℕ) → r ≡ Some g → Signed (get_or G g 0) o i x → Sofar W ids (i + 1) K R (set G g x) n
       unfolding group_slot
-      sofar-old x l y = record {
+      sofar-old g x f y = record {
         fewer = omega (arith, so.fewer);
         room = length-set G g x ∙ so.room;
         worded = record {
@@ -119,11 +124,14 @@ module _ (W ids : List ℕ) where
         distinct = λ h j a b t. so.distinct h j a b ((says-alike (group G h) (group G j)).complete (back h j a b (same t)));
       }
         where
+          l : g < n
+          l = (at.here g f).0
+
           here : T (alike (group G g) (entry W ids i))
-          here = from-true (at.here l)
+          here = from-true (at.here g f).1
 
           word : get_or (set G g x) g 0 ≡ x
-          word = get_or-set_same G g x 0 (omega (arith, so.room, so.fewer))
+          word = get_or-set_same G g x 0 (omega (arith, so.room, so.fewer, l))
 
           tagged : (h : ℕ) → own_in (get_or (set G g x) h 0) ≡ own_in (get_or G h 0)
           tagged h = elim (ℕ_discrete h g) [
@@ -155,7 +163,7 @@ module _ (W ids : List ℕ) where
               go (no d) e = rw (get_or-set_other G g h x 0 d) (omega (arith, so.groups.place h m))
 
           counted : (h : ℕ) → h < n → Dec (h ≡ g) → GroupCounts (get_or (set G g x) h 0) (group G h) (record_up_to W ids (i + 1))
-          counted h m (yes q) = rw (q, word) (count-signs W ids (group G g).at (alike (group G g)) i (get_or G g 0) x small (at.here l) (subst (λ z. Signed (get_or G g 0) z i x) by y) (so.groups.counts g l))
+          counted h m (yes q) = rw (q, word) (count-signs W ids (group G g).at (alike (group G g)) i (get_or G g 0) x small (at.here g f).1 (subst (λ z. Signed (get_or G g 0) z i x) by y) (so.groups.counts g l))
           counted h m (no d) = rw (get_or-set_other G g h x 0 d)
               (count-passes W ids (group G h).at (alike (group G h)) i (get_or G h 0) small
               (fails (says-alike (group G h) (entry W ids i)) (λ al. d (so.distinct h g m l ((says-alike (group G h) (group G g)).complete (alike_both (alike_turned al) (alike_turned (same here)))))))
@@ -173,7 +181,7 @@ module _ (W ids : List ℕ) where
           covered j v (no m) k = let q : i ≡ j = omega arith in (g, l, (says-alike (group (set G g x) g) (entry W ids j)).complete (alike_both (stands g l) (same (subst (λ z. T (alike (group G g) (entry W ids z))) q here))))
 
       -- a vote of a new group
-      pub sofar-new : {K' K'' R' : List ℕ} (u x z : ℕ) (b : Bool) → (g < n → ⊥) → b ≡ is_vote (entry W ids i) → b ≡ true → Key W v → RowKeyed K 0 n v.at K' → RowKeyed K' 1 n v.what K''
+      pub sofar-new : {K' K'' R' : List ℕ} (u x z : ℕ) (b : Bool) → r ≡ None → b ≡ is_vote (entry W ids i) → b ≡ true → Key W v → RowKeyed K 0 n v.at K' → RowKeyed K' 1 n v.what K''
           → Begun (view_of v.at) i v.tag u → Signed u o i x → z ≡ slot_by v.at v.what v.tag → z < 256 → RowLinked R 0 z n R' → Sofar W ids (i + 1) K'' R' (set G n x) (n + 1)
       unfolding group_slot
       sofar-new {K'} {K''} {R'} u x z b d e f key put put' y w q c link = record {
@@ -238,7 +246,7 @@ module _ (W ids : List ℕ) where
           old_key' h l = put'.keys h (omega (arith, so.fewer)) (λ u. omega arith) ∙ (put.others 1 (omega arith) (λ u. omega arith)).key h (omega (arith, so.fewer))
 
           fresh : (h : ℕ) → h < n → alike (group G h) (entry W ids i) ≡ false
-          fresh h l = at.none (omega (arith, at.most)) h l
+          fresh h l = at.none d h l
 
           strange : (h : ℕ) → h < n → Alike (group G h) (entry W ids i) → ⊥
           strange h l al = no-T (fresh h l) ((says-alike (group G h) (entry W ids i)).complete al)

@@ -1,6 +1,6 @@
 -- Laws of the groups that go into the tables: the tests of one group, and one group more.
 -- Assumes nothing.
-use mathlib.Core.Path.{◌≡◌, sym, ap, ap₂, subst, ◌∙◌}
+use mathlib.Core.Path.{◌≡◌, refl, sym, ap, ap₂, subst, ◌∙◌}
 use mathlib.Core.Bool.{Bool, true, false, not, ◌&&◌, or-false}
 use mathlib.Core.List.{List}
 use Prim.Native.Nat.{ℕ, ◌+◌, ◌≤◌, ◌<◌}
@@ -10,50 +10,69 @@ use lib.Dec.{T, eqb}
 use lib.ListN.{get_or}
 use borrow.Author.Tests.{eq-eqb, ne_eqb}
 use Rattle.protocol.specs.Lists.{any}
-use Rattle.protocol.specs.View.{View, same_view, has_members, within, below}
+use Rattle.protocol.specs.View.{View, Ring, same_view, has_members, within, below}
 use Rattle.protocol.specs.History.{top, is_history}
 use Rattle.protocol.specs.Statement.{Stmt, is_kind, agrees_view, agrees_history}
 use Rattle.protocol.specs.Evidence.{wished, signed_by_quorum}
 use Rattle.views.specs.View.{view_of, ring_of_word}
-use Rattle.views.specs.Tally.{place_in, missing_in, own_in}
+use Rattle.views.specs.Tally.{place_in, missing_in}
 use Rattle.views.proofs.Tallies.{tally-says}
 use Rattle.views.proofs.Views.{same-yes, same-no, view-inj}
 use Rattle.pool.specs.Pool.{record_in}
+use Rattle.std.specs.Prelude.{Option, Some, None}
 use Rattle.tables.specs.Index.{key_at, number_at, SameRows, SameKeys, Empty, RowAdded}
-use Rattle.tables.proofs.Chains.{indexed-first, indexed-kept}
+use Rattle.tables.proofs.Chains.{indexed-first, indexed-kept, rows-again, keys-again, rows_same, keys-same}
 use Rattle.protocol.proofs.Says.{from-true}
 use Rattle.votes.specs.Votes.{alike, entry, tag_by, vote_at, GroupCounts, GroupsIn}
 use Rattle.votes.specs.Tables.{IsWord}
-use Rattle.votes.specs.Chosen.{choice_by, agreement_by, is_choice, is_agreement, Picked, GroupRow, GroupRows}
+use Rattle.votes.specs.Chosen.{choice_by, agreement_by, is_choice, is_agreement, Picked, GroupRow, GroupRows, Answers, WordIf, OtherTables}
 use Rattle.votes.proofs.Alike.{no-T, tag-low}
 
--- ---- five tests in a row
+-- ---- three tests in a row: all but the last, and the first two that fail
 
-module _ (a b c d e : Bool) where
-  pub stop1 : a ≡ false → false ≡ ((((a && b) && c) && d) && e)
-  stop1 p = rw p
+module _ (a b c : Bool) {r : Bool} where
+  pub all-but-last : a ≡ true → b ≡ true → r ≡ c → r ≡ ((a && b) && c)
+  all-but-last p q e = rw (p, q) e
 
-  pub stop2 : a ≡ true → b ≡ false → false ≡ ((((a && b) && c) && d) && e)
-  stop2 p q = rw (p, q)
+  pub second-fails : a ≡ true → r ≡ b → r ≡ false → r ≡ ((a && b) && c)
+  second-fails p e f = let q : b ≡ false = sym e ∙ f in rw (p, q) f
 
-  pub stop3 : a ≡ true → b ≡ true → c ≡ false → false ≡ ((((a && b) && c) && d) && e)
-  stop3 p q r = rw (p, q, r)
+  pub first-fails : a ≡ false → r ≡ false → r ≡ ((a && b) && c)
+  first-fails p f = rw p f
 
-  pub stop4 : a ≡ true → b ≡ true → c ≡ true → d ≡ false → false ≡ ((((a && b) && c) && d) && e)
-  stop4 p q r s = rw (p, q, r, s)
-
-  pub pass4 : (x : Bool) → a ≡ true → b ≡ true → c ≡ true → d ≡ true → x ≡ e → x ≡ ((((a && b) && c) && d) && e)
-  pass4 x p q r s t = rw (p, q, r, s) t
+-- ---- the tests of one group, whose owner's bits are the tag of its votes
 
 -- the kind of a vote for a view or a history, by its tag
-
-pub kind-is : (s : Stmt) (k n : ℕ) → n < 7 → k ≡ tag_by s → k ≡ n → is_kind n s ≡ true
+kind-by-tag : (s : Stmt) (k n : ℕ) → n < 7 → k ≡ tag_by s → is_kind n s ≡ eqb k n
 unfolding is_kind
-kind-is s k n l e f = eq-eqb s.kind n ((tag-low s k n l e).1 f)
+kind-by-tag s k n l e = elim (ℕ_discrete k n) [
+  | yes q ↦ eq-eqb s.kind n ((tag-low s k n l e).1 q) ∙ sym (eq-eqb k n q)
+  | no d ↦ ne_eqb s.kind n (λ q. d ((tag-low s k n l e).0 q)) ∙ sym (ne_eqb k n d)
+]
 
-pub kind-not : (s : Stmt) (k n : ℕ) → n < 7 → k ≡ tag_by s → (k ≡ n → ⊥) → is_kind n s ≡ false
-unfolding is_kind
-kind-not s k n l e d = ne_eqb s.kind n (λ q. d ((tag-low s k n l e).0 q))
+module _ (s : Stmt) (own : ℕ) (complete b : Bool) (tag : own ≡ tag_by s) where
+  -- b says whether a quorum agrees to it
+  module _ (n : ℕ) (l : n < 7) (e : b ≡ (eqb own n && complete)) where
+    kind-told : (is_kind n s && complete) ≡ b
+    kind-told = ap (λ k. k && complete) (kind-by-tag s own n l tag) ∙ sym e
+
+  pub choice-not : (w : View) → b ≡ (eqb own 3 && complete) → b ≡ false → false ≡ choice_by w complete s
+  unfolding choice_by
+  choice-not w e f = let h : (is_kind 3 s && complete) ≡ false = kind-told 3 (omega arith) e ∙ f in rw h
+
+  pub choice-told : (t v wish : ℕ) (r : Bool) → b ≡ (eqb own 3 && complete) → b ≡ true → view_of t ≡ s.at → view_of v ≡ s.view
+      → r ≡ ((below 16 (view_of t) (view_of v) && has_members 16 (view_of v)) && within 16 (view_of v) (view_of wish)) → r ≡ choice_by (view_of wish) complete s
+  unfolding choice_by
+  choice-told t v wish r e f at to q = let h : (is_kind 3 s && complete) ≡ true = kind-told 3 (omega arith) e ∙ f in rw (h, ← at, ← to) q
+
+  pub agreement-not : (R : Ring) → b ≡ (eqb own 4 && complete) → b ≡ false → false ≡ agreement_by R complete s
+  unfolding agreement_by
+  agreement-not R e f = let h : (is_kind 4 s && complete) ≡ false = kind-told 4 (omega arith) e ∙ f in rw h
+
+  pub agreement-told : (R : Ring) (t : View) (r : Bool) → b ≡ (eqb own 4 && complete) → b ≡ true → t ≡ s.at
+      → r ≡ ((any (same_view t) s.views && not (same_view t (top R s.views))) && is_history R s.views) → r ≡ agreement_by R complete s
+  unfolding agreement_by
+  agreement-told R t r e f at q = let h : (is_kind 4 s && complete) ≡ true = kind-told 4 (omega arith) e ∙ f in rw (h, ← at) q
 
 other-kind : (s : Stmt) (n : ℕ) → (s.kind ≡ n → ⊥) → is_kind n s ≡ false
 unfolding is_kind
@@ -61,11 +80,12 @@ other-kind s n d = ne_eqb s.kind n d
 
 -- a test of views in words
 
-pub top-is : (r t : ℕ) (u v : View) → view_of t ≡ u → view_of r ≡ v → r ≡ t → not (same_view u v) ≡ false
-top-is r t u v e f g = ap not (same-yes u v (sym e ∙ ap view_of (sym g) ∙ f))
-
-pub top-not : (r t : ℕ) (u v : View) → view_of t ≡ u → view_of r ≡ v → IsWord r → IsWord t → (r ≡ t → ⊥) → not (same_view u v) ≡ true
-top-not r t u v e f p q d = ap not (same-no u v (λ z. d (view-inj r t p q (f ∙ sym z ∙ sym e))))
+-- whether the top of a history is another view than t
+pub top-other : (r t : ℕ) (v : View) → view_of r ≡ v → IsWord r → IsWord t → not (eqb r t) ≡ not (same_view (view_of t) v)
+top-other r t v f p q = elim (ℕ_discrete r t) [
+  | yes e ↦ rw (eq-eqb r t e) (sym (ap not (same-yes (view_of t) v (ap view_of (sym e) ∙ f))))
+  | no d ↦ rw (ne_eqb r t d) (sym (ap not (same-no (view_of t) v (λ z. d (view-inj r t p q (f ∙ sym z))))))
+]
 
 -- ---- what is like a vote of each kind
 
@@ -104,21 +124,6 @@ module _ (init : ℕ) (X : List Stmt) (s : Stmt) (x : ℕ) (by : GroupCounts x s
       go (yes k) = ap (λ b. is_kind 4 s && b && any (same_view s.at) s.views && not (same_view s.at (top (ring_of_word init) s.views)) && is_history (ring_of_word init) s.views)
           (signed-as X s x (agrees_history s.at s.views) by (λ a. alike-history s a k))
       go (no k) = rw (other-kind s 4 k)
-
--- ---- the group g of a record, whose first vote stands at place f
-
-module _ (W ids : List ℕ) (init : ℕ) (G : List ℕ) {n : ℕ} (groups : GroupsIn W ids G n) {g f : ℕ} (l : g < n) (at : f ≡ place_in (get_or G g 0)) where
-  pub tag_is : own_in (get_or G g 0) ≡ tag_by (entry W ids f)
-  tag_is = groups.tag g l ∙ ap (λ z. tag_by (entry W ids z)) (sym at)
-
-  pub choice-of : (wish : ℕ) (r : Bool) → view_of wish ≡ wished (ring_of_word init) (record_in W ids) → r ≡ choice_by (view_of wish) (eqb (missing_in (get_or G g 0)) 0) (entry W ids f)
-      → r ≡ is_choice (ring_of_word init) (record_in W ids) (vote_at W ids G g)
-  choice-of wish r e q =
-      choice-is init (record_in W ids) (vote_at W ids G g) (get_or G g 0) (groups.counts g l) wish r e (q ∙ ap (λ z. choice_by (view_of wish) (eqb (missing_in (get_or G g 0)) 0) (entry W ids z)) at)
-
-  pub agreement-of : (r : Bool) → r ≡ agreement_by (ring_of_word init) (eqb (missing_in (get_or G g 0)) 0) (entry W ids f) → r ≡ is_agreement (ring_of_word init) (record_in W ids) (vote_at W ids G g)
-  agreement-of r q =
-      agreement-is init (record_in W ids) (vote_at W ids G g) (get_or G g 0) (groups.counts g l) r (q ∙ ap (λ z. agreement_by (ring_of_word init) (eqb (missing_in (get_or G g 0)) 0) (entry W ids z)) at)
 
 -- ---- one group more
 
@@ -202,3 +207,46 @@ module _ {W ids G : List ℕ} {t : ℕ} {of : Stmt → View} {test : Stmt → Bo
   -- all groups
   pub rows_all : {K R : List ℕ} {g n m : ℕ} → g ≡ n → GroupRows W ids G t of test g K R m → GroupRows W ids G t of test n K R m
   rows_all {K} {R} {m = m} e w = subst (λ k. GroupRows W ids G t of test k K R m) e w
+
+-- ---- what is answered of a group
+
+pub word-if : {b c : Bool} {v : View} {w : ℕ} → c ≡ b → c ≡ true → view_of w ≡ v → IsWord w → WordIf b v (Some w)
+word-if {b} {c} {v} {w} e f h l = record { some = λ x p. let q : w ≡ x = cc in (sym e ∙ f, subst (λ x. view_of x ≡ v) q h, subst IsWord q l); none = λ p. absurd (cc) }
+
+pub word-not : (v : View) {b c : Bool} → c ≡ b → c ≡ false → WordIf b v None
+word-not v e f = record { some = λ x p. absurd (cc); none = λ p. sym e ∙ f }
+
+module _ (W ids : List ℕ) (init : ℕ) (G : List ℕ) {n : ℕ} (groups : GroupsIn W ids G n) {g : ℕ} (l : g < n) where
+  module _ {w : ℕ} where
+    pub choice-in : (wish : ℕ) → view_of wish ≡ wished (ring_of_word init) (record_in W ids) → WordIf (choice_by (view_of wish) (eqb (missing_in (get_or G g 0)) 0) (vote_at W ids G g)) (vote_at W ids G g).view (Some w)
+        → (is_choice (ring_of_word init) (record_in W ids) (vote_at W ids G g) ≡ true) × (view_of w ≡ (vote_at W ids G g).view) × IsWord w
+    choice-in wish e f = let (b, v, h) = f.some w refl in (sym (choice-is init (record_in W ids) (vote_at W ids G g) (get_or G g 0) (groups.counts g l) wish true e (sym b)), v, h)
+
+    pub agreement-in : WordIf (agreement_by (ring_of_word init) (eqb (missing_in (get_or G g 0)) 0) (vote_at W ids G g)) (top (ring_of_word init) (vote_at W ids G g).views) (Some w)
+        → (is_agreement (ring_of_word init) (record_in W ids) (vote_at W ids G g) ≡ true) × (view_of w ≡ top (ring_of_word init) (vote_at W ids G g).views) × IsWord w
+    agreement-in f = let (b, v, h) = f.some w refl in (sym (agreement-is init (record_in W ids) (vote_at W ids G g) (get_or G g 0) (groups.counts g l) true (sym b)), v, h)
+
+  pub choice-out : (wish : ℕ) → view_of wish ≡ wished (ring_of_word init) (record_in W ids) → WordIf (choice_by (view_of wish) (eqb (missing_in (get_or G g 0)) 0) (vote_at W ids G g)) (vote_at W ids G g).view None
+      → is_choice (ring_of_word init) (record_in W ids) (vote_at W ids G g) ≡ false
+  choice-out wish e f = sym (choice-is init (record_in W ids) (vote_at W ids G g) (get_or G g 0) (groups.counts g l) wish false e (sym (f.none refl)))
+
+  pub agreement-out : WordIf (agreement_by (ring_of_word init) (eqb (missing_in (get_or G g 0)) 0) (vote_at W ids G g)) (top (ring_of_word init) (vote_at W ids G g).views) None → is_agreement (ring_of_word init) (record_in W ids) (vote_at W ids G g) ≡ false
+  agreement-out f = sym (agreement-is init (record_in W ids) (vote_at W ids G g) (get_or G g 0) (groups.counts g l) false (sym (f.none refl)))
+
+-- ---- one group more, by what is answered of it
+
+module _ {W ids G : List ℕ} {of : Stmt → View} {test : Stmt → Bool} {n : ℕ} {answers : ℕ → ℕ → Option ℕ → Type 0} (told : Answers W ids G of test n answers) {g p : ℕ} (l : g < n) (at : p ≡ place_in (get_or G g 0)) where
+  pub enters : {t : ℕ} {K R K' R' : List ℕ} {m w : ℕ} → answers (get_or ids p 0) (get_or G g 0) (Some w) → m < 512 → RowAdded K R t m w (get_or ids p 0) K' R' → GroupRows W ids G t of test g K R m
+      → GroupRows W ids G t of test (g + 1) K' R' (m + 1)
+  enters {w = w} said few put rows =
+      let (e, v, h) = told.some g w l (subst (λ p. answers (get_or ids p 0) (get_or G g 0) (Some w)) at said) in
+      rows_take true (sym e) refl few put at (v ∙ ap (λ z. of (entry W ids z)) (sym at)) h refl rows
+
+  pub stays-out : {t : ℕ} {K R : List ℕ} {m : ℕ} → answers (get_or ids p 0) (get_or G g 0) None → GroupRows W ids G t of test g K R m → GroupRows W ids G t of test (g + 1) K R m
+  stays-out said rows = rows-skip false (sym (told.none g l (subst (λ p. answers (get_or ids p 0) (get_or G g 0) None) at said))) refl rows
+
+pub others_first : {t : ℕ} {K R : List ℕ} → OtherTables t K R K R
+others_first = record { keys = λ u l d. keys-same; rows = λ u l d. rows_same }
+
+pub others-more : {t : ℕ} {K R K' R' K'' R'' : List ℕ} {m w x : ℕ} → OtherTables t K R K' R' → RowAdded K' R' t m w x K'' R'' → OtherTables t K R K'' R''
+others-more f put = record { keys = λ u l d. keys-again (f.keys u l d) (put.others u l d); rows = λ u l d. rows-again (f.rows u l d) (put.rows u l d) }

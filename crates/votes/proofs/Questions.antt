@@ -1,25 +1,28 @@
 -- Laws of questions: what a statement has to say to be counted.
 -- Assumes nothing.
-use mathlib.Core.Path.{◌≡◌, sym, ap, ap₂, ◌∙◌}
+use mathlib.Core.Path.{◌≡◌, sym, ap, ap₂, subst, ◌∙◌}
 use mathlib.Core.Logic.{◌⊎◌, inl, inr}
 use mathlib.Core.Bool.{Bool, true, false, ◌&&◌, and_assoc, and-false}
 use mathlib.Core.List.{List}
-use Prim.Native.Nat.{ℕ, ◌+◌, ◌≤◌, ◌<◌}
+use Prim.Native.Nat.{ℕ, ◌≤◌, ◌<◌}
 use native.Mathlib.Decide.{ℕ_discrete}
 use native.Mathlib.Omega.{arith}
 use lib.Dec.{eqb}
-use lib.ListN.{get_or}
+use lib.ListN.{length, get_or}
 use borrow.Author.Tests.{eq-eqb, ne_eqb}
 use Rattle.protocol.specs.Lists.{list_of}
 use Rattle.protocol.specs.View.{View, same_view}
 use Rattle.protocol.specs.History.{same_views}
 use Rattle.protocol.specs.Statement.{Stmt, payload_of, agrees_view, agrees_history, acks, stores}
 use Rattle.views.specs.View.{view_of, views_of}
-use Rattle.views.proofs.Tables.{list_of-more, list_of-none}
 use Rattle.views.proofs.Views.{view-inj, view-is, view-not, view-eqb}
 use Rattle.views.proofs.Histories.{sames-short, sames-differ, sames_all}
 use Rattle.pool.specs.Pool.{payload_from, word, count_of, view_at, stmt_at}
 use Rattle.pool.proofs.Laws.{views-of, plain-payload}
+use Rattle.std.specs.Bool.{MatchBool}
+use Rattle.std.proofs.lemmas.List.FromFn.{length-range_with_len, get_or-range_with_len}
+use Rattle.protocol.proofs.Numbered.{list_of-cong}
+use Rattle.std.specs.List.{AllWithin, HoldsAt, range_with_len}
 use Rattle.votes.specs.declared.question.Question.{Question}
 use Rattle.votes.specs.Question.{asks}
 
@@ -29,37 +32,37 @@ module _ (W L : List ℕ) (s : ℕ) where
   abbrev listed : ℕ → View
   listed i = view_of (get_or L i 0)
 
-  pub views-first : list_of 0 (view_at W s) ≡ views_of L 0
-  unfolding views_of
-  views-first = list_of-none (view_at W s) listed
+  -- view p is the same in both
+  abbrev pub Same : ℕ → Type 0
+  Same p = view_at W s p ≡ listed p
 
-  -- the words a and b are of view p
-  module _ (p a b : ℕ) (is : view_of a ≡ view_at W s p) (at : b ≡ get_or L p 0) where
-    pub views-next : list_of p (view_at W s) ≡ views_of L p → a ≡ b → list_of (p + 1) (view_at W s) ≡ views_of L (p + 1)
-    unfolding views_of
-    views-next h e = list_of-more p (view_at W s) listed h (sym is ∙ ap view_of (e ∙ at))
-
-    pub views-differ : (c n : ℕ) → c ≡ count_of W s → c ≡ n → p < c → a < 18446744073709551616 → b < 18446744073709551616 → (a ≡ b → ⊥) → false ≡ same_views (stmt_at W s).views (views_of L n)
-    unfolding views_of
-    views-differ c n e f l x y d =
-        sames-differ (view_at W s) listed c p l (λ q. d (view-inj a b x y (is ∙ q ∙ ap view_of (sym at))))
-        ∙ ap₂ (λ k m. same_views k (list_of m listed)) (views-of W s c e) f
+  -- a word of another view
+  module _ (p : ℕ) (fits : (i : ℕ) → get_or L i 0 < 18446744073709551616) where
+    pub word-other : {a : ℕ} → view_of a ≡ view_at W s p → a < 18446744073709551616 → (a ≡ get_or L p 0 → ⊥) → Same p → ⊥
+    word-other {a} e l d h = d (view-inj a (get_or L p 0) l (fits p) (e ∙ h))
 
   module _ (c n : ℕ) (is : c ≡ count_of W s) where
     pub views-short : (c ≡ n → ⊥) → false ≡ same_views (stmt_at W s).views (views_of L n)
     unfolding views_of
     views-short d = sames-short (view_at W s) listed c n d ∙ ap (λ k. same_views k (views_of L n)) (views-of W s c is)
 
-    pub views-all : (p : ℕ) → p ≡ c → c ≡ n → list_of p (view_at W s) ≡ views_of L p → true ≡ same_views (stmt_at W s).views (views_of L n)
+    -- an answer of `all` over the numbers below n
+    pub views-told : c ≡ n → (r : Bool) → MatchBool r (AllWithin Same (range_with_len 0 n) 0 (length (range_with_len 0 n))) ((k : ℕ) × (k < length (range_with_len 0 n)) × HoldsAt (λ p. Same p → ⊥) (range_with_len 0 n) k)
+        → r ≡ same_views (stmt_at W s).views (views_of L n)
     unfolding views_of
-    views-all p e f h = sames_all (view_at W s) listed p h ∙ ap₂ (λ k m. same_views k (views_of L m)) (views-of W s p (e ∙ is)) (e ∙ f)
+    views-told e r t = go r t ∙ ap₂ (λ k m. same_views k (list_of m listed)) (views-of W s c is) e
+      where
+        number : (k : ℕ) → k < n → get_or (range_with_len 0 n) k 0 ≡ k
+        number k l = omega (arith, get_or-range_with_len 0 n k 0 l)
+
+        go : (r : Bool) → MatchBool r (AllWithin Same (range_with_len 0 n) 0 (length (range_with_len 0 n))) ((k : ℕ) × (k < length (range_with_len 0 n)) × HoldsAt (λ p. Same p → ⊥) (range_with_len 0 n) k)
+            → r ≡ same_views (list_of c (view_at W s)) (list_of c listed)
+        go true t = sames_all (view_at W s) listed c (list_of-cong c (view_at W s) listed (λ k l. subst Same (number k (omega (arith, e))) (t k 0 (omega arith) (omega (arith, e, length-range_with_len 0 n)))))
+        go false (k, l, h) = let m : k < n = omega (arith, length-range_with_len 0 n) in sames-differ (view_at W s) listed c k (omega (arith, e)) (subst (λ p. Same p → ⊥) (number k m) (h 0))
 
 -- ---- whether statement n is about the payload of a notice
 
 module _ (W : List ℕ) (n i notice payload : ℕ) (is : i ≡ (stmt_at W n).notice) where
-  pub notice-other : (i ≡ notice → ⊥) → false ≡ (eqb (stmt_at W n).notice notice && eqb (payload_of (stmt_at W n)) payload)
-  notice-other d = sym (ap (λ b. b && eqb (payload_of (stmt_at W n)) payload) (ne_eqb (stmt_at W n).notice notice (λ q. d (is ∙ q))))
-
   pub notice-same : (x : ℕ) → i ≡ notice → x ≡ word W n payload_from → ((stmt_at W n).kind ≡ 5 → ⊥) → eqb x payload ≡ (eqb (stmt_at W n).notice notice && eqb (payload_of (stmt_at W n)) payload)
   notice-same x e f d = sym (ap₂ ◌&&◌ (eq-eqb (stmt_at W n).notice notice (sym is ∙ e)) (ap (λ y. eqb y payload) (plain-payload W n (ne_eqb (stmt_at W n).kind 5 d) ∙ sym f)))
 
@@ -144,3 +147,8 @@ module _ (q : Question) (H : List ℕ) (s : Stmt) where
   pub asks_none : (q.kind ≡ 3 → ⊥) → (q.kind ≡ 4 → ⊥) → (q.kind < 7) ⊎ (8 < q.kind) → false ≡ asks q H s
   asks_none a b (inl l) = sym (is_none a b (λ e. omega arith) (λ e. omega arith))
   asks_none a b (inr l) = sym (is_none a b (λ e. omega arith) (λ e. omega arith))
+
+  -- no kind has the number that q asks for
+  pub asks-unknown : (q.kind < 1) ⊎ (8 < q.kind) → false ≡ asks q H s
+  asks-unknown (inl l) = asks_none (λ e. omega arith) (λ e. omega arith) (inl (omega arith))
+  asks-unknown (inr l) = asks_none (λ e. omega arith) (λ e. omega arith) (inr l)

@@ -1,6 +1,6 @@
 -- The groups of votes that go into the tables: choices of views and agreements to histories, each by a quorum.
 -- Assumes nothing.
-use Rattle.std.specs.Prelude.{◌≡◌, Bool, not, ◌&&◌, List, ℕ, ◌≤◌, ◌<◌, T, get_or}
+use Rattle.std.specs.Prelude.{◌≡◌, Bool, true, false, Option, Some, None, not, ◌&&◌, List, ℕ, ◌≤◌, ◌<◌, T, get_or}
 use Rattle.protocol.specs.Lists.{any}
 use Rattle.protocol.specs.View.{View, Ring, same_view, has_members, within, below}
 use Rattle.protocol.specs.History.{top, is_history}
@@ -9,7 +9,7 @@ use Rattle.protocol.specs.Evidence.{wished, signed_by_quorum}
 use Rattle.views.specs.View.{view_of, ring_of_word}
 use Rattle.views.specs.Tally.{place_in}
 use Rattle.pool.specs.Pool.{record_in}
-use Rattle.tables.specs.Index.{number_at, key_at, Indexed}
+use Rattle.tables.specs.Index.{number_at, key_at, SameRows, SameKeys, Indexed}
 use Rattle.votes.specs.Votes.{vote_at}
 use Rattle.votes.specs.Tables.{IsWord}
 
@@ -56,3 +56,29 @@ Choices W ids init G n K R choice_count = GroupRows W ids G 0 (λ s. s.view) (is
 
 abbrev pub Agreements : List ℕ → List ℕ → ℕ → List ℕ → ℕ → List ℕ → List ℕ → ℕ → Type 0
 Agreements W ids init G n K R agreement_count = GroupRows W ids G 1 (λ s. top (ring_of_word init) s.views) (is_agreement (ring_of_word init) (record_in W ids)) n K R agreement_count
+
+-- ---- how they go there
+
+-- The number of the statement that group g stands for.
+abbrev pub number_of : List ℕ → List ℕ → ℕ → ℕ
+number_of ids G g = get_or ids (place_in (get_or G g 0)) 0
+
+-- The n groups stand for entries of a record.
+pub record Placed (G : List ℕ) (n : ℕ) : Type 0 where
+  pub most : n ≤ 512
+  pub place : (g : ℕ) → g < n → place_in (get_or G g 0) < 512
+
+-- What is answered of a group's statement and tally: the word of the view `of` its votes where they have `test`, and otherwise None.
+pub record Answers (W ids G : List ℕ) (of : Stmt → View) (test : Stmt → Bool) (n : ℕ) (answers : ℕ → ℕ → Option ℕ → Type 0) : Type 0 where
+  pub some : (g w : ℕ) → g < n → answers (number_of ids G g) (get_or G g 0) (Some w) → (test (vote_at W ids G g) ≡ true) × (view_of w ≡ of (vote_at W ids G g)) × IsWord w
+  pub none : (g : ℕ) → g < n → answers (number_of ids G g) (get_or G g 0) None → test (vote_at W ids G g) ≡ false
+
+-- r is the word of the view v where b holds, and otherwise None.
+pub record WordIf (b : Bool) (v : View) (r : Option ℕ) : Type 0 where
+  pub some : (w : ℕ) → r ≡ Some w → (b ≡ true) × (view_of w ≡ v) × IsWord w
+  pub none : r ≡ None → b ≡ false
+
+-- Nothing changed but table t.
+pub record OtherTables (t : ℕ) (K R K' R' : List ℕ) : Type 0 where
+  pub keys : (u : ℕ) → u < 2 → (u ≡ t → ⊥) → SameKeys K K' u
+  pub rows : (u : ℕ) → u < 2 → (u ≡ t → ⊥) → SameRows R R' u

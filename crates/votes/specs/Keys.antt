@@ -1,6 +1,6 @@
 -- Votes by three words: votes that are alike have the same words, and votes with the same words are alike but for their histories.
 -- Assumes nothing.
-use Rattle.std.specs.Prelude.{◌≡◌, Bool, true, false, not, ◌&&◌, ◌||◌, List, [], ◌∷◌, ℕ, ◌+◌, ◌-◌, ◌*◌, ◌/◌, ◌%◌, ◌≤◌, ◌<◌, T, eqb, length, get_or, if◌then◌else◌}
+use Rattle.std.specs.Prelude.{◌≡◌, Bool, true, false, not, ◌&&◌, ◌||◌, List, [], ◌∷◌, ℕ, ◌+◌, ◌*◌, ◌/◌, ◌%◌, ◌≤◌, ◌<◌, T, eqb, length, get_or, if◌then◌else◌, Option, Some, None}
 use Rattle.protocol.specs.View.{View}
 use Rattle.protocol.specs.History.{same_views}
 use Rattle.protocol.specs.Statement.{Stmt, payload_of}
@@ -54,15 +54,10 @@ pub record Worded (W ids K G : List ℕ) (n : ℕ) : Type 0 where
 unfoldable pub has_words : List ℕ → List ℕ → Vote → ℕ → Bool
 has_words K G v g = eqb (key_at K 1 g) v.what && eqb (key_at K 0 g) v.at && eqb (own_in (get_or G g 0)) v.tag
 
--- Group g has them.
-abbrev pub Matches : List ℕ → List ℕ → Vote → ℕ → Type 0
-Matches K G v g = has_words K G v g ≡ true
-
--- r is the group of statement s, or n.
-pub record Place (W ids G : List ℕ) (n s r : ℕ) : Type 0 where
-  pub most : r ≤ n
-  pub none : r ≡ n → (g : ℕ) → g < n → alike (vote_at W ids G g) (stmt_at W s) ≡ false
-  pub here : r < n → alike (vote_at W ids G r) (stmt_at W s) ≡ true
+-- r is the group of statement s, or None where no group is like it.
+pub record Place (W ids G : List ℕ) (n s : ℕ) (r : Option ℕ) : Type 0 where
+  pub none : r ≡ None → (g : ℕ) → g < n → alike (vote_at W ids G g) (stmt_at W s) ≡ false
+  pub here : (g : ℕ) → r ≡ Some g → (g < n) × (alike (vote_at W ids G g) (stmt_at W s) ≡ true)
 
 -- The slot of the words of a vote: votes that are alike share it, and other ones seldom.
 unfoldable pub slot_by : ℕ → ℕ → ℕ → ℕ
@@ -72,13 +67,11 @@ slot_by at what tag = ((folded at + tag % 65536) * 1640531527 + folded what * 66
 unfoldable pub group_slot : List ℕ → List ℕ → ℕ → ℕ
 group_slot K G g = slot_by (key_at K 0 g) (key_at K 1 g) (own_in (get_or G g 0))
 
--- The index of the first table leads on from `from`, a group of the slot of v plus one or 0.
-pub record Leads (K R G : List ℕ) (v : Vote) (from : ℕ) : Type 0 where
-  pub groups : ℕ
-  pub few : groups ≤ 512
-  pub chained : Chained (group_slot K G) R 0 groups
-  pub most : from ≤ groups
-  pub here : 0 < from → group_slot K G (from - 1) ≡ slot_by v.at v.what v.tag
+-- The n groups have the words of their votes, and the index of the first table leads to them.
+pub record Grouped (W ids K R G : List ℕ) (n : ℕ) : Type 0 where
+  pub few : n ≤ 512
+  pub worded : Worded W ids K G n
+  pub chained : Chained (group_slot K G) R 0 n
 
 -- The first i entries are in n groups, no two of which are alike, and the index of the first table leads to them.
 pub record Sofar (W ids : List ℕ) (i : ℕ) (K R G : List ℕ) (n : ℕ) : Type 0 where

@@ -1,7 +1,7 @@
 -- What quorums agreed to, in two tables: choices of views, table 0, and agreements to histories, table 1. The cycle of candidates and sealed histories goes over them.
 -- The key of a choice is the word of its view, that of an agreement the word of its history's top; the number of a row is that of a statement in the pool that says it.
 -- Assumes nothing.
-use Rattle.std.specs.Prelude.{◌≡◌, Bool, ◌&&◌, ◌||◌, List, [], ◌∷◌, ℕ, ◌+◌, ◌≤◌, ◌<◌, eqb, get_or}
+use Rattle.std.specs.Prelude.{◌≡◌, Bool, ◌&&◌, ◌||◌, List, [], ◌∷◌, ℕ, ◌≤◌, ◌<◌, eqb}
 use Rattle.protocol.specs.Lists.{◌∈◌, any, all, list_of}
 use Rattle.protocol.specs.View.{View, size}
 use Rattle.protocol.specs.History.{same_views}
@@ -56,8 +56,3 @@ module _ (W : List ℕ) (X : List Stmt) (init : ℕ) (K R : List ℕ) where
     pub rises : (c : ℕ) → c < choice_count → size 16 (choice_at W R c).at < size 16 (view_of (key_at K 0 c))
     pub climbs : (a : ℕ) → a < agreement_count → size 16 (agreement_at W R a).at < size 16 (view_of (key_at K 1 a))
     pub within : (a : ℕ) → a < agreement_count → (v : View) → v ∈ (agreement_at W R a).views → size 16 v ≤ size 16 (view_of (key_at K 1 a))
-
-  -- All verdicts, in one memory: place c has 1 just where the view of choice c is a candidate, place 512 + a just where agreement a seals its history.
-  pub record Verdicts (choice_count agreement_count : ℕ) (M : List ℕ) : Type 0 where
-    pub candidate : (c : ℕ) → c < choice_count → eqb (get_or M c 0) 1 ≡ is_candidate (ring_of_word init) X (view_of (key_at K 0 c))
-    pub sealed : (a : ℕ) → a < agreement_count → eqb (get_or M (512 + a) 0) 1 ≡ seals_at a

@@ -5,6 +5,7 @@ ghost use Rattle.votes.specs.Votes.{is_vote, tag_by};
 ghost use Rattle.votes.specs.Keys.{folded, weight_of, mix_from, what_of, same_names, Key, slot_by};
 
 use pool::POOL_WORDS;
+use statements::Kind;
 
 // What the low half of a word is below, and its lowest quarter.
 const HALF: u64 = 4294967296;
@@ -21,9 +22,7 @@ const FIRST_WEIGHT: u64 = 2053;
 
 const NEXT_WEIGHT: u64 = 128;
 
-// The least kind of a vote that is about a notice, and where the notice stands in a tag: above the kind.
-const ACK: u64 = 7;
-
+// Where the notice stands in a tag: above the kind.
 const NOTICE: u64 = 256;
 
 // A vote by its pool number, with the word of the view at which it was signed, what it is for, and its tag.
@@ -36,23 +35,19 @@ pub struct Vote {
 }
 
 // Whether statement n is a vote.
+#[tactic(auto, unfolding(crate::specs::Votes::is_vote, protocol::specs::Statement::is_kind))]
 pub fn is_vote(words: &[u64; POOL_WORDS], n: u16) -> bool
     ensures { result ≡ is_vote (stmt_at words.now n) }
 {
     let k = pool::kind(words, n);
-    if k == 3 {
-        return true;
-    }
-    if k == 4 {
-        return true;
-    }
-    if k == 7 {
-        return true;
-    }
-    k == 8
+    k == Kind::AgreeView as u64
+        || k == Kind::AgreeHistory as u64
+        || k == Kind::Ack as u64
+        || k == Kind::Store as u64
 }
 
 // A word in 32 bits. It tells all views of the sixteen controllers apart: who left stands above who joined.
+#[tactic(auto, unfolding(crate::specs::Keys::folded))]
 fn fold(x: u64) -> u64
     ensures { (result ≡ folded x) × (result < 4294967296) }
 {
@@ -60,6 +55,7 @@ fn fold(x: u64) -> u64
 }
 
 // How often the view at place p counts in a mix.
+#[tactic(auto, unfolding(crate::specs::Keys::weight_of))]
 fn weight(p: usize) -> u64
     requires { p < 16 }
     ensures { (result ≡ weight_of p) × (result < 4096) }
@@ -73,10 +69,8 @@ fn mixed(words: &[u64; POOL_WORDS], n: u16) -> u64
 {
     let c = pool::count(words, n);
     let mut h: u64 = 0;
-    let mut p = 0usize;
-    while p < c {
+    for p in 0..c {
         h += pool::nth(words, n, p) * weight(p);
-        p += 1;
     }
     h
 }
@@ -87,13 +81,13 @@ fn what_of(words: &[u64; POOL_WORDS], n: u16) -> u64
     ensures { result ≡ what_of (stmt_at words.now n) }
 {
     let k = pool::kind(words, n);
-    if k == 3 {
-        return pool::view(words, n);
+    if k == Kind::AgreeView as u64 {
+        pool::view(words, n)
+    } else if k == Kind::AgreeHistory as u64 {
+        mixed(words, n)
+    } else {
+        pool::payload(words, n)
     }
-    if k == 4 {
-        return mixed(words, n);
-    }
-    pool::payload(words, n)
 }
 
 // The tag of the vote n.
@@ -101,7 +95,7 @@ fn tag_of(words: &[u64; POOL_WORDS], n: u16) -> u64
     ensures { (result ≡ tag_by (stmt_at words.now n)) × (result < 65536) }
 {
     let k = pool::kind(words, n);
-    if k < ACK {
+    if k < Kind::Ack as u64 {
         return k;
     }
     k + pool::notice(words, n) * NOTICE
@@ -121,13 +115,11 @@ pub fn vote_of(words: &[u64; POOL_WORDS], n: u16) -> Vote
 }
 
 // Whether i and j, votes with the same words, name the same history where they name one.
+#[tactic(auto, unfolding(crate::specs::Keys::same_names))]
 pub fn same_names(words: &[u64; POOL_WORDS], i: u16, j: u16) -> bool
     ensures { result ≡ same_names (stmt_at words.now i) (stmt_at words.now j) }
 {
-    if pool::kind(words, j) != 4 {
-        return true;
-    }
-    pool::same_views(words, i, j)
+    pool::kind(words, j) != Kind::AgreeHistory as u64 || pool::same_views(words, i, j)
 }
 
 // The slot of a vote.

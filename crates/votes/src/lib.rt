@@ -8,7 +8,7 @@ mod question;
 mod wish;
 
 pub use chosen::tabulate;
-pub use groups::{gather, groups_room, has_votes};
+pub use groups::{gather, has_votes};
 use pool::CAPACITY;
 pub use question::{Question, count, signers};
 pub use wish::wished_by;

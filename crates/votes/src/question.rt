@@ -10,16 +10,8 @@ ghost use Rattle.pool.specs.Pool.{stmt_at, record_in};
 ghost use Rattle.votes.specs.Question.{asks};
 
 use pool::{POOL_WORDS, RECORD};
+use statements::Kind;
 use views::{Count, View};
-
-// The kinds of votes.
-const AGREE_VIEW: u8 = 3;
-
-const AGREE_HISTORY: u8 = 4;
-
-const ACK: u8 = 7;
-
-const STORE: u8 = 8;
 
 // What is counted: votes of a kind at a view, for a view or for the payload of a notice, as a word; or for a history of this length, which is lent beside it.
 #[derive(Clone, Copy)]
@@ -35,53 +27,29 @@ pub struct Question {
 fn has_views(words: &[u64; POOL_WORDS], s: u16, list: &[u64; View::LIMIT], n: usize) -> bool
     ensures { result ≡ same_views (stmt_at words.now s).views (views_of list.now n) }
 {
-    let c = pool::count(words, s);
-    if c != n {
-        return false;
-    }
-    let mut p = 0usize;
-    while p < c {
-        if pool::nth(words, s, p) != views::list_at(list, p) {
-            return false;
-        }
-        p += 1;
-    }
-    true
+    pool::count(words, s) == n && (0..n).all(|p| pool::nth(words, s, p) == list[p])
 }
 
 // Whether statement s, which is no report, is about the payload of the notice.
 fn is_for(words: &[u64; POOL_WORDS], s: u16, notice: u8, payload: u64) -> bool
     ensures { ((stmt_at words.now s).kind ≡ 5 → ⊥) → result ≡ (eqb (stmt_at words.now s).notice notice && eqb (payload_of (stmt_at words.now s)) payload) }
 {
-    if pool::notice(words, s) != notice as u64 {
-        return false;
-    }
-    pool::payload(words, s) == payload
+    pool::notice(words, s) == u64::from(notice) && pool::payload(words, s) == payload
 }
 
 // Whether statement s is such a vote.
 fn says(words: &[u64; POOL_WORDS], s: u16, q: Question, history: &[u64; View::LIMIT]) -> bool
     ensures { result ≡ asks q history.now (stmt_at words.now s) }
 {
-    if pool::kind(words, s) != q.kind as u64 {
+    if pool::kind(words, s) != u64::from(q.kind) || pool::at(words, s) != q.at {
         return false;
     }
-    if pool::at(words, s) != q.at {
-        return false;
+    match Kind::try_from(q.kind) {
+        Ok(Kind::AgreeView) => pool::view(words, s) == q.what,
+        Ok(Kind::AgreeHistory) => has_views(words, s, history, q.length),
+        Ok(Kind::Ack | Kind::Store) => is_for(words, s, q.notice, q.what),
+        _ => false,
     }
-    if q.kind == AGREE_VIEW {
-        return pool::view(words, s) == q.what;
-    }
-    if q.kind == AGREE_HISTORY {
-        return has_views(words, s, history, q.length);
-    }
-    if q.kind < ACK {
-        return false;
-    }
-    if STORE < q.kind {
-        return false;
-    }
-    is_for(words, s, q.notice, q.what)
 }
 
 // Whether a quorum signed such votes, and how many statements of the record were read.
@@ -95,19 +63,16 @@ pub fn count(
 {
     let end = pool::record_length(ids);
     let mut a = views::unsigned(q.at, 0, 0);
-    let mut i = 0usize;
-    while i < end {
+    for i in 0..end {
         let s = ids[i];
         if !says(words, s, q, history) {
-            i += 1;
             continue;
         }
         a = views::sign(a, pool::origin(words, s), i);
-        i += 1;
         if views::is_complete(a) {
             return Count {
                 reached: true,
-                read: i,
+                read: i + 1,
             };
         }
     }
@@ -128,16 +93,10 @@ pub fn signers(
 {
     let end = pool::record_length(ids);
     let mut seen = 0u32;
-    let mut i = 0usize;
-    while i < end {
-        let s = ids[i];
-        let hit = says(words, s, q, history);
-        if !hit {
-            i += 1;
-            continue;
+    for s in &ids[..end] {
+        if says(words, *s, q, history) {
+            seen = views::note(seen, true, pool::origin(words, *s));
         }
-        seen = views::note(seen, hit, pool::origin(words, s));
-        i += 1;
     }
     views::members_among(q.at, seen)
 }

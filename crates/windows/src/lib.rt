@@ -25,7 +25,7 @@ const END: u64 = 4294967296;
 pub fn word_of(weekday: u16, first: u16, end: u16) -> u64
     ensures { window_in result ≡ window_of weekday first end }
 {
-    weekday as u64 + first as u64 * FIRST + end as u64 * END
+    u64::from(weekday) + u64::from(first) * FIRST + u64::from(end) * END
 }
 
 fn weekday_of(w: u64) -> u64
@@ -50,70 +50,30 @@ fn end_of(w: u64) -> u64
 fn is_allowed(w: u64) -> bool
     ensures { result ≡ window_allowed (window_in w) }
 {
-    if weekday_of(w) > LAST_WEEKDAY {
-        return false;
-    }
-    if first_of(w) >= end_of(w) {
-        return false;
-    }
-    end_of(w) <= DAY
+    weekday_of(w) <= LAST_WEEKDAY && first_of(w) < end_of(w) && end_of(w) <= DAY
 }
 
 // Whether a setup may have the first `count` windows.
 pub fn are_allowed(windows: &[u64; WINDOWS], count: usize) -> bool
     ensures { result ≡ windows_allowed (windows_in windows.now count) }
 {
-    if count > WINDOWS {
-        return false;
-    }
-    let mut i = 0usize;
-    while i < count {
-        if !is_allowed(windows[i]) {
-            return false;
-        }
-        i += 1;
-    }
-    true
+    count <= WINDOWS && windows[..count].iter().all(|w| is_allowed(*w))
 }
 
 // Whether the minute of the week is inside the window.
 fn is_inside(w: u64, minute: u16) -> bool
     ensures { result ≡ is_inside minute (window_in w) }
 {
-    let m = minute as u64;
-    if weekday_of(w) != m / DAY {
-        return false;
-    }
-    if m % DAY < first_of(w) {
-        return false;
-    }
-    m % DAY < end_of(w)
-}
-
-// How many windows there are: at most eight.
-fn window_count(count: usize) -> usize
-    ensures { result ≡ min count 8 }
-{
-    if count > WINDOWS {
-        return WINDOWS;
-    }
-    count
+    let m = u64::from(minute);
+    weekday_of(w) == m / DAY && first_of(w) <= m % DAY && m % DAY < end_of(w)
 }
 
 // Whether a leave may be signed at the minute of the week: it is inside one of the first `count` windows, or there is none.
 pub fn is_open(windows: &[u64; WINDOWS], count: usize, minute: u16) -> bool
     ensures { result ≡ is_open (windows_in windows.now (min count 8)) minute }
 {
-    if count == 0 {
-        return true;
-    }
-    let n = window_count(count);
-    let mut i = 0usize;
-    while i < n {
-        if is_inside(windows[i], minute) {
-            return true;
-        }
-        i += 1;
-    }
-    false
+    count == 0
+        || windows[..count.min(WINDOWS)]
+            .iter()
+            .any(|w| is_inside(*w, minute))
 }

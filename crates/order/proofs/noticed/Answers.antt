@@ -1,15 +1,13 @@
-use mathlib.Core.Path.{sym, ◌∙◌}
-use Rattle.order.proofs.Chosen.{one, skip, others}
+use Rattle.std.proofs.Common.{rules, [], ◌∷◌}
+use Rattle.pool.specs.Pool.{record_in}
+use Rattle.rules.specs.Rules.{own_statements, told, sends}
+use Rattle.order.proofs.Chosen.{only, or_else, others}
 use Rattle.order.proofs.noticed.Goals as goal
 
-pub returns-then-acts : goal.returns-then-acts
-returns-then-acts c = one _ c.rule5-fifth.ensures (sym c.acts.ensures ∙ c.if-acts.true) (λ d X h. (h.0, (h.1.0, (h.1.1.0, (h.1.1.1.0, tt)))))
-
-pub returns-then-acts-2 : goal.returns-then-acts-2
-returns-then-acts-2 c = skip _ c.rule5-fifth.ensures (sym c.acts.ensures ∙ c.if-acts.false) (λ d X h. (h.0, (h.1.0, (h.1.1.0, (h.1.1.1.0, tt))))) (one _ c.rule6-sixth.ensures (sym c.acts-2.ensures ∙ c.if-acts-2.true) (λ d X h. (h.1.0, (h.1.1.1.0, tt))))
-
-pub returns-then-acts-3 : goal.returns-then-acts-3
-returns-then-acts-3 c = skip _ c.rule5-fifth.ensures (sym c.acts.ensures ∙ c.if-acts.false) (λ d X h. (h.0, (h.1.0, (h.1.1.0, (h.1.1.1.0, tt))))) (skip _ c.rule6-sixth.ensures (sym c.acts-2.ensures ∙ c.if-acts-2.false) (λ d X h. (h.1.0, (h.1.1.1.0, tt))) (one _ c.rule7-seventh.ensures (sym c.acts-3.ensures ∙ c.if-acts-3.true) (λ d X h. (h.1.1.1.0, tt))))
-
 pub returns : goal.returns
-returns c = skip _ c.rule5-fifth.ensures (sym c.acts.ensures ∙ c.if-acts.false) (λ d X h. (h.0, (h.1.0, (h.1.1.0, (h.1.1.1.0, tt))))) (skip _ c.rule6-sixth.ensures (sym c.acts-2.ensures ∙ c.if-acts-2.false) (λ d X h. (h.1.0, (h.1.1.1.0, tt))) (skip _ c.rule7-seventh.ensures (sym c.acts-3.ensures ∙ c.if-acts-3.false) (λ d X h. (h.1.1.1.0, tt)) (others c.requested.ensures (λ d X h. (h.1.0, h.1.1.1.1)))))
+returns c =
+    let own = own_statements (record_in c.args.words.now c.args.own.now) in
+    or_else _ _ (or_else _ _ (or_else _ _ (only c.rule5.ensures (λ d X h. (h.0, (h.1.0, (h.1.1.0, (h.1.1.1.0, tt))))))
+    c.or_else.ensures (λ p. only {L = own ∷ told c.args.told.now ∷ []} (search rules) (λ d X h. (h.1.0, (h.1.1.1.0, tt)))))
+    c.or_else-2.ensures (λ p. only {L = told c.args.told.now ∷ []} (search rules) (λ d X h. (h.1.1.1.0, tt))))
+    c.or_else-3.ensures (λ p. others {L = own ∷ sends c.args.sends.now ∷ []} (search rules) (λ d X h. (h.1.0, h.1.1.1.1)))

@@ -8,5 +8,5 @@ returns-then-one c = notice-one c.args.out.now c.args.at c.args.j c.args.one c.i
 pub put_number-requires : goal.put_number-requires
 put_number-requires c = omega (arith, c.requires.1, notice-most c.args.j c.requires.0)
 
-pub returns : goal.returns
-returns c = notice-number c.args.j c.args.one c.if-one.false c.put_number.ensures
+pub returns-else-one : goal.returns-else-one
+returns-else-one c = notice-number c.args.j c.args.one c.if-one.false c.put_number.ensures

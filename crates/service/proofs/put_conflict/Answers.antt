@@ -8,4 +8,4 @@ use Rattle.service.proofs.put_conflict.Goals as goal
 
 pub returns : goal.returns
 unfolding conflict_screen
-returns c = (both c.put_head-a.ensures.0 (both c.write_text-b.ensures (both (wrote_as (ap (λ n. lines_below n (held_line c.args.init (record_in c.args.words.now c.args.ids.now) c.args.e c.args.certs.now c.args.c.held c.args.c.delivered)) c.few-n.ensures.0) c.put_notices-d.ensures.0) c.write_text.ensures)), omega (arith, c.put_head-a.ensures.1, c.write_text-b.ensures.next, c.put_notices-d.ensures.1, c.few-n.ensures.1, c.write_text.ensures.next))
+returns c = (both c.put_head-a.ensures.0 (both c.write_text-b.ensures (both (wrote_as (ap (λ n. lines_below n (held_line c.args.init (record_in c.args.words.now c.args.ids.now) c.args.e c.args.certs.now c.args.c.held c.args.c.delivered)) c.min-n.ensures) c.put_notices-d.ensures.0) c.write_text.ensures)), omega (arith, c.put_head-a.ensures.1, c.write_text-b.ensures.next, c.put_notices-d.ensures.1, c.min-n.ensures, c.write_text.ensures.next))

@@ -1,5 +1,5 @@
 use native.Mathlib.Omega.{arith}
-use mathlib.Core.Path.{sym, ap}
+use mathlib.Core.Path.{sym, ap, ◌∙◌}
 use lib.Dec.{leb}
 use lib.ListN.{length}
 use Rattle.statements.specs.Text.{text}
@@ -10,10 +10,7 @@ use Rattle.statements.proofs.Laws.{means-most}
 use Rattle.statements.proofs.has_room.Goals as goal
 
 pub returns-then-room-ge-LONGEST : goal.returns-then-room-ge-LONGEST
-returns-then-room-ge-LONGEST c = sym (le-leb (length (text (stmt_of c.args.st c.args.block.now))) c.args.room (omega (arith, means-most c.args.st c.args.block.now (omega arith) (omega arith) (omega arith) (omega arith) c.requires)))
+returns-then-room-ge-LONGEST c = le-leb 3120 c.args.room c.if-room-ge-LONGEST.true ∙ sym (le-leb (length (text (stmt_of c.args.st c.args.block.now))) c.args.room (omega (arith, means-most c.args.st c.args.block.now (omega arith) (omega arith) (omega arith) (omega arith) c.requires)))
 
-pub overflow_add-result : goal.overflow_add-result
-overflow_add-result c = omega (arith, c.text_len.ensures.1, c.told_len-told.ensures.1)
-
-pub returns : goal.returns
-returns c = ap (λ n. leb n c.args.room) (omega (arith, c.text_len.ensures.0, c.told_len-told.ensures.0, text-size c.args.st c.args.block.now))
+pub returns-else-room-ge-LONGEST : goal.returns-else-room-ge-LONGEST
+returns-else-room-ge-LONGEST c = ap (λ n. leb n c.args.room) (omega (arith, c.text_len.ensures.0, c.told_len.ensures.0, text-size c.args.st c.args.block.now))

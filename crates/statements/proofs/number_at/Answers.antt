@@ -1,14 +1,6 @@
-use native.Mathlib.Omega.{arith}
 use mathlib.Core.Path.{sym, ◌∙◌}
-use Rattle.text.proofs.Laws.{comma-in}
-use Rattle.statements.proofs.Fields.{number-none, number-some}
+use Rattle.statements.proofs.Fields.{number-some}
 use Rattle.statements.proofs.number_at.Goals as goal
 
-pub overflow_add-at : goal.overflow_add-at
-overflow_add-at c = omega (arith, comma-in c.args.s.now c.args.at (sym c.comma_at.ensures ∙ c.if-comma_at.true))
-
-pub returns-then-comma_at : goal.returns-then-comma_at
-returns-then-comma_at c = number-some c.args.s.now c.args.at _ _ _ c.ranges.most.fits (sym c.comma_at.ensures ∙ c.if-comma_at.true) c.read_dec-r.ensures c.bounded.ensures
-
-pub returns-else-comma_at : goal.returns-else-comma_at
-returns-else-comma_at c = number-none c.args.s.now c.args.at _ (sym c.comma_at.ensures ∙ c.if-comma_at.false)
+pub returns : goal.returns
+returns c = number-some c.args.s.now c.args.at _ _ c.ranges.most.fits (sym c.comma_at.ensures ∙ c.if-not-comma_at.false) c.read_dec.ensures _ c.bounded.ensures

@@ -1,16 +1,14 @@
-use borrow.Author.Tests.{not-true, not-false}
-use Rattle.statements.proofs.Statements.{refused-of, head-refused, told-refused, parse-of}
-use mathlib.Core.List.{[]}
+use Rattle.statements.proofs.Statements.{head-refused, told-refused, tail-refused, parse-of}
 use Rattle.statements.proofs.parse.Goals as goal
 
-pub returns-then-not-head : goal.returns-then-not-head
-returns-then-not-head c = refused-of _ _ _ c.head_at-head.result c.head_at-head.ensures _ c.refused.ensures.0 c.refused.ensures.1 (head-refused _ _ [] c.head_at-head.result c.head_at-head.ensures (not-true _ c.if-not-head.true))
+pub returns-in_err-head : goal.returns-in_err-head
+returns-in_err-head c = rw c.from_residual.ensures (head-refused _ _ _ c.in_err-head.ensures)
 
-pub told_from-told-requires : goal.told_from-told-requires
-told_from-told-requires c = c.requires
+pub returns-in_err-told : goal.returns-in_err-told
+returns-in_err-told c = rw c.from_residual-in_err-told.ensures (told-refused _ _ _ c.in_ok-head.head.value _ c.in_ok-head.ensures c.in_err-told.ensures)
 
-pub returns-then-not-told : goal.returns-then-not-told
-returns-then-not-told c = refused-of _ _ _ c.head_at-head.result c.head_at-head.ensures _ c.refused-then-not-told.ensures.0 c.refused-then-not-told.ensures.1 (told-refused _ _ _ c.head_at-head.result c.head_at-head.ensures (not-false _ c.if-not-head.false) _ c.told_from-told.ensures (not-true _ c.if-not-told.true))
+pub returns-in_err-history : goal.returns-in_err-history
+returns-in_err-history c = rw c.from_residual-in_err-history.ensures (tail-refused _ _ _ c.in_ok-head.head.value _ c.in_ok-head.ensures _ _ c.in_ok-told.ensures c.in_err-history.ensures.read)
 
 pub returns : goal.returns
-returns c = parse-of _ _ _ c.head_at-head.result c.head_at-head.ensures (not-false _ c.if-not-head.false) _ c.told_from-told.ensures (not-false _ c.if-not-told.false) _ c.tail_at-tail.ensures.0 c.tail_at-tail.ensures.1
+returns c = parse-of _ _ _ c.in_ok-head.head.value _ c.in_ok-head.ensures _ _ c.in_ok-told.ensures c.in_ok-history.history c.in_ok-history.ensures.read c.in_ok-history.ensures.count

@@ -1,9 +1,10 @@
 use native.Mathlib.Omega.{arith}
-use Rattle.statements.proofs.Views.{tail_from}
+use Rattle.std.proofs.lemmas.Option.{IfSome_then}
+use Rattle.statements.proofs.Views.{tail-refused, tail_from}
 use Rattle.statements.proofs.tail_at.Goals as goal
 
-pub views_at-requires : goal.views_at-requires
-views_at-requires c = (c.number_at-count.ensures.low, c.number_at-count.ensures.stop)
+pub returns-in_err-count : goal.returns-in_err-count
+returns-in_err-count c = rw c.from_residual.ensures (record { read = tail-refused _ _ c.in_err-count.ensures; count = tt })
 
 pub returns : goal.returns
-returns c = (tail_from _ _ _ _ _ _ c.number_at-count.ensures c.views_at.ensures.1 c.views_at.ensures.0, omega (arith, c.views_at.ensures.1, c.number_at-count.ensures.low))
+returns c = record { read = tail_from _ _ _ _ _ c.in_ok-count.ensures c.views_at.ensures.count c.views_at.ensures.read; count = IfSome_then c.views_at.result c.views_at.ensures.count (λ h e. omega (arith, e, c.in_ok-count.ensures.low)) }

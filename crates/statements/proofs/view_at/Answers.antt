@@ -1,14 +1,13 @@
 use native.Mathlib.Omega.{arith}
 use mathlib.Core.Path.{sym, ◌∙◌}
-use Rattle.text.proofs.Laws.{comma-in}
-use Rattle.statements.proofs.Fields.{view-none, view-some}
+use Rattle.statements.proofs.Fields.{view-refused, view-low, view-some}
 use Rattle.statements.proofs.view_at.Goals as goal
 
-pub overflow_add-at : goal.overflow_add-at
-overflow_add-at c = omega (arith, comma-in c.args.s.now c.args.at (sym c.comma_at.ensures ∙ c.if-comma_at.true))
+pub returns-in_err-sets : goal.returns-in_err-sets
+returns-in_err-sets c = rw c.from_residual.ensures (view-refused c.args.s.now c.args.at (sym c.comma_at.ensures ∙ c.if-not-comma_at.false) (sym c.in_err-sets.ensures))
 
-pub returns-then-comma_at : goal.returns-then-comma_at
-returns-then-comma_at c = view-some c.args.s.now c.args.at _ _ (sym c.comma_at.ensures ∙ c.if-comma_at.true) c.read_hex-r.ensures c.bounded-p.ensures
+pub overflow_cast-result : goal.overflow_cast-result
+overflow_cast-result c = omega (arith, view-low c.args.s.now c.args.at (sym c.comma_at.ensures ∙ c.if-not-comma_at.false) c.in_ok-sets.sets (sym c.in_ok-sets.ensures))
 
-pub returns-else-comma_at : goal.returns-else-comma_at
-returns-else-comma_at c = view-none c.args.s.now c.args.at (sym c.comma_at.ensures ∙ c.if-comma_at.false)
+pub returns : goal.returns
+returns c = view-some c.args.s.now c.args.at (sym c.comma_at.ensures ∙ c.if-not-comma_at.false) c.in_ok-sets.sets (sym c.in_ok-sets.ensures)

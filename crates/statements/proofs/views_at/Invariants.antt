@@ -1,4 +1,3 @@
-use Prim.Native.Nat.{◌-◌, ◌≤◌}
 use mathlib.Core.Path.{◌≡◌}
 use lib.ListN.{length}
 use Rattle.statements.specs.Meaning.{first_views, FitsView}
@@ -7,7 +6,4 @@ use Rattle.statements.proofs.Sequence.{SoFar}
 use Rattle.statements.proofs.views_at.Given as goal
 
 abbrev pub invariant-loop-i : goal.invariant-loop-i
-invariant-loop-i l = (l.i ≤ l.n) × (l.n ≤ 16) × (length l.views ≡ 16) × SoFar comma_view FitsView l.s l.n l.initial.ok l.initial.at (first_views l.i l.views) l.ok l.at
-
-abbrev pub decreases-loop-i : goal.decreases-loop-i
-decreases-loop-i l = l.n - l.i
+invariant-loop-i l = (length l.views ≡ 16) × SoFar comma_view FitsView l.s l.count l.from (first_views l.i l.views) l.at

@@ -3,9 +3,6 @@ use Rattle.text.proofs.Decimal.{some-long, most-long}
 use Rattle.text.proofs.Steps.{four-longer}
 use Rattle.text.proofs.dec_len.Goals as goal
 
-pub loop-x-init : goal.loop-x-init
-loop-x-init c = (omega arith, c.ranges.v.fits)
-
 pub overflow_add-n : goal.overflow_add-n
 overflow_add-n c = omega (arith, c.loop-x.invariant.0, four-longer c.loop-x.x c.loop-x-test.true, most-long c.args.v c.ranges.v.fits)
 

@@ -1,17 +1,18 @@
 -- `text::short_len` meets its contract. Assumes nothing.
+use native.Mathlib.Omega.{arith}
 use mathlib.Core.Path.{sym}
 use Rattle.text.proofs.Decimal.{one-long}
 use Rattle.text.proofs.Steps.{two-long, three-long, four-long}
 use Rattle.text.proofs.short_len.Goals as goal
 
-pub returns-then-v-lt10 : goal.returns-then-v-lt10
-returns-then-v-lt10 c = sym (one-long _ c.if-v-lt10.true)
+pub returns-in-0-to-9 : goal.returns-in-0-to-9
+returns-in-0-to-9 c = sym (one-long c.args.v (omega arith))
 
-pub returns-then-v-lt100 : goal.returns-then-v-lt100
-returns-then-v-lt100 c = sym (two-long _ c.if-v-lt10.false c.if-v-lt100.true)
+pub returns-in-10-to-99 : goal.returns-in-10-to-99
+returns-in-10-to-99 c = sym (two-long c.args.v (omega arith) (omega arith))
 
-pub returns-then-v-lt1000 : goal.returns-then-v-lt1000
-returns-then-v-lt1000 c = sym (three-long _ c.if-v-lt100.false c.if-v-lt1000.true)
+pub returns-in-100-to-999 : goal.returns-in-100-to-999
+returns-in-100-to-999 c = sym (three-long c.args.v (omega arith) (omega arith))
 
-pub returns-else-v-lt1000 : goal.returns-else-v-lt1000
-returns-else-v-lt1000 c = sym (four-long _ c.if-v-lt1000.false c.requires)
+pub returns-in_default : goal.returns-in_default
+returns-in_default c = sym (four-long c.args.v (omega arith) c.requires)

@@ -1,20 +1,18 @@
-use native.Mathlib.Omega.{arith}
-use mathlib.Core.Path.{sym, ◌∙◌}
-use Prim.Native.Nat.{◌-◌}
-use Rattle.windows.proofs.Windows.{outside-first, outside-next, always-open, open-inside, shut}
+use Rattle.std.proofs.Common.{rules, take, min, arith, sym, ◌∙◌}
+use borrow.Author.Tests.{tests, eq-eqb}
+use Rattle.std.proofs.lemmas.Iterator.{YieldsList-from_slice}
+use Rattle.std.proofs.lemmas.Iterator.Search.{any_from_yields_List}
+use Rattle.protocol.specs.Window.{is_inside}
+use Rattle.windows.specs.Windows.{window_in, windows_in}
+use Rattle.views.proofs.Chains.{any-take}
+use Rattle.windows.proofs.Windows.{always-open, open-where}
 use Rattle.windows.proofs.is_open.Goals as goal
 
 pub returns-then-count-eq0 : goal.returns-then-count-eq0
-returns-then-count-eq0 c = sym (always-open _ _ _ (omega arith))
+returns-then-count-eq0 c = eq-eqb _ _ c.if-count-eq0.true ∙ sym (always-open _ _ _ c.if-count-eq0.true)
 
-pub loop-i-init : goal.loop-i-init
-loop-i-init c = (omega arith, outside-first _ _)
-
-pub returns-then-is_inside : goal.returns-then-is_inside
-returns-then-is_inside c = sym (open-inside _ _ _ c.loop-i.i (omega arith) (sym c.is_inside.ensures ∙ c.if-is_inside.true))
-
-pub loop-i-preserved : goal.loop-i-preserved
-loop-i-preserved c = (omega arith, outside-next _ _ _ c.loop-i.invariant.1 (sym c.is_inside.ensures ∙ c.if-is_inside.false))
-
-pub returns : goal.returns
-returns c = sym (shut _ _ _ c.loop-i.i (omega arith) (omega arith) (omega arith) c.loop-i.invariant.1)
+pub returns-else-count-eq0 : goal.returns-else-count-eq0
+unfolding windows_in
+returns-else-count-eq0 c =
+    any_from_yields_List (λ w. is_inside c.args.minute (window_in w)) _ _ _ c.any.ensures.ran (YieldsList-from_slice (take (min c.args.count 8) c.args.windows.now) cc) (λ x b q k. search (rules, tests))
+    ∙ any-take (is_inside c.args.minute) window_in (min c.args.count 8) c.args.windows.now 0 (omega arith) ∙ sym (open-where c.args.windows.now c.args.minute (min c.args.count 8) (omega arith))

@@ -1,19 +1,15 @@
 use native.Mathlib.Omega.{arith}
-use Prim.Native.Nat.{◌-◌}
+use Rattle.bench.specs.Seats.{FirstFree}
 use Rattle.bench.proofs.Records.{count-first, count_next, count-end}
 use Rattle.bench.proofs.seat.count_free.Goals as goal
 
-pub loop-i-init : goal.loop-i-init
-loop-i-init c = (c.first_free-i.ensures.most, omega arith, count-first _ _ _ c.first_free-i.ensures, c.first_free-i.ensures.free)
+pub loop-free-init : goal.loop-free-init
+loop-free-init c = (omega arith, omega arith, count-first _)
 
-pub overflow_add-count : goal.overflow_add-count
-overflow_add-count c = omega (arith, c.requires)
+pub loop-free-preserved : goal.loop-free-preserved
+loop-free-preserved c =
+    let f : FirstFree c.args.marks.now c.loop-free.from c.args.n c.in-Some.free = c.in-Some.ensures in
+    (omega (arith, f.below), omega (arith, f.from), count_next _ _ _ _ _ f c.loop-free.invariant.2)
 
-pub loop-i-smaller : goal.loop-i-smaller
-loop-i-smaller c = omega (arith, c.first_free-i-in-loop-i.ensures.from, c.first_free-i-in-loop-i.ensures.most)
-
-pub loop-i-preserved : goal.loop-i-preserved
-loop-i-preserved c = (c.first_free-i-in-loop-i.ensures.most, omega (arith, c.first_free-i-in-loop-i.ensures.from), count_next _ _ _ _ _ (c.loop-i.invariant.3 c.loop-i-test.true) c.first_free-i-in-loop-i.ensures c.loop-i.invariant.2, c.first_free-i-in-loop-i.ensures.free)
-
-pub returns : goal.returns
-returns c = (count-end _ _ _ _ (omega arith) c.loop-i.invariant.2, omega arith)
+pub returns-clause-count : goal.returns-clause-count
+returns-clause-count c = count-end _ _ _ _ c.loop-free.invariant.0 c.in_default.ensures c.loop-free.invariant.2

@@ -1,12 +1,11 @@
 use mathlib.Core.Path.{◌≡◌}
-use mathlib.Core.Bool.{false}
-use Prim.Native.Nat.{◌-◌, ◌≤◌, ◌<◌}
-use lib.ListN.{length, get_or}
+use Prim.Native.Nat.{◌-◌, ◌≤◌}
+use lib.ListN.{length}
 use Rattle.bench.specs.Seats.{unmarked}
 use Rattle.bench.proofs.seat.count_free.Given as goal
 
-abbrev pub invariant-loop-i : goal.invariant-loop-i
-invariant-loop-i l = (l.i ≤ l.n) × (l.count ≤ l.i) × (l.count ≡ length (unmarked l.marks l.i)) × (l.i < l.n → get_or l.marks l.i false ≡ false)
+abbrev pub invariant-loop-free : goal.invariant-loop-free
+invariant-loop-free l = (l.from ≤ l.n) × (l.count ≤ l.from) × (l.count ≡ length (unmarked l.marks l.from))
 
-abbrev pub decreases-loop-i : goal.decreases-loop-i
-decreases-loop-i l = l.n - l.i
+abbrev pub decreases-loop-free : goal.decreases-loop-free
+decreases-loop-free l = l.n - l.from

@@ -1,16 +1,15 @@
 use native.Mathlib.Omega.{arith}
-use Prim.Native.Nat.{◌-◌}
+use Rattle.bench.specs.Seats.{FirstFree}
 use Rattle.bench.proofs.Records.{fill-first, fill-next, fill_end}
 use Rattle.bench.proofs.seat.fill.Goals as goal
 
-pub loop-i-init : goal.loop-i-init
-loop-i-init c = (c.first_free-i.ensures.most, fill-first _ _ _ _ c.first_free-i.ensures, c.first_free-i.ensures.free)
+pub loop-free-init : goal.loop-free-init
+loop-free-init c = (omega arith, fill-first _ _)
 
-pub loop-i-smaller : goal.loop-i-smaller
-loop-i-smaller c = omega (arith, c.first_free-i-in-loop-i.ensures.from, c.first_free-i-in-loop-i.ensures.most)
-
-pub loop-i-preserved : goal.loop-i-preserved
-loop-i-preserved c = (c.first_free-i-in-loop-i.ensures.most, fill-next _ _ _ _ _ _ _ (c.loop-i.invariant.2 c.loop-i-test.true) c.first_free-i-in-loop-i.ensures c.loop-i.invariant.1 c.record_push.ensures, c.first_free-i-in-loop-i.ensures.free)
+pub loop-free-preserved : goal.loop-free-preserved
+loop-free-preserved c =
+    let f : FirstFree c.args.marks.now c.loop-free.from c.args.n c.in-Some.free = c.in-Some.ensures in
+    (omega (arith, f.below), fill-next _ _ _ _ _ _ _ f c.loop-free.invariant.1 c.record_push.ensures)
 
 pub returns : goal.returns
-returns c = fill_end _ _ _ _ _ (omega arith) c.loop-i.invariant.1
+returns c = fill_end _ _ _ _ _ c.loop-free.invariant.0 c.in_default.ensures c.loop-free.invariant.1

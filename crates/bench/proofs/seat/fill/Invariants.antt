@@ -1,12 +1,9 @@
-use mathlib.Core.Path.{◌≡◌}
-use mathlib.Core.Bool.{false}
-use Prim.Native.Nat.{◌-◌, ◌≤◌, ◌<◌}
-use lib.ListN.{get_or}
+use Prim.Native.Nat.{◌-◌, ◌≤◌}
 use Rattle.bench.specs.Seats.{RecordFilled}
 use Rattle.bench.proofs.seat.fill.Given as goal
 
-abbrev pub invariant-loop-i : goal.invariant-loop-i
-invariant-loop-i l = (l.i ≤ l.n) × RecordFilled l.initial.ids l.marks l.i l.ids × (l.i < l.n → get_or l.marks l.i false ≡ false)
+abbrev pub invariant-loop-free : goal.invariant-loop-free
+invariant-loop-free l = (l.from ≤ l.n) × RecordFilled l.initial.ids l.marks l.from l.ids
 
-abbrev pub decreases-loop-i : goal.decreases-loop-i
-decreases-loop-i l = l.n - l.i
+abbrev pub decreases-loop-free : goal.decreases-loop-free
+decreases-loop-free l = l.n - l.from

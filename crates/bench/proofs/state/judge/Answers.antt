@@ -1,11 +1,10 @@
-use mathlib.Core.Path.{refl}
 use borrow.Author.Tests.{not-true, not-false}
 use Rattle.bench.proofs.Verdicts.{judged-early, judged-join, judged-leave, judged-send, judged-turn}
 use Rattle.bench.proofs.States.{last-call}
 use Rattle.bench.proofs.state.judge.Goals as goal
 
 pub returns-then-not-c : goal.returns-then-not-c
-returns-then-not-c c = judged-early c.args.c c.args.line c.args.turn c.requires (not-true _ c.if-not-c.true) refl
+returns-then-not-c c = judged-early c.args.c c.args.line c.args.turn c.requires (not-true _ c.if-not-c.true) c.denied.ensures
 
 pub returns-in-Join : goal.returns-in-Join
 returns-in-Join c = judged-join c.args.c c.args.line c.args.turn (not-false _ c.if-not-c.false) c.in-Join.is c.join_verdict.ensures

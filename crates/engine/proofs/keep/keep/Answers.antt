@@ -1,8 +1,8 @@
-use Rattle.engine.proofs.Keeps.{kept-none, kept_at}
+use Rattle.engine.proofs.Keeps.{err-is, kept-none, kept_at}
 use Rattle.engine.proofs.keep.keep.Goals as goal
 
-pub returns-in_default : goal.returns-in_default
-returns-in_default c = kept-none c.place-placed.ensures c.in_default.is
+pub returns-in_err-n : goal.returns-in_err-n
+returns-in_err-n c = kept-none c.place.ensures c.in_err-n.was (err-is _ _ c.from_residual.ensures.1)
 
 pub returns : goal.returns
-returns c = kept_at c.place-placed.ensures c.in-At.is c.record_push.ensures
+returns c = kept_at c.place.ensures c.in_ok-n.was c.record_push.ensures

@@ -1,4 +1,5 @@
-use mathlib.Core.Path.{subst}
+use mathlib.Core.Path.{ap, subst}
+use Rattle.std.specs.Prelude.{Ok}
 use Rattle.engine.specs.Situation.{Known}
 use Rattle.engine.proofs.Performs.{enter-is, deliver-is, ack-is, sign-is, signs-else}
 use Rattle.engine.proofs.perform.perform.Goals as goal
@@ -25,13 +26,13 @@ pub sign-requires : goal.sign-requires
 sign-requires c = c.statement-st-in_default.ensures.short
 
 pub returns-in-Enter : goal.returns-in-Enter
-returns-in-Enter c = enter-is _ _ c.args.c _ _ _ _ _ _ _ c.in-Enter.is c.enter.ensures.0 c.enter.ensures.1
+returns-in-Enter c = enter-is _ _ c.args.c _ _ _ _ _ _ _ c.in-Enter.is (ap Ok c.enter.ensures.0) c.enter.ensures.1
 
 pub returns-in-Deliver : goal.returns-in-Deliver
-returns-in-Deliver c = deliver-is _ _ c.args.c _ _ _ _ _ _ _ _ _ c.in-Deliver.is c.deliver.ensures.0 c.deliver.ensures.1 c.requires.0.ring c.stored_by-set.ensures
+returns-in-Deliver c = deliver-is _ _ c.args.c _ _ _ _ _ _ _ _ _ c.in-Deliver.is (ap Ok c.deliver.ensures.0) c.deliver.ensures.1 c.requires.0.ring c.stored_by-set.ensures
 
 pub returns-in-Ack : goal.returns-in-Ack
 returns-in-Ack c = ack-is _ _ c.args.c _ _ _ _ _ _ _ _ _ _ _ c.in-Ack.is c.statement-st.ensures c.bind_and_sign.ensures
 
 pub returns-in_default : goal.returns-in_default
-returns-in_default c = sign-is _ _ c.args.c _ _ _ _ _ _ _ _ _ c.statement-st-in_default.ensures (signs-else _ _ _ _ _ c.requires.1 c.in_default.not-Enter c.in_default.not-Ack c.in_default.not-Deliver) c.sign.ensures
+returns-in_default c = sign-is _ _ c.args.c _ _ _ _ _ _ _ _ _ c.statement-st-in_default.ensures (signs-else _ _ _ _ _ c.in_default.not-Enter c.in_default.not-Ack c.in_default.not-Deliver) c.sign.ensures

@@ -1,9 +1,10 @@
 use mathlib.Core.Path.{refl}
+use Rattle.engine.proofs.Keeps.{err-is}
 use Rattle.engine.proofs.Performs.{sign-full, sign_kept}
 use Rattle.engine.proofs.perform.sign.Goals as goal
 
-pub returns-in_default : goal.returns-in_default
-returns-in_default c = sign-full _ _ _ _ c.args.c _ c.keep-placed.result c.keep-placed.ensures c.in_default.is _ _ c.refuse.ensures.0 c.refuse.ensures.1
+pub returns-in_err-n : goal.returns-in_err-n
+returns-in_err-n c = sign-full _ _ _ _ c.args.c _ _ c.keep.ensures c.in_err-n.was _ _ (err-is _ _ c.from_residual.ensures.1)
 
 pub returns : goal.returns
-returns c = sign_kept _ _ _ _ _ c.keep-placed.result _ c.keep-placed.ensures c.in-At.is c.args.c c.args.c _ refl
+returns c = sign_kept _ _ _ _ _ _ _ c.keep.ensures c.in_ok-n.was c.args.c c.args.c _ refl

@@ -1,9 +1,9 @@
-use borrow.Author.Tests.{not-true, not-false}
+use mathlib.Core.Path.{◌∙◌}
 use Rattle.engine.proofs.Situations.{leaves-never, leaves-inside}
 use Rattle.engine.proofs.situation.may_leave.Goals as goal
 
-pub returns-then-not-c : goal.returns-then-not-c
-returns-then-not-c c = leaves-never c.args.c _ (not-true _ c.if-not-c.true)
+pub returns-then-c : goal.returns-then-c
+returns-then-c c = leaves-inside c.args.c _ _ c.if-c.true c.is_open.ensures
 
-pub returns : goal.returns
-returns c = leaves-inside c.args.c _ _ (not-false _ c.if-not-c.false) c.is_open.ensures
+pub returns-else-c : goal.returns-else-c
+returns-else-c c = c.if-c.false ∙ leaves-never c.args.c _ c.if-c.false

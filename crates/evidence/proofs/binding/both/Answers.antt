@@ -6,6 +6,3 @@ returns-in-Unbound c = laws.both-second _ c.args.b c.in-Unbound.is
 
 pub returns-in-Barred : goal.returns-in-Barred
 returns-in-Barred c = laws.both-barred _ c.args.b c.in-Barred.is
-
-pub returns-in-Bound : goal.returns-in-Bound
-returns-in-Bound c = laws.both-payload _ c.args.b _ c.in-Bound.is c.with_payload.ensures

@@ -1,4 +1,3 @@
-use native.Mathlib.Omega.{arith}
 use Rattle.evidence.proofs.Merges as laws
 use Rattle.evidence.proofs.binding.told.Goals as goal
 
@@ -7,9 +6,6 @@ returns-then-told_count-j c = laws.told_none _ _ _ _ c.told_count.ensures.0 c.if
 
 pub returns-then-has : goal.returns-then-has
 returns-then-has c = laws.told-as-barred _ _ _ _ c.told_count.ensures.0 c.if-told_count-j.false c.barred.ensures c.has.ensures c.if-has.true
-
-pub told_payload-requires : goal.told_payload-requires
-told_payload-requires c = omega (arith, c.told_count.ensures.1, c.if-told_count-j.false)
 
 pub returns-then-has-2 : goal.returns-then-has-2
 returns-then-has-2 c = laws.told-as-bound _ _ _ _ c.told_count.ensures.0 c.if-told_count-j.false c.barred.ensures c.has.ensures c.if-has.false c.bound.ensures c.has-2.ensures _ c.if-has-2.true c.told_payload.ensures

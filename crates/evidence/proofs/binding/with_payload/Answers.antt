@@ -7,8 +7,8 @@ returns-in-Unbound c = laws.merge-payload _ _ c.in-Unbound.is
 pub returns-in-Barred : goal.returns-in-Barred
 returns-in-Barred c = laws.merge-barred _ _ c.in-Barred.is
 
-pub returns-then-m-n : goal.returns-then-m-n
-returns-then-m-n c = laws.merge-same _ _ _ c.in-Bound.is c.if-m-n.true
+pub returns-in-Bound : goal.returns-in-Bound
+returns-in-Bound c = laws.merge-same _ _ _ c.in-Bound.is c.if-m-n.true
 
-pub returns-else-m-n : goal.returns-else-m-n
-returns-else-m-n c = laws.merge-other _ _ _ c.in-Bound.is c.if-m-n.false
+pub returns-in-Bound-2 : goal.returns-in-Bound-2
+returns-in-Bound-2 c = laws.merge-other _ _ _ c.in-Bound.is c.if-m-n.false

@@ -1,32 +1,30 @@
 use native.Mathlib.Omega.{arith}
-use Prim.Native.Nat.{◌-◌}
-use borrow.Author.Tests.{not-true, not-false}
+use mathlib.Core.Path.{ap, subst, ◌∙◌}
+use Prim.Native.Nat.{min}
+use Rattle.evidence.proofs.Taken.{below-taken, at-taken, end-taken}
+use Rattle.views.specs.Tally.{place_in}
 use Rattle.evidence.proofs.Completed as laws
+use Rattle.evidence.proofs.certificates.complete_after.Goals.{then-casts, else-casts}
 use Rattle.evidence.proofs.certificates.complete_after.Goals as goal
 
-pub loop-g-init : goal.loop-g-init
-loop-g-init c = (omega arith, λ b. laws.least_first _ _ _ _ _ _ b _ _)
+pub loop-x-init : goal.loop-x-init
+loop-x-init c = λ b. laws.least_first _ _ _ _ _ _ b _ _
 
-pub offset_bounds-groups-g : goal.offset_bounds-groups-g
-offset_bounds-groups-g c = omega (arith, c.requires.most)
+pub loop-x-preserved : goal.loop-x-preserved
+loop-x-preserved c =
+    let at = at-taken _ _ _ c.loop-x-test.true in
+    let l = below-taken _ _ c.args.groups.now c.loop-x-test.true in
+    let p = c.place_of-f.ensures ∙ ap place_in at in
+    λ b. elim c.if-casts.branch [
+      | then-casts w ↦ rw w.least-is (laws.least-take _ _ _ _ _ _ b _ _ (c.loop-x.invariant b) _ p _ c.casts.ensures w.if-casts.true _ (w.min.ensures ∙ ap (λ x. min x c.place_of-f.result) w.unwrap_or.ensures))
+      | else-casts w ↦ rw w.least-is (laws.least_skip _ _ _ _ _ _ b _ _ (c.loop-x.invariant b) _ p _ c.casts.ensures w.if-casts.false)
+    ]
 
-pub bounds-groups-g : goal.bounds-groups-g
-bounds-groups-g c = omega (arith, c.requires.most)
+pub returns-in-None : goal.returns-in-None
+returns-in-None c = (laws.complete-none _ _ _ _ _ _ c.requires _ _ _ (end-taken _ _ _ (omega (arith, c.requires.most)) c.loop-x.auto.x-index-end c.loop-x-test.false) (subst (λ o. laws.LeastTo _ _ _ _ _ _ c.requires c.args.j c.args.m c.loop-x.x-index o) c.in-None.is (c.loop-x.invariant c.requires)), omega arith)
 
-pub offset_bounds-ids-f : goal.offset_bounds-ids-f
-offset_bounds-ids-f c = omega (arith, c.place_of-f.ensures, c.requires.place c.loop-g.g c.loop-g-test.true)
+pub overflow_add-result : goal.overflow_add-result
+overflow_add-result c = let h = (laws.complete-some _ _ _ _ _ _ c.requires _ _ _ _ (end-taken _ _ _ (omega (arith, c.requires.most)) c.loop-x.auto.x-index-end c.loop-x-test.false) (subst (λ o. laws.LeastTo _ _ _ _ _ _ c.requires c.args.j c.args.m c.loop-x.x-index o) c.in-Some.is (c.loop-x.invariant c.requires))).1 in record { fits = omega (arith, h) }
 
-pub bounds-ids-f : goal.bounds-ids-f
-bounds-ids-f c = omega (arith, c.place_of-f.ensures, c.requires.place c.loop-g.g c.loop-g-test.true)
-
-pub loop-g-preserved-then-not-casts : goal.loop-g-preserved-then-not-casts
-loop-g-preserved-then-not-casts c = (omega arith, λ b. laws.least_skip _ _ _ _ _ _ b _ _ (c.loop-g.invariant.1 b) _ c.place_of-f.ensures _ c.casts.ensures (not-true _ c.if-not-casts.true-raw))
-
-pub overflow_add-f : goal.overflow_add-f
-overflow_add-f c = omega (arith, c.place_of-f.ensures, c.requires.place c.loop-g.g c.loop-g-test.true)
-
-pub loop-g-preserved : goal.loop-g-preserved
-loop-g-preserved c = (omega arith, λ b. laws.least-take _ _ _ _ _ _ b _ _ (c.loop-g.invariant.1 b) _ c.place_of-f.ensures _ c.casts.ensures _ (not-false _ c.if-not-casts.false-raw) c.lesser_some-least.ensures)
-
-pub returns : goal.returns
-returns c = laws.complete-is _ _ _ _ _ _ c.requires _ _ _ _ (omega arith) (c.loop-g.invariant.1 c.requires)
+pub returns-in-Some : goal.returns-in-Some
+returns-in-Some c = let h = laws.complete-some _ _ _ _ _ _ c.requires _ _ _ _ (end-taken _ _ _ (omega (arith, c.requires.most)) c.loop-x.auto.x-index-end c.loop-x-test.false) (subst (λ o. laws.LeastTo _ _ _ _ _ _ c.requires c.args.j c.args.m c.loop-x.x-index o) c.in-Some.is (c.loop-x.invariant c.requires)) in (h.0, omega (arith, h.1))

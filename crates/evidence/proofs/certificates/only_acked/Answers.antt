@@ -1,36 +1,28 @@
 use native.Mathlib.Omega.{arith}
-use Prim.Native.Nat.{◌-◌}
+use mathlib.Core.Path.{ap, ◌∙◌}
+use Rattle.evidence.proofs.Taken.{below-taken, at-taken}
+use Rattle.views.specs.Tally.{place_in}
 use Rattle.evidence.proofs.Senders.{payload-of}
 use Rattle.evidence.proofs.Acked as laws
-use borrow.Author.Tests.{not-true, not-false}
+use Rattle.evidence.proofs.certificates.only_acked.Goals.{in-None, in-Some}
 use Rattle.evidence.proofs.certificates.only_acked.Goals as goal
 
-pub loop-g-init : goal.loop-g-init
-loop-g-init c = (omega arith, laws.acked-first _ _ _ _ _ _)
+pub loop-x-init : goal.loop-x-init
+loop-x-init c = laws.acked-first _ _ _ _ _ _
 
-pub offset_bounds-groups-g : goal.offset_bounds-groups-g
-offset_bounds-groups-g c = omega (arith, c.requires.most)
+pub loop-x-preserved-then-kind : goal.loop-x-preserved-then-kind
+loop-x-preserved-then-kind c =
+    let at = at-taken _ _ _ c.loop-x-test.true in
+    let l = below-taken _ _ c.args.groups.now c.loop-x-test.true in
+    let p = c.place_of.ensures ∙ ap place_in at in
+    laws.found-not _ _ _ _ _ _ c.loop-x.invariant _ p _ c.kind.ensures.0 c.if-kind.true
 
-pub bounds-groups-g : goal.bounds-groups-g
-bounds-groups-g c = omega (arith, c.requires.most)
-
-pub offset_bounds-ids-f : goal.offset_bounds-ids-f
-offset_bounds-ids-f c = omega (arith, c.requires.place _ c.loop-g-test.true, c.place_of-f.ensures)
-
-pub bounds-ids-f : goal.bounds-ids-f
-bounds-ids-f c = omega (arith, c.requires.place _ c.loop-g-test.true, c.place_of-f.ensures)
-
-pub loop-g-preserved-then-kind-ne7 : goal.loop-g-preserved-then-kind-ne7
-loop-g-preserved-then-kind-ne7 c = (omega arith, laws.acked-not _ _ _ _ c.loop-g.invariant.1 _ c.place_of-f.ensures _ c.kind.ensures.0 c.if-kind-ne7.true)
-
-pub loop-g-preserved-then-not-some : goal.loop-g-preserved-then-not-some
-loop-g-preserved-then-not-some c = (omega arith, laws.acked-start _ _ _ _ c.loop-g.invariant.1 _ c.place_of-f.ensures _ c.kind.ensures.0 _ _ c.notice_of-j.ensures.0 (payload-of _ _ _ _ c.kind.ensures.0 (λ q. omega (arith, c.if-kind-ne7.false)) c.payload-m.ensures) c.loop-g-test.true c.if-kind-ne7.false (not-true _ c.if-not-some.true-raw))
-
-pub returns-then-not-is_same : goal.returns-then-not-is_same
-returns-then-not-is_same c = laws.acked-many _ _ _ _ _ _ _
-
-pub loop-g-preserved : goal.loop-g-preserved
-loop-g-preserved c = (omega arith, laws.acked-same _ _ _ _ c.loop-g.invariant.1 _ c.place_of-f.ensures _ c.kind.ensures.0 _ _ c.notice_of-j.ensures.0 (payload-of _ _ _ _ c.kind.ensures.0 (λ q. omega (arith, c.if-kind-ne7.false)) c.payload-m.ensures) _ (not-false _ c.if-not-some.false-raw) c.is_same.ensures (not-false _ c.if-not-is_same.false-raw))
-
-pub returns : goal.returns
-returns c = laws.acked-end _ _ _ _ (omega arith) c.loop-g.invariant.1
+pub loop-x-preserved : goal.loop-x-preserved
+loop-x-preserved c =
+    let at = at-taken _ _ _ c.loop-x-test.true in
+    let l = below-taken _ _ c.args.groups.now c.loop-x-test.true in
+    let p = c.place_of.ensures ∙ ap place_in at in
+    elim c.match-one.branch [
+      | in-None w ↦ rw w.one-is (laws.found-start _ _ _ _ _ _ c.loop-x.invariant _ p _ c.kind.ensures.0 _ c.notice_of.ensures.0 (payload-of _ _ _ _ c.kind.ensures.0 (λ q. omega (arith, c.if-kind.false)) c.payload.ensures) w.in-None.is l c.if-kind.false)
+      | in-Some w ↦ rw w.one-is (laws.found-same _ _ _ _ _ _ c.loop-x.invariant _ p _ c.kind.ensures.0 _ c.notice_of.ensures.0 (payload-of _ _ _ _ c.kind.ensures.0 (λ q. omega (arith, c.if-kind.false)) c.payload.ensures) _ w.in-Some.is _ (rw w.in-Some.other-is at w.eq.ensures) w.if-eq.true)
+    ]

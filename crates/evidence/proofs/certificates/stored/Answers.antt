@@ -1,29 +1,23 @@
 use native.Mathlib.Omega.{arith}
-use Prim.Native.Nat.{◌-◌}
+use mathlib.Core.Path.{ap, ◌∙◌}
+use Rattle.evidence.proofs.Taken.{below-taken, at-taken, end-taken}
+use Rattle.views.specs.Tally.{place_in}
 use Rattle.evidence.proofs.Acked as laws
-use borrow.Author.Tests.{not-true, not-false}
+use Rattle.evidence.proofs.certificates.stored.Goals.{then-stores_one, else-stores_one}
 use Rattle.evidence.proofs.certificates.stored.Goals as goal
 
-pub loop-g-init : goal.loop-g-init
-loop-g-init c = (omega arith, laws.stored-first _ _ _ _ _ _ c.requires _ _)
+pub loop-x-init : goal.loop-x-init
+loop-x-init c = laws.stored-first _ _ _ _ _ _ c.requires _ _
 
-pub offset_bounds-groups-g : goal.offset_bounds-groups-g
-offset_bounds-groups-g c = omega (arith, c.requires.most)
-
-pub bounds-groups-g : goal.bounds-groups-g
-bounds-groups-g c = omega (arith, c.requires.most)
-
-pub offset_bounds-ids-f : goal.offset_bounds-ids-f
-offset_bounds-ids-f c = omega (arith, c.requires.place _ c.loop-g-test.true, c.place_of-f.ensures)
-
-pub bounds-ids-f : goal.bounds-ids-f
-bounds-ids-f c = omega (arith, c.requires.place _ c.loop-g-test.true, c.place_of-f.ensures)
-
-pub loop-g-preserved-then-not-stores_one : goal.loop-g-preserved-then-not-stores_one
-loop-g-preserved-then-not-stores_one c = (omega arith, laws.stored-not _ _ _ _ _ _ c.requires _ _ c.loop-g.invariant.1 _ c.place_of-f.ensures _ c.stores_one.ensures (not-true _ c.if-not-stores_one.true-raw))
-
-pub loop-g-preserved : goal.loop-g-preserved
-loop-g-preserved c = (omega arith, laws.stored_more _ _ _ _ _ _ c.requires _ _ c.loop-g.invariant.1 _ c.place_of-f.ensures _ c.stores_one.ensures _ c.loop-g-test.true (not-false _ c.if-not-stores_one.false-raw) c.notice_of.ensures.0 c.with_notice-seen.ensures)
+pub loop-x-preserved : goal.loop-x-preserved
+loop-x-preserved c =
+    let at = at-taken _ _ _ c.loop-x-test.true in
+    let l = below-taken _ _ c.args.groups.now c.loop-x-test.true in
+    let p = c.place_of.ensures ∙ ap place_in at in
+    elim c.if-stores_one.branch [
+      | then-stores_one w ↦ rw w.seen-is (laws.stored_more _ _ _ _ _ _ c.requires _ _ c.loop-x.invariant _ p _ c.stores_one.ensures _ l w.if-stores_one.true w.notice_of.ensures.0 w.with_notice-seen.ensures)
+      | else-stores_one w ↦ rw w.seen-is (laws.stored-not _ _ _ _ _ _ c.requires _ _ c.loop-x.invariant _ p _ c.stores_one.ensures w.if-stores_one.false)
+    ]
 
 pub returns : goal.returns
-returns c = laws.stored-end _ _ _ _ _ _ c.requires _ _ (omega arith) c.loop-g.invariant.1
+returns c = laws.stored-end _ _ _ _ _ _ c.requires _ _ (end-taken _ _ _ (omega (arith, c.requires.most)) c.loop-x.auto.x-index-end c.loop-x-test.false) c.loop-x.invariant

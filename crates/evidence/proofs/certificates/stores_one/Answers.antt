@@ -1,18 +1,24 @@
 use native.Mathlib.Omega.{arith}
+use Rattle.std.proofs.lemmas.Bool.Decides.{nat_tests}
+use Rattle.protocol.specs.Statement.{is_kind}
+use Rattle.evidence.specs.Shown.{stores_one}
 use Rattle.evidence.proofs.Senders.{payload-of}
-use Rattle.evidence.proofs.Backing as laws
 use Rattle.evidence.proofs.Acked.{bit-near}
-use borrow.Author.Tests.{not-true, not-false}
+use Rattle.evidence.proofs.certificates.stores_one.Goals.{then-kind, else-kind}
+use mathlib.Core.Path.{sym, ◌∙◌}
+use borrow.Author.Tests.{eqb-true}
 use Rattle.evidence.proofs.certificates.stores_one.Goals as goal
 
-pub returns-then-kind-ne8 : goal.returns-then-kind-ne8
-returns-then-kind-ne8 c = laws.stores-kind _ _ _ _ c.kind.ensures.0 c.if-kind-ne8.true
+pub bounds-certs-j : goal.bounds-certs-j
+bounds-certs-j c = elim c.if-kind.branch [
+  | then-kind w ↦ bit-near c.args.some _ (omega arith) w.has.ensures (sym w.value-is ∙ c.if-has.true)
+  | else-kind w ↦ absurd (w.if-kind.false (eqb-true _ _ (sym w.value-is ∙ c.if-has.true)))
+]
 
-pub returns-then-not-has : goal.returns-then-not-has
-returns-then-not-has c = laws.stores-other _ _ _ _ c.kind.ensures.0 c.if-kind-ne8.false _ c.notice_of-j.ensures.0 _ c.has.ensures (not-true _ c.if-not-has.true-raw)
+pub returns-then-has : goal.returns-then-has
+unfolding stores_one is_kind
+returns-then-has c = let e = payload-of _ _ _ _ c.kind.ensures.0 (λ q. grind (arith, nat_tests, q)) c.payload.ensures in grind (arith, nat_tests)
 
-pub word_of-requires : goal.word_of-requires
-word_of-requires c = bit-near c.args.some _ (omega arith) c.has.ensures (not-false _ c.if-not-has.false-raw)
-
-pub returns : goal.returns
-returns c = laws.stores-payload _ _ _ _ c.kind.ensures.0 c.if-kind-ne8.false _ c.notice_of-j.ensures.0 _ c.has.ensures _ _ (not-false _ c.if-not-has.false-raw) (payload-of _ _ _ _ c.kind.ensures.0 (λ q. omega (arith, c.if-kind-ne8.false)) c.payload.ensures) c.word_of.ensures
+pub returns-else-has : goal.returns-else-has
+unfolding stores_one is_kind
+returns-else-has c = grind (arith, nat_tests)

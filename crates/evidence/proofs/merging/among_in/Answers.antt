@@ -1,34 +1,16 @@
 use native.Mathlib.Omega.{arith}
-use Prim.Native.Nat.{◌-◌}
-use Rattle.evidence.proofs.Listing.{more-fits, sifted-none, sifted-next, sifted-whole}
+use Rattle.evidence.proofs.Taken.{below-taken, at-taken, end-taken}
+use Rattle.evidence.proofs.Listing.{sifted-none, sifted-next, sifted-whole}
 use Rattle.evidence.proofs.merging.among_in.Goals as goal
 
-pub loop-i-init : goal.loop-i-init
-loop-i-init c = (omega arith, sifted-none c.record_room.ensures)
+pub loop-s-init : goal.loop-s-init
+loop-s-init c = sifted-none c.told-listed
 
-pub offset_bounds-ids-i : goal.offset_bounds-ids-i
-offset_bounds-ids-i c = omega (arith, c.record_length-end.ensures.1)
-
-pub bounds-ids-i : goal.bounds-ids-i
-bounds-ids-i c = omega (arith, c.record_length-end.ensures.1)
-
-pub counts_among-hit-requires : goal.counts_among-hit-requires
-counts_among-hit-requires c = c.requires
-
-pub offset_bounds-listed-count : goal.offset_bounds-listed-count
-offset_bounds-listed-count c = omega (arith, c.record_length-end.ensures.1, c.loop-i.invariant.1.most)
-
-pub bounds-listed-count : goal.bounds-listed-count
-bounds-listed-count c = omega (arith, c.record_length-end.ensures.1, c.loop-i.invariant.1.most)
-
-pub overflow_add-count : goal.overflow_add-count
-overflow_add-count c = record { fits = more-fits _ c.counts_among-hit.result (omega (arith, c.loop-i.invariant.1.most, c.record_length-end.ensures.1)) }
-
-pub loop-i-preserved : goal.loop-i-preserved
-loop-i-preserved c = (omega arith, sifted-next (omega (arith, c.record_length-end.ensures.1)) c.loop-i.invariant.1 _ c.counts_among-hit.ensures)
-
-pub overflow_cast-listed : goal.overflow_cast-listed
-overflow_cast-listed c = omega (arith, c.loop-i.invariant.1.most, c.record_length-end.ensures.1)
+pub loop-s-preserved : goal.loop-s-preserved
+loop-s-preserved c =
+    let at = at-taken _ _ _ c.loop-s-test.true in
+    let l = below-taken _ _ c.args.ids.now c.loop-s-test.true in
+    rw (at, c.from-count.ensures) (sifted-next (omega (arith, l, c.record_length.ensures.1)) c.loop-s.invariant _ (rw at at c.counts_among-hit.ensures))
 
 pub returns : goal.returns
-returns c = sifted-whole _ (omega arith) c.record_length-end.ensures.0 c.loop-i.invariant.1
+returns c = sifted-whole _ (end-taken _ _ _ (omega (arith, c.record_length.ensures.1)) c.loop-s.auto.s-index-end c.loop-s-test.false) c.record_length.ensures.0 c.loop-s.invariant

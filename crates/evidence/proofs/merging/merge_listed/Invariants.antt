@@ -1,4 +1,3 @@
-use Prim.Native.Nat.{◌≤◌}
 use mathlib.Core.Path.{◌≡◌}
 use Rattle.protocol.specs.Turn.{merge_all}
 use Rattle.pool.specs.Pool.{record_up_to, record_in}
@@ -6,7 +5,4 @@ use Rattle.statements.specs.Block.{binding_is}
 use Rattle.evidence.proofs.merging.merge_listed.Given as goal
 
 abbrev pub invariant-loop-i : goal.invariant-loop-i
-invariant-loop-i l = (l.i ≤ 512) × (merge_all l.j (binding_is l.initial.b) (record_in l.words l.listed) ≡ merge_all l.j (binding_is l.b) (record_up_to l.words l.listed l.i))
-
-abbrev pub decreases-loop-i : goal.decreases-loop-i
-decreases-loop-i l = l.i
+invariant-loop-i l = (merge_all l.j (binding_is l.initial.b) (record_in l.words l.listed) ≡ merge_all l.j (binding_is l.b) (record_up_to l.words l.listed l.i))

@@ -1,29 +1,10 @@
-use native.Mathlib.Omega.{arith}
-use mathlib.Core.Path.{◌∙◌}
-use Rattle.tables.proofs.Searches.{walked_next, older-most}
+use Rattle.std.proofs.Common.{eqb, of_calls, ◌∙◌}
+use Rattle.tables.specs.Index.{key_at}
 use Rattle.evidence.proofs.Payloads as laws
 use Rattle.evidence.proofs.prepares.is_listed.Goals as goal
 
-pub newest-x-requires : goal.newest-x-requires
-newest-x-requires c = (omega arith, c.requires.0)
-
-pub loop-x-init : goal.loop-x-init
-loop-x-init c = laws.walk_first c.requires.1 c.requires.0 c.newest-x.ensures _ (λ c r. r.0)
-
-pub key-requires : goal.key-requires
-key-requires c = (omega arith, omega (arith, c.requires.1.few, c.loop-x.invariant.most, c.loop-x-test.true))
-
-pub returns-then-key-m : goal.returns-then-key-m
-returns-then-key-m c = laws.listed_found _ _ _ _ c.loop-x.invariant _ c.loop-x-test.true c.key.ensures c.if-key-m.true
-
-pub older-x-requires : goal.older-x-requires
-older-x-requires c = (omega arith, omega (arith, c.requires.1.few, c.loop-x.invariant.most, c.loop-x-test.true))
-
-pub loop-x-smaller : goal.loop-x-smaller
-loop-x-smaller c = omega (arith, older-most c.requires.1.chained (omega (arith, c.loop-x.invariant.most, c.loop-x-test.true)) c.older-x.ensures, c.loop-x-test.true)
-
-pub loop-x-preserved : goal.loop-x-preserved
-loop-x-preserved c = walked_next c.requires.1.chained (λ i r. r.0) c.loop-x.invariant (omega arith) c.loop-x-test.true (λ r. c.if-key-m.false (c.key.ensures ∙ r.1)) c.older-x.ensures
+pub find-requires-clause-linked : goal.find-requires-clause-linked
+find-requires-clause-linked c = laws.leads c.requires.1 c.requires.0 c.newest-newest.ensures
 
 pub returns : goal.returns
-returns c = laws.listed-none _ _ _ _ c.loop-x.invariant (omega arith)
+returns c = c.is_some.ensures ∙ laws.listed-found c.requires.1 c.requires.0 c.newest-newest.ensures _ (c.find.ensures (λ row. eqb (key_at c.args.keys.now 0 row) c.args.m) (λ row b l post. search of_calls))

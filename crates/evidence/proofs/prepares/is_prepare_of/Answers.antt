@@ -1,17 +1,14 @@
 use native.Mathlib.Omega.{arith}
-use mathlib.Core.Path.{sym, ◌∙◌}
+use Rattle.std.proofs.lemmas.Bool.Decides.{nat_tests}
+use Rattle.protocol.specs.Statement.{is_kind}
+use Rattle.protocol.specs.Evidence.{prepares}
 use Rattle.evidence.proofs.Senders.{sender-at}
-use Rattle.evidence.proofs.Payloads as laws
 use Rattle.evidence.proofs.prepares.is_prepare_of.Goals as goal
 
-pub returns-then-kind-ne6 : goal.returns-then-kind-ne6
-returns-then-kind-ne6 c = laws.prepare-kind _ _ _ _ c.kind.ensures.0 c.if-kind-ne6.true
+pub returns-then-origin-from : goal.returns-then-origin-from
+unfolding prepares is_kind
+returns-then-origin-from c = let e = sender-at c.args.senders.now c.args.count c.args.j c.requires in grind (arith, nat_tests)
 
-pub sender_of-requires : goal.sender_of-requires
-sender_of-requires c = omega (arith, c.requires)
-
-pub returns-then-origin-sender_of : goal.returns-then-origin-sender_of
-returns-then-origin-sender_of c = laws.prepare-alien _ _ _ _ c.kind.ensures.0 c.if-kind-ne6.false _ _ c.origin.ensures.0 (c.sender_of.ensures ∙ sym (sender-at _ _ _ c.requires)) c.if-origin-sender_of.true
-
-pub returns : goal.returns
-returns c = laws.prepare-notice _ _ _ _ c.kind.ensures.0 c.if-kind-ne6.false _ _ c.origin.ensures.0 (c.sender_of.ensures ∙ sym (sender-at _ _ _ c.requires)) _ c.if-origin-sender_of.false c.notice_of.ensures.0
+pub returns-else-origin-from : goal.returns-else-origin-from
+unfolding prepares is_kind
+returns-else-origin-from c = let e = sender-at c.args.senders.now c.args.count c.args.j c.requires in grind (arith, nat_tests)

@@ -1,5 +1,4 @@
-use mathlib.Core.Path.{ap, ◌∙◌}
-use Rattle.views.specs.View.{view_of, ring_of_word, views_of}
+use Rattle.views.specs.View.{ring_of_word, views_of}
 use Rattle.views.proofs.Histories.{top-none, top-some}
 use Rattle.evidence.proofs.remaining.top_of.Goals as goal
 
@@ -7,6 +6,6 @@ pub returns-then-n-eq0 : goal.returns-then-n-eq0
 unfolding views_of
 returns-then-n-eq0 c = top-none _ (ring_of_word c.args.init) _ c.if-n-eq0.true
 
-pub returns : goal.returns
+pub returns-else-n-eq0 : goal.returns-else-n-eq0
 unfolding views_of
-returns c = ap view_of c.list_at.ensures ∙ top-some _ (ring_of_word c.args.init) _ c.if-n-eq0.false
+returns-else-n-eq0 c = top-some _ (ring_of_word c.args.init) _ c.if-n-eq0.false

@@ -1,10 +1,6 @@
-use Prim.Native.Nat.{◌-◌, ◌≤◌}
 use Rattle.views.specs.View.{views_of}
 use Rattle.pool.proofs.Laws.{HeldTo}
 use Rattle.evidence.proofs.reports.all_in.Given as goal
 
 abbrev pub invariant-loop-p : goal.invariant-loop-p
-invariant-loop-p l = (l.p ≤ l.c) × HeldTo (views_of l.list l.n) l.words l.s l.p
-
-abbrev pub decreases-loop-p : goal.decreases-loop-p
-decreases-loop-p l = l.c - l.p
+invariant-loop-p l = HeldTo (views_of l.list l.n) l.words l.s l.p

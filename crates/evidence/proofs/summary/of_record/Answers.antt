@@ -4,8 +4,5 @@ use Rattle.evidence.proofs.Senders.{senders-most}
 use Rattle.evidence.proofs.Kept.{backed-none}
 use Rattle.evidence.proofs.summary.of_record.Goals as goal
 
-pub returns-then-has_votes : goal.returns-then-has_votes
-returns-then-has_votes c = c.of_votes.ensures
-
 pub returns : goal.returns
 returns c = (c.unvoted.ensures.0 _ _ _ (senders-most _ _) (sym c.has_votes.ensures ∙ c.if-has_votes.false) c.wished_by.ensures, subst (BackedIn _ _ _ _) (sym c.unvoted.ensures.1) (backed-none _ _ _ _ (sym c.has_votes.ensures ∙ c.if-has_votes.false)))

@@ -1,20 +1,16 @@
-use native.Mathlib.Omega.{arith}
-use mathlib.Core.Path.{refl}
-use Prim.Native.Nat.{◌-◌}
 use Rattle.host.proofs.Loading.{bind-first, bind-none, bind-bound, bind-barred, bind-last}
 use Rattle.host.proofs.held.put_bindings.Goals as goal
+use Rattle.host.proofs.held.put_bindings.Goals.{in-Unbound, in-Bound, in-Barred}
 
 pub loop-j-init : goal.loop-j-init
-loop-j-init c = bind-first _ _ c.requires.0
-
-pub loop-j-preserved-then-n-eq0 : goal.loop-j-preserved-then-n-eq0
-loop-j-preserved-then-n-eq0 c = bind-none _ _ c.loop-j.invariant c.loop-j-test.true refl c.number_of-n.ensures.0 c.if-n-eq0.true
-
-pub loop-j-preserved-then-n-eq1 : goal.loop-j-preserved-then-n-eq1
-loop-j-preserved-then-n-eq1 c = bind-bound _ _ c.loop-j.invariant c.loop-j-test.true refl c.number_of-n.ensures.0 c.if-n-eq1.true _ c.bound_payload.ensures c.with_notice-bound.ensures
+loop-j-init c = bind-first _ _ c.told-words
 
 pub loop-j-preserved : goal.loop-j-preserved
-loop-j-preserved c = bind-barred _ _ c.loop-j.invariant c.loop-j-test.true refl c.number_of-n.ensures.0 (omega (arith, c.number_of-n.ensures.1, c.if-n-eq0.false, c.if-n-eq1.false)) c.with_notice-barred.ensures
+loop-j-preserved c = elim c.match-held-j.branch [
+  | in-Unbound w ↦ rw (w.words-is, w.bound-is, w.barred-is) (bind-none c.loop-j.invariant c.loop-j-test.true w.in-Unbound.is)
+  | in-Bound w ↦ rw (w.words-is, w.bound-is, w.barred-is) (bind-bound c.loop-j.invariant c.loop-j-test.true _ w.in-Bound.is w.with_notice-bound.ensures)
+  | in-Barred w ↦ rw (w.words-is, w.bound-is, w.barred-is) (bind-barred c.loop-j.invariant c.loop-j-test.true w.in-Barred.is w.with_notice-barred.ensures)
+]
 
 pub returns : goal.returns
-returns c = bind-last c.loop-j.invariant c.loop-j-test.false c.requires.1
+returns c = bind-last c.loop-j.invariant c.loop-j-test.false c.told-held

@@ -1,10 +1,6 @@
-use Prim.Native.Nat.{◌-◌}
 use Rattle.host.specs.Memory.{sender_in}
 use Rattle.host.proofs.Loading.{Puts}
 use Rattle.host.proofs.held.put_senders.Given as goal
 
 abbrev pub invariant-loop-j : goal.invariant-loop-j
 invariant-loop-j l = Puts 32 64 sender_in l.senders 0 l.initial.words l.words l.j
-
-abbrev pub decreases-loop-j : goal.decreases-loop-j
-decreases-loop-j l = 64 - l.j

@@ -1,6 +1,5 @@
 use native.Mathlib.Omega.{arith}
 use mathlib.Core.Path.{refl}
-use Prim.Native.Nat.{◌-◌}
 use Rattle.host.specs.Memory.{sender_in}
 use Rattle.host.proofs.Loading.{fill-first, fill-next, fill-last}
 use Rattle.host.proofs.held.senders_in.Goals as goal

@@ -3,4 +3,4 @@ use Rattle.pekdrav.proofs.Counting.{written}
 use Rattle.pekdrav.proofs.count.tell.Goals as goal
 
 pub returns : goal.returns
-returns c = written c.args.out.now (count_is c.args.c) c.room.ensures
+returns c = written (count_is c.args.c)

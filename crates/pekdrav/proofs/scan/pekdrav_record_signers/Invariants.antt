@@ -1,4 +1,3 @@
-use Prim.Native.Nat.{◌-◌, ◌≤◌}
 use Rattle.protocol.specs.Evidence.{signs}
 use Rattle.views.specs.Sets.{IsSet}
 use Rattle.views.specs.View.{view_of}
@@ -7,7 +6,4 @@ use Rattle.pekdrav.specs.Scan.{is_at}
 use Rattle.pekdrav.proofs.scan.pekdrav_record_signers.Given as goal
 
 abbrev pub invariant-loop-i : goal.invariant-loop-i
-invariant-loop-i l = (l.i ≤ l.end) × IsSet l.seen (signs (is_at l.kind (view_of l.at)) (record_up_to l.words l.ids l.i))
-
-abbrev pub decreases-loop-i : goal.decreases-loop-i
-decreases-loop-i l = l.end - l.i
+invariant-loop-i l = IsSet l.seen (signs (is_at l.kind (view_of l.at)) (record_up_to l.words l.ids l.i))

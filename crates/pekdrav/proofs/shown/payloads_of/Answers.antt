@@ -1,7 +1,5 @@
 use native.Mathlib.Omega.{arith}
 use mathlib.Core.Path.{◌∙◌}
-use mathlib.Core.Bool.{true}
-use Prim.Native.Nat.{◌-◌}
 use Rattle.host.proofs.Loading.{visit-first, visit-next, visit-last, further}
 use Rattle.pekdrav.proofs.Told.{payload_in, payload-there, payload-none, payloads-all}
 use Rattle.pekdrav.proofs.shown.payloads_of.Goals as goal

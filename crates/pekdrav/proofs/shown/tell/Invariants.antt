@@ -1,4 +1,3 @@
-use Prim.Native.Nat.{◌-◌, ◌≤◌}
 use mathlib.Core.Path.{◌≡◌}
 use lib.Seq.{sets}
 use Rattle.protocol.specs.Lists.{list_of}
@@ -6,7 +5,4 @@ use Rattle.pekdrav.proofs.Told.{word_in}
 use Rattle.pekdrav.proofs.shown.tell.Given as goal
 
 abbrev pub invariant-loop-i : goal.invariant-loop-i
-invariant-loop-i l = (l.i ≤ 16) × (l.out ≡ sets l.initial.out l.from (list_of l.i (word_in l.views l.n)))
-
-abbrev pub decreases-loop-i : goal.decreases-loop-i
-decreases-loop-i l = 16 - l.i
+invariant-loop-i l = l.out ≡ sets l.initial.out l.from (list_of l.i (word_in l.views l.n))

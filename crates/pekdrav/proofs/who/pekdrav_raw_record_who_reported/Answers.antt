@@ -1,11 +1,12 @@
 use Rattle.pekdrav.proofs.Counting.{settled, told-conflict, told-many, told-value}
 use Rattle.pekdrav.proofs.who.pekdrav_raw_record_who_reported.Goals as goal
+use Rattle.pekdrav.proofs.who.pekdrav_raw_record_who_reported.Goals.{then-e-via-then-e, then-e-via-else-e+then-e-2}
 
 pub returns-then-e : goal.returns-then-e
-returns-then-e c = told-conflict _ _ _ _ _ _ _ c.of_record-e.ensures.0 _ _ c.if-e.true
-
-pub returns-then-e-2 : goal.returns-then-e-2
-returns-then-e-2 c = told-many _ _ _ _ _ _ _ c.of_record-e.ensures.0 _ _ c.if-e.false c.if-e-2.true
+returns-then-e c = elim c.then-e.branch [
+  | then-e-via-then-e w ↦ told-conflict _ _ _ _ _ _ _ c.of_record-e.ensures.0 _ _ w.if-e.true
+  | then-e-via-else-e+then-e-2 w ↦ told-many _ _ _ _ _ _ _ c.of_record-e.ensures.0 _ _ w.if-e.false w.if-e-2.true
+]
 
 pub reporters-requires : goal.reporters-requires
 reporters-requires c = settled c.of_record-e.ensures.0 c.if-e.false c.if-e-2.false

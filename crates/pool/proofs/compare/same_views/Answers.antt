@@ -1,25 +1,21 @@
-use native.Mathlib.Omega.{arith}
-use mathlib.Core.Path.{sym, ap, ap₂, ◌∙◌}
-use Prim.Native.Nat.{◌-◌}
+use Rattle.std.proofs.Common.{rules, map, ap₂, arith, ◌∙◌}
+use borrow.Author.Tests.{tests, ne_eqb}
+use Rattle.std.proofs.lemmas.List.{length-map}
+use Rattle.std.proofs.lemmas.Iterator.{YieldsList-from_slice, YieldsList-from_zip}
+use Rattle.std.proofs.lemmas.Iterator.Search.{all_from_yields_List}
+use Rattle.protocol.specs.View.{same_view}
 use Rattle.protocol.specs.History.{same_views}
-use Rattle.views.specs.View.{view_of}
-use Rattle.views.proofs.Tables.{list_of-more, list_of-none}
-use Rattle.views.proofs.Views.{view-inj}
-use Rattle.views.proofs.Histories.{sames-short, sames-differ, sames_all}
-use Rattle.pool.proofs.Laws.{views-of}
+use Rattle.views.specs.View.{view_in}
+use Rattle.views.proofs.Histories.{sames-zip, sames-long}
 use Rattle.pool.proofs.compare.same_views.Goals as goal
 
-pub returns-then-n-count : goal.returns-then-n-count
-returns-then-n-count c = sames-short _ _ _ _ c.if-n-count.true ∙ ap₂ same_views (views-of _ _ _ c.count-n.ensures.0) (views-of _ _ _ c.count.ensures.0)
+pub returns-then-a-b : goal.returns-then-a-b
+returns-then-a-b c =
+    all_from_yields_List (λ p. same_view (view_in p.0) (view_in p.1)) c.all.new.self _ _ c.all.ensures.ran (YieldsList-from_zip (YieldsList-from_slice c.view_words-a.result.now cc) (YieldsList-from_slice c.view_words-b.result.now cc))
+    (λ x b q k. search (rules, tests))
+    ∙ sames-zip view_in view_in c.view_words-a.result.now c.view_words-b.result.now (omega arith) ∙ ap₂ same_views c.view_words-a.ensures.means c.view_words-b.ensures.means
 
-pub loop-p-init : goal.loop-p-init
-loop-p-init c = (omega arith, list_of-none _ _)
-
-pub returns-then-nth : goal.returns-then-nth
-returns-then-nth c = sames-differ _ _ _ _ c.loop-p-test.true (λ q. c.if-nth.true (view-inj _ _ (omega arith) (omega arith) (c.nth.ensures ∙ q ∙ sym c.nth-in-loop-p.ensures))) ∙ ap₂ same_views (views-of _ _ _ c.count-n.ensures.0) (views-of _ _ _ (c.if-n-count.false ∙ c.count.ensures.0))
-
-pub loop-p-preserved : goal.loop-p-preserved
-loop-p-preserved c = (omega arith, list_of-more _ _ _ c.loop-p.invariant.1 (sym c.nth.ensures ∙ ap view_of c.if-nth.false ∙ c.nth-in-loop-p.ensures))
-
-pub returns : goal.returns
-returns c = sames_all _ _ _ c.loop-p.invariant.1 ∙ ap₂ same_views (views-of _ _ _ (omega (arith, c.count-n.ensures.0))) (views-of _ _ _ (omega (arith, c.if-n-count.false, c.count.ensures.0)))
+pub returns-else-a-b : goal.returns-else-a-b
+returns-else-a-b c =
+    ne_eqb _ _ c.if-a-b.false ∙ sames-long (map view_in c.view_words-a.result.now) (map view_in c.view_words-b.result.now) (λ e. omega (arith, c.if-a-b.false, length-map c.view_words-a.result.now view_in, length-map c.view_words-b.result.now view_in))
+    ∙ ap₂ same_views c.view_words-a.ensures.means c.view_words-b.ensures.means

@@ -1,9 +1,6 @@
-use Prim.Native.Nat.{◌-◌, ◌≤◌}
+use Prim.Native.Nat.{◌≤◌}
 use Rattle.ranking.proofs.Slots as laws
 use Rattle.ranking.proofs.candidates.list_slots.Given as goal
 
 abbrev pub invariant-loop-k : goal.invariant-loop-k
-invariant-loop-k l = (l.k ≤ 33) × (l.n ≤ 16) × laws.ListedTo l.slots l.out l.n l.k
-
-abbrev pub decreases-loop-k : goal.decreases-loop-k
-decreases-loop-k l = 33 - l.k
+invariant-loop-k l = (l.n ≤ 16) × laws.ListedTo l.slots l.out l.n l.k

@@ -1,4 +1,3 @@
-use Prim.Native.Nat.{◌-◌, ◌≤◌}
 use mathlib.Core.Path.{◌≡◌}
 use lib.ListN.{length}
 use Rattle.protocol.specs.Lists.{list_of}
@@ -7,7 +6,4 @@ use Rattle.views.specs.View.{views_of}
 use Rattle.ranking.proofs.histories.copy_views.Given as goal
 
 abbrev pub invariant-loop-p : goal.invariant-loop-p
-invariant-loop-p l = (l.p ≤ l.c) × (length l.out ≡ 16) × (views_of l.out l.p ≡ list_of l.p (view_at l.words l.n))
-
-abbrev pub decreases-loop-p : goal.decreases-loop-p
-decreases-loop-p l = l.c - l.p
+invariant-loop-p l = (length l.out ≡ 16) × (views_of l.out l.p ≡ list_of l.p (view_at l.words l.n))

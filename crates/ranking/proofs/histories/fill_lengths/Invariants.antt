@@ -1,9 +1,5 @@
-use Prim.Native.Nat.{◌-◌, ◌≤◌}
 use Rattle.ranking.specs.Slots.{history_scale, number_in, seal_mark, Slots}
 use Rattle.ranking.proofs.histories.fill_lengths.Given as goal
 
 abbrev pub invariant-loop-a : goal.invariant-loop-a
-invariant-loop-a l = (l.a ≤ l.agreements) × Slots (history_scale l.words) l.base (number_in l.rows) (seal_mark l.memo) l.a l.slots
-
-abbrev pub decreases-loop-a : goal.decreases-loop-a
-decreases-loop-a l = l.agreements - l.a
+invariant-loop-a l = Slots (history_scale l.words) l.base (number_in l.rows) (seal_mark l.memo) l.a l.slots

@@ -1,23 +1,21 @@
 use native.Mathlib.Omega.{arith}
-use Prim.Native.Nat.{◌-◌}
+use mathlib.Core.Path.{refl}
 use Rattle.ranking.proofs.Skips as laws
 use Rattle.ranking.proofs.Summits.{views-length}
 use Rattle.ranking.proofs.histories.passed.Goals as goal
+use Rattle.ranking.proofs.histories.passed.Goals.{then-count-k, else-count-k}
 
 pub loop-k-init : goal.loop-k-init
-loop-k-init c = (omega arith, laws.passed_first _ _ _ _ _)
+loop-k-init c = laws.passed_first _ _ _ _ _
 
-pub number_at-n-requires : goal.number_at-n-requires
-number_at-n-requires c = omega (arith, c.requires)
-
-pub loop-k-preserved-then-count-k : goal.loop-k-preserved-then-count-k
-loop-k-preserved-then-count-k c = (omega arith, laws.passed-skip _ _ _ _ _ _ _ _ _ c.number_at-n.ensures (views-length _ _ _ c.count.ensures.0) c.loop-k.invariant.1 c.if-count-k.true)
-
-pub passed_by-more-requires : goal.passed_by-more-requires
-passed_by-more-requires c = c.requires
+pub passed_by-seen-requires : goal.passed_by-seen-requires
+passed_by-seen-requires c = c.requires
 
 pub loop-k-preserved : goal.loop-k-preserved
-loop-k-preserved c = (omega arith, laws.passed-more _ _ _ _ _ _ _ _ _ c.number_at-n.ensures (views-length _ _ _ c.count.ensures.0) c.loop-k.invariant.1 _ c.if-count-k.false c.passed_by-more.ensures)
+loop-k-preserved c = elim c.if-count-k.branch [
+  | then-count-k w ↦ rw w.seen-is (laws.passed-more _ _ _ _ _ _ _ _ _ refl (views-length _ _ _ c.count.ensures.0) c.loop-k.invariant _ w.if-count-k.true w.passed_by-seen.ensures)
+  | else-count-k w ↦ rw w.seen-is (laws.passed-skip _ _ _ _ _ _ _ _ _ refl (views-length _ _ _ c.count.ensures.0) c.loop-k.invariant w.if-count-k.false)
+]
 
 pub returns : goal.returns
-returns c = laws.passed-all _ _ _ _ _ _ _ (omega arith) c.loop-k.invariant.1
+returns c = laws.passed-all _ _ _ _ _ _ _ (omega arith) c.loop-k.invariant

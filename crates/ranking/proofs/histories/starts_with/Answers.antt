@@ -1,5 +1,4 @@
 use native.Mathlib.Omega.{arith}
-use Prim.Native.Nat.{◌-◌}
 use mathlib.Core.Path.{sym, subst}
 use lib.Dec.{T}
 use Rattle.ranking.proofs.Skips.{alike-first, alike-more, starts-found}
@@ -9,7 +8,7 @@ pub returns-then-count-c : goal.returns-then-count-c
 returns-then-count-c c = λ e. absurd (subst T (sym e) tt)
 
 pub loop-p-init : goal.loop-p-init
-loop-p-init c = (omega arith, alike-first _ _)
+loop-p-init c = alike-first _ _
 
 pub nth-requires : goal.nth-requires
 nth-requires c = omega (arith, c.count-c.ensures.1)
@@ -21,7 +20,7 @@ pub returns-then-nth : goal.returns-then-nth
 returns-then-nth c = λ e. absurd (subst T (sym e) tt)
 
 pub loop-p-preserved : goal.loop-p-preserved
-loop-p-preserved c = (omega arith, alike-more _ _ _ _ _ c.loop-p.invariant.1 c.nth.ensures c.nth-in-loop-p.ensures c.if-nth.false)
+loop-p-preserved c = alike-more _ _ _ _ _ c.loop-p.invariant c.nth.ensures c.nth-in-loop-p.ensures c.if-nth.false
 
 pub returns : goal.returns
-returns c = λ e. starts-found _ _ _ _ _ _ c.count.ensures.0 c.count-c.ensures.0 (omega arith) (omega arith) c.loop-p.invariant.1
+returns c = λ e. starts-found _ _ _ _ _ _ c.count.ensures.0 c.count-c.ensures.0 (omega arith) (omega arith) c.loop-p.invariant

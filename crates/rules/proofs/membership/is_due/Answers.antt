@@ -1,15 +1,19 @@
-use mathlib.Core.Path.{ap, ◌∙◌}
-use borrow.Author.Tests.{not-true, not-false}
+use mathlib.Core.Path.{sym, ap, ◌∙◌}
+use mathlib.Core.Bool.{true≢false}
 use Rattle.protocol.specs.View.{below, member}
 use Rattle.views.specs.Held.{view_is}
 use Rattle.rules.proofs.Applied.{due-above, due-outside, due-open}
 use Rattle.rules.proofs.membership.is_due.Goals as goal
+use Rattle.rules.proofs.membership.is_due.Goals.{then-below, else-below}
 
-pub returns-then-not-below : goal.returns-then-not-below
-returns-then-not-below c = due-above _ _ _ _ _ (c.below.ensures ∙ ap (λ v. below 16 v (view_is c.args.t)) c.of_word-v.ensures) (not-true _ c.if-not-below.true-raw)
+pub returns-then-has_member : goal.returns-then-has_member
+returns-then-has_member c = elim c.if-below.branch [
+  | then-below w ↦ due-open _ _ _ _ _ _ _ _ (c.below.ensures ∙ ap (λ v. below 16 v (view_is c.args.t)) c.of_word-v.ensures) w.if-below.true (w.has_member.ensures ∙ ap (λ v. member v c.args.number) c.of_word-v.ensures) (sym w.value-is ∙ c.if-has_member.true) (c.word.ensures ∙ c.of_word-v.ensures) c.signed_at.ensures
+  | else-below w ↦ absurd (true≢false (sym c.if-has_member.true ∙ w.value-is ∙ w.if-below.false))
+]
 
-pub returns-then-not-has_member : goal.returns-then-not-has_member
-returns-then-not-has_member c = due-outside _ _ _ _ _ _ (c.below.ensures ∙ ap (λ v. below 16 v (view_is c.args.t)) c.of_word-v.ensures) (not-false _ c.if-not-below.false-raw) (c.has_member.ensures ∙ ap (λ v. member v c.args.number) c.of_word-v.ensures) (not-true _ c.if-not-has_member.true-raw)
-
-pub returns : goal.returns
-returns c = due-open _ _ _ _ _ _ _ _ (c.below.ensures ∙ ap (λ v. below 16 v (view_is c.args.t)) c.of_word-v.ensures) (not-false _ c.if-not-below.false-raw) (c.has_member.ensures ∙ ap (λ v. member v c.args.number) c.of_word-v.ensures) (not-false _ c.if-not-has_member.false-raw) (c.word.ensures ∙ c.of_word-v.ensures) c.signed_at.ensures
+pub returns-else-has_member : goal.returns-else-has_member
+returns-else-has_member c = elim c.if-below.branch [
+  | then-below w ↦ c.if-has_member.false ∙ due-outside _ _ _ _ _ _ (c.below.ensures ∙ ap (λ v. below 16 v (view_is c.args.t)) c.of_word-v.ensures) w.if-below.true (w.has_member.ensures ∙ ap (λ v. member v c.args.number) c.of_word-v.ensures) (sym w.value-is ∙ c.if-has_member.false)
+  | else-below w ↦ c.if-has_member.false ∙ due-above _ _ _ _ _ (c.below.ensures ∙ ap (λ v. below 16 v (view_is c.args.t)) c.of_word-v.ensures) w.if-below.false
+]

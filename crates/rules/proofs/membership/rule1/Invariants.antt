@@ -1,6 +1,5 @@
 use mathlib.Core.Path.{◌≡◌}
 use mathlib.Core.Bool.{false}
-use Prim.Native.Nat.{◌-◌, ◌≤◌}
 use Rattle.protocol.specs.Lists.{any}
 use Rattle.views.specs.Held.{view_is}
 use Rattle.pool.specs.Pool.{record_in}
@@ -8,8 +7,5 @@ use Rattle.views.specs.View.{views_in}
 use Rattle.rules.specs.Rules.{report_due}
 use Rattle.rules.proofs.membership.rule1.Given as goal
 
-abbrev pub invariant-loop-i : goal.invariant-loop-i
-invariant-loop-i l = (l.i ≤ l.n) × (any (report_due (record_in l.words l.own) l.k (view_is l.t)) (views_in l.greatest l.i) ≡ false)
-
-abbrev pub decreases-loop-i : goal.decreases-loop-i
-decreases-loop-i l = l.n - l.i
+abbrev pub invariant-loop-u : goal.invariant-loop-u
+invariant-loop-u l = any (report_due (record_in l.words l.own) l.s.number (view_is l.s.top)) (views_in l.greatest l.u-index) ≡ false

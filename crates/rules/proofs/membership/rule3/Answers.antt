@@ -1,21 +1,17 @@
 use mathlib.Core.Path.{ap}
-use borrow.Author.Tests.{not-true, not-false}
 use Rattle.protocol.specs.Statement.{agree_view}
 use Rattle.views.specs.Held.{view_is}
-use Rattle.rules.proofs.Applied.{stop, go, done, does-any, third, members-asked, top-asked, made_as, holds_asked}
+use Rattle.rules.proofs.Applied.{stop, go, done, does-any, third, members-asked, top-differs, made_as, holds_asked}
 use Rattle.rules.proofs.membership.rule3.Goals as goal
+use Rattle.rules.proofs.membership.rule3.Goals.{else-s-via-then-s+then-has_members+then-ne+else-not-record_holds, else-s-via-then-s+then-has_members+else-ne, else-s-via-then-s+else-has_members, else-s-via-else-s}
 
-pub returns-then-not-s : goal.returns-then-not-s
-returns-then-not-s c = does-any (third _ _) (stop _ _ _ (not-true _ c.if-not-s.true))
-
-pub returns-then-not-has_members : goal.returns-then-not-has_members
-returns-then-not-has_members c = does-any (third _ _) (go _ _ _ _ (not-false _ c.if-not-s.false) (stop _ _ _ (members-asked _ _ c.of_word-w.ensures c.has_members.ensures (not-true _ c.if-not-has_members.true-raw))))
-
-pub returns-then-same : goal.returns-then-same
-returns-then-same c = does-any (third _ _) (go _ _ _ _ (not-false _ c.if-not-s.false) (go _ _ _ _ (members-asked _ _ c.of_word-w.ensures c.has_members.ensures (not-false _ c.if-not-has_members.false-raw)) (stop _ _ _ (top-asked _ _ c.of_word-w.ensures c.same.ensures c.if-same.true))))
-
-pub returns-then-record_holds : goal.returns-then-record_holds
-returns-then-record_holds c = does-any (third _ _) (go _ _ _ _ (not-false _ c.if-not-s.false) (go _ _ _ _ (members-asked _ _ c.of_word-w.ensures c.has_members.ensures (not-false _ c.if-not-has_members.false-raw)) (go _ _ _ _ (top-asked _ _ c.of_word-w.ensures c.same.ensures c.if-same.false) (stop _ _ _ (holds_asked _ _ _ (made_as (ap (agree_view c.args.s.number (view_is c.args.s.top)) c.of_word-w.ensures) c.agree_view.ensures) c.record_holds.ensures c.if-record_holds.true)))))
+pub returns-then-not-record_holds : goal.returns-then-not-record_holds
+returns-then-not-record_holds c = does-any (third _ _) (go _ _ _ _ c.if-s.true (go _ _ _ _ (members-asked _ _ c.of_word-w.ensures c.has_members.ensures c.if-has_members.true) (go _ _ _ _ (top-differs _ _ c.of_word-w.ensures c.ne.ensures c.if-ne.true) (go _ _ _ _ (holds_asked _ _ _ (made_as (ap (agree_view c.args.s.number (view_is c.args.s.top)) c.of_word-w.ensures) c.agree_view.ensures) c.record_holds.ensures c.if-not-record_holds.true) (done _)))))
 
 pub returns : goal.returns
-returns c = does-any (third _ _) (go _ _ _ _ (not-false _ c.if-not-s.false) (go _ _ _ _ (members-asked _ _ c.of_word-w.ensures c.has_members.ensures (not-false _ c.if-not-has_members.false-raw)) (go _ _ _ _ (top-asked _ _ c.of_word-w.ensures c.same.ensures c.if-same.false) (go _ _ _ _ (holds_asked _ _ _ (made_as (ap (agree_view c.args.s.number (view_is c.args.s.top)) c.of_word-w.ensures) c.agree_view.ensures) c.record_holds.ensures c.if-record_holds.false) (done _)))))
+returns c = elim c.else-s.branch [
+  | else-s-via-then-s+then-has_members+then-ne+else-not-record_holds w ↦ does-any (third _ _) (go _ _ _ _ w.if-s.true (go _ _ _ _ (members-asked _ _ c.of_word-w.ensures w.has_members.ensures w.if-has_members.true) (go _ _ _ _ (top-differs _ _ c.of_word-w.ensures w.ne.ensures w.if-ne.true) (stop _ _ _ (holds_asked _ _ _ (made_as (ap (agree_view c.args.s.number (view_is c.args.s.top)) c.of_word-w.ensures) w.agree_view.ensures) w.record_holds.ensures w.if-not-record_holds.false)))))
+  | else-s-via-then-s+then-has_members+else-ne w ↦ does-any (third _ _) (go _ _ _ _ w.if-s.true (go _ _ _ _ (members-asked _ _ c.of_word-w.ensures w.has_members.ensures w.if-has_members.true) (stop _ _ _ (top-differs _ _ c.of_word-w.ensures w.ne.ensures w.if-ne.false))))
+  | else-s-via-then-s+else-has_members w ↦ does-any (third _ _) (go _ _ _ _ w.if-s.true (stop _ _ _ (members-asked _ _ c.of_word-w.ensures w.has_members.ensures w.if-has_members.false)))
+  | else-s-via-else-s w ↦ does-any (third _ _) (stop _ _ _ w.if-s.false)
+]

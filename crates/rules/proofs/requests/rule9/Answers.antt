@@ -1,17 +1,15 @@
 use mathlib.Core.Path.{sym, ◌∙◌}
-use borrow.Author.Tests.{not-true, not-false}
 use Rattle.rules.proofs.Applied.{stop, go, done, does-any, holds_asked}
 use Rattle.rules.proofs.Notices.{ninth}
 use Rattle.rules.proofs.requests.rule9.Goals as goal
+use Rattle.rules.proofs.requests.rule9.Goals.{else-s-via-then-s+then-not-record_holds+else-may_leave, else-s-via-then-s+else-not-record_holds, else-s-via-else-s}
 
-pub returns-then-not-s : goal.returns-then-not-s
-returns-then-not-s c = does-any (ninth _ _) (stop _ _ _ (not-true _ c.if-not-s.true))
-
-pub returns-then-record_holds : goal.returns-then-record_holds
-returns-then-record_holds c = does-any (ninth _ _) (go _ _ _ _ (not-false _ c.if-not-s.false) (stop _ _ _ (holds_asked _ _ _ c.leave.ensures c.record_holds.ensures c.if-record_holds.true)))
-
-pub returns-then-not-may_leave : goal.returns-then-not-may_leave
-returns-then-not-may_leave c = does-any (ninth _ _) (go _ _ _ _ (not-false _ c.if-not-s.false) (go _ _ _ _ (holds_asked _ _ _ c.leave.ensures c.record_holds.ensures c.if-record_holds.false) (stop _ _ _ (sym c.may_leave.ensures ∙ not-true _ c.if-not-may_leave.true-raw))))
+pub returns-then-may_leave : goal.returns-then-may_leave
+returns-then-may_leave c = does-any (ninth _ _) (go _ _ _ _ c.if-s.true (go _ _ _ _ (holds_asked _ _ _ c.leave.ensures c.record_holds.ensures c.if-not-record_holds.true) (go _ _ _ _ (sym c.may_leave.ensures ∙ c.if-may_leave.true) (done _))))
 
 pub returns : goal.returns
-returns c = does-any (ninth _ _) (go _ _ _ _ (not-false _ c.if-not-s.false) (go _ _ _ _ (holds_asked _ _ _ c.leave.ensures c.record_holds.ensures c.if-record_holds.false) (go _ _ _ _ (sym c.may_leave.ensures ∙ not-false _ c.if-not-may_leave.false-raw) (done _))))
+returns c = elim c.else-s.branch [
+  | else-s-via-then-s+then-not-record_holds+else-may_leave w ↦ does-any (ninth _ _) (go _ _ _ _ w.if-s.true (go _ _ _ _ (holds_asked _ _ _ w.leave.ensures w.record_holds.ensures w.if-not-record_holds.true) (stop _ _ _ (sym w.may_leave.ensures ∙ w.if-may_leave.false))))
+  | else-s-via-then-s+else-not-record_holds w ↦ does-any (ninth _ _) (go _ _ _ _ w.if-s.true (stop _ _ _ (holds_asked _ _ _ w.leave.ensures w.record_holds.ensures w.if-not-record_holds.false)))
+  | else-s-via-else-s w ↦ does-any (ninth _ _) (stop _ _ _ w.if-s.false)
+]

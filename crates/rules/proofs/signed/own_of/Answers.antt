@@ -1,33 +1,18 @@
 use native.Mathlib.Omega.{arith}
 use lib.Dec.{eqb}
-use Prim.Native.Nat.{◌-◌}
-use Rattle.evidence.proofs.Listing.{more-fits, sifted-none, sifted-next, sifted-whole}
-use Rattle.rules.proofs.Scans.{of_is, owns-all}
+use mathlib.Core.Path.{refl, ap, ◌∙◌}
+use Rattle.evidence.proofs.Listing.{sifted-none, sifted-next, sifted-whole}
+use Rattle.rules.proofs.Scans.{is-below, is-number, is-entry, is-end, of_is, owns-all}
 use Rattle.rules.proofs.signed.own_of.Goals as goal
 
-pub loop-i-init : goal.loop-i-init
-loop-i-init c = (omega arith, sifted-none c.record_clear.ensures.long)
+pub loop-n-init : goal.loop-n-init
+loop-n-init c = sifted-none c.record_clear.ensures.long
 
-pub offset_bounds-ids-i : goal.offset_bounds-ids-i
-offset_bounds-ids-i c = omega (arith, c.record_length-end.ensures.1)
-
-pub bounds-ids-i : goal.bounds-ids-i
-bounds-ids-i c = omega (arith, c.record_length-end.ensures.1)
-
-pub offset_bounds-own-count : goal.offset_bounds-own-count
-offset_bounds-own-count c = omega (arith, c.record_length-end.ensures.1, c.loop-i.invariant.1.most)
-
-pub bounds-own-count : goal.bounds-own-count
-bounds-own-count c = omega (arith, c.record_length-end.ensures.1, c.loop-i.invariant.1.most)
-
-pub overflow_add-count : goal.overflow_add-count
-overflow_add-count c = record { fits = more-fits _ (eqb c.origin.result c.args.k) (omega (arith, c.loop-i.invariant.1.most, c.record_length-end.ensures.1)) }
-
-pub loop-i-preserved : goal.loop-i-preserved
-loop-i-preserved c = (omega arith, sifted-next (omega (arith, c.record_length-end.ensures.1)) c.loop-i.invariant.1 _ (of_is _ _ _ c.origin.ensures.0))
-
-pub overflow_cast-own : goal.overflow_cast-own
-overflow_cast-own c = omega (arith, c.loop-i.invariant.1.most, c.record_length-end.ensures.1)
+pub loop-n-preserved : goal.loop-n-preserved
+loop-n-preserved c =
+    rw (is-number c.args.words.now _ _ _ c.record_length.ensures.0 c.told-ids c.loop-n-test.true, c.from-count.ensures)
+    (sifted-next (omega (arith, is-below c.args.words.now _ _ _ c.record_length.ensures.0 c.told-ids c.loop-n-test.true)) c.loop-n.invariant (eqb c.origin.result c.from.result)
+    (ap (eqb c.origin.result) c.from.ensures ∙ of_is _ _ _ (c.origin.ensures.0 ∙ ap (λ s. s.origin) (is-entry _ _ _ _ c.record_length.ensures.0 c.told-ids c.loop-n-test.true))))
 
 pub returns : goal.returns
-returns c = owns-all (sifted-whole _ (omega arith) c.record_length-end.ensures.0 c.loop-i.invariant.1)
+returns c = owns-all (sifted-whole _ (is-end c.args.words.now _ _ _ c.record_length.ensures.0 c.told-ids c.loop-n.auto.n-index-end c.loop-n-test.false) refl c.loop-n.invariant)

@@ -1,18 +1,16 @@
-use native.Mathlib.Omega.{arith}
-use mathlib.Core.Path.{sym, ◌∙◌}
-use mathlib.Core.Bool.{false}
-use Prim.Native.Nat.{◌-◌}
-use Rattle.pool.proofs.Records as records
+use Rattle.std.proofs.Common.{rules, take, arith, ◌∙◌}
+use borrow.Author.Tests.{tests}
+use Rattle.std.proofs.lemmas.Iterator.{YieldsList-from_slice}
+use Rattle.std.proofs.lemmas.Iterator.Search.{any_from_yields_List}
+use Rattle.statements.specs.Kind.{kind_number}
+use Rattle.views.specs.View.{view_of}
+use Rattle.views.proofs.Chains.{any-take}
+use Rattle.pool.specs.Pool.{stmt_at, record_len, record_up_to}
+use Rattle.rules.specs.Rules.{own_at}
 use Rattle.rules.proofs.signed.signed_at.Goals as goal
 
-pub loop-i-init : goal.loop-i-init
-loop-i-init c = (omega arith, records.none_first _ _ _)
-
-pub returns-then-is_own_at : goal.returns-then-is_own_at
-returns-then-is_own_at c = sym (records.found _ _ _ _ _ (omega (arith, c.record_length-end.ensures.0)) (sym c.is_own_at.ensures ∙ c.if-is_own_at.true))
-
-pub loop-i-preserved : goal.loop-i-preserved
-loop-i-preserved c = (omega arith, records.none-next _ _ _ _ (omega (arith, c.record_length-end.ensures.1)) c.loop-i.invariant.1 (sym c.is_own_at.ensures ∙ c.if-is_own_at.false))
-
 pub returns : goal.returns
-returns c = sym (records.none _ _ _ _ _ (omega (arith, c.record_length-end.ensures.0)) c.loop-i.invariant.1)
+unfolding record_up_to
+returns c =
+    any_from_yields_List (λ n. own_at c.args.k (kind_number c.args.kind) (view_of c.args.t) (stmt_at c.args.words.now n)) _ _ _ c.any.ensures.ran (YieldsList-from_slice (take (record_len c.args.ids.now) c.args.ids.now) cc) (λ x b q k. search (rules, tests))
+    ∙ any-take _ _ _ _ _ (omega arith)

@@ -1,8 +1,8 @@
 use Rattle.schedule.proofs.Setups.{reads-setup, reads-no-setup}
 use Rattle.schedule.proofs.line.is_setup.Goals as goal
 
-pub returns-then-r : goal.returns-then-r
-returns-then-r c = reads-setup c.args.line.now c.requires _ _ _ c.setup_fields-r.ensures c.if-r.true
+pub returns-in_err-setup_fields : goal.returns-in_err-setup_fields
+returns-in_err-setup_fields c = rw c.from_residual.ensures (reads-no-setup c.args.line.now c.requires _ _ c.in_err-setup_fields.ensures)
 
 pub returns : goal.returns
-returns c = reads-no-setup c.args.line.now c.requires _ _ _ c.setup_fields-r.ensures c.if-r.false
+returns c = reads-setup c.args.line.now c.requires _ _ _ c.in_ok-setup_fields.ensures

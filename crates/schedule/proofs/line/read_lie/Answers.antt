@@ -5,5 +5,5 @@ use Rattle.schedule.proofs.line.read_lie.Goals as goal
 pub returns-then-comma_at : goal.returns-then-comma_at
 returns-then-comma_at c = with-comma c.args.line.now c.requires (sym c.comma_at.ensures ∙ c.if-comma_at.true)
 
-pub returns : goal.returns
-returns c = no-comma c.args.line.now c.requires (sym c.comma_at.ensures ∙ c.if-comma_at.false)
+pub returns-else-comma_at : goal.returns-else-comma_at
+returns-else-comma_at c = no-comma c.args.line.now c.requires (sym c.comma_at.ensures ∙ c.if-comma_at.false)

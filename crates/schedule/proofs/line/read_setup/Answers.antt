@@ -1,10 +1,9 @@
 use mathlib.Core.Path.{sym, ◌∙◌}
-use borrow.Author.Tests.{not-true, not-false}
 use Rattle.schedule.proofs.Setups.{not-setup, setup-begins}
 use Rattle.schedule.proofs.line.read_setup.Goals as goal
 
 pub returns-then-not-starts_with : goal.returns-then-not-starts_with
-returns-then-not-starts_with c = not-setup c.args.line.now _ _ (sym c.starts_with.ensures ∙ not-true _ c.if-not-starts_with.true-raw) _ c.no_setup.ensures
+returns-then-not-starts_with c = not-setup c.args.line.now _ _ (sym c.starts_with.ensures.value ∙ c.if-not-starts_with.true)
 
 pub setup_fields-requires : goal.setup_fields-requires
-setup_fields-requires c = setup-begins c.args.line.now (sym c.starts_with.ensures ∙ not-false _ c.if-not-starts_with.false-raw)
+setup_fields-requires c = setup-begins c.args.line.now (sym c.starts_with.ensures.value ∙ c.if-not-starts_with.false)

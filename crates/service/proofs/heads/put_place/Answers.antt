@@ -1,7 +1,6 @@
 use native.Mathlib.Omega.{arith}
 use mathlib.Core.Path.{ap}
 use Rattle.text.proofs.Stores.{wrote_as}
-use borrow.Author.Tests.{not-true, not-false}
 use Rattle.service.specs.Service.{stands_line}
 use Rattle.service.specs.ServiceParts.{place_line}
 use Rattle.service.proofs.heads.put_place.Goals as goal
@@ -12,8 +11,8 @@ returns-then-left c = rw c.if-left.true (c.write_text.ensures, omega (arith, c.w
 
 pub returns-then-not-stands : goal.returns-then-not-stands
 unfolding place_line
-returns-then-not-stands c = rw (c.if-left.false, not-true c.args.stands c.if-not-stands.true-raw) c.put_entered.ensures
+returns-then-not-stands c = rw (c.if-left.false, c.if-not-stands.true) c.put_entered.ensures
 
 pub returns : goal.returns
 unfolding place_line
-returns c = rw (c.if-left.false, not-false c.args.stands c.if-not-stands.false-raw) (wrote_as (ap stands_line c.word.ensures) c.put_stands.ensures.0, c.put_stands.ensures.1)
+returns c = rw (c.if-left.false, c.if-not-stands.false) (wrote_as (ap stands_line c.word.ensures) c.put_stands.ensures.0, c.put_stands.ensures.1)

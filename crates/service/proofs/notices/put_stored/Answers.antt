@@ -1,13 +1,12 @@
 use native.Mathlib.Omega.{arith}
 use Rattle.text.proofs.Stores.{both}
-use borrow.Author.Tests.{not-true, not-false}
 use Rattle.service.specs.Service.{stored_text}
 use Rattle.service.proofs.notices.put_stored.Goals as goal
 
-pub returns-then-not-is : goal.returns-then-not-is
+pub returns-in-None : goal.returns-in-None
 unfolding stored_text
-returns-then-not-is c = rw (not-true c.args.is c.if-not-is.true-raw) (c.write_text.ensures, omega (arith, c.write_text.ensures.next))
+returns-in-None c = rw c.in-None.is (c.write_text.ensures, omega (arith, c.write_text.ensures.next))
 
-pub returns : goal.returns
+pub returns-in-Some : goal.returns-in-Some
 unfolding stored_text
-returns c = rw (not-false c.args.is c.if-not-is.false-raw) (both c.write_text-a.ensures c.put_set.ensures.0, omega (arith, c.write_text-a.ensures.next, c.put_set.ensures.1))
+returns-in-Some c = rw c.in-Some.is (both c.write_text-a.ensures c.put_set.ensures.0, omega (arith, c.write_text-a.ensures.next, c.put_set.ensures.1))

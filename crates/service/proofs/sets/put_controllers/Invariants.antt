@@ -1,11 +1,8 @@
-use Prim.Native.Nat.{◌+◌, ◌*◌, ◌-◌, ◌≤◌}
+use Prim.Native.Nat.{◌+◌, ◌*◌, ◌≤◌}
 use Rattle.protocol.specs.Sets.{bit}
 use Rattle.text.specs.Written.{Wrote}
 use Rattle.service.specs.Service.{numbers_below}
 use Rattle.service.proofs.sets.put_controllers.Given as goal
 
 abbrev pub invariant-loop-k : goal.invariant-loop-k
-invariant-loop-k l = (l.k ≤ 16) × (l.at ≤ l.from + 3 * l.k) × Wrote l.initial.out l.from (numbers_below l.k (bit l.set)) l.at l.out
-
-abbrev pub decreases-loop-k : goal.decreases-loop-k
-decreases-loop-k l = 16 - l.k
+invariant-loop-k l = (l.at ≤ l.from + 3 * l.k) × Wrote l.initial.out l.from (numbers_below l.k (bit l.set)) l.at l.out

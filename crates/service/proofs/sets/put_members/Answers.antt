@@ -6,4 +6,4 @@ use Rattle.service.proofs.sets.put_members.Goals as goal
 
 pub returns : goal.returns
 unfolding members_text
-returns c = (both c.put_view-a.ensures.0 (wrote_as (members-numbers _ c.args.v _ c.members.ensures c.of_word-held.ensures) c.put_numbers.ensures.0), omega (arith, c.put_view-a.ensures.1, c.put_numbers.ensures.1))
+returns c = (both c.put_view-a.ensures.0 (wrote_as (members-numbers _ c.args.v _ c.members.ensures c.of_word.ensures) c.put_numbers.ensures.0), omega (arith, c.put_view-a.ensures.1, c.put_numbers.ensures.1))

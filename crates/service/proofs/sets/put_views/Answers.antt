@@ -1,27 +1,31 @@
 use native.Mathlib.Omega.{arith}
-use Prim.Native.Nat.{◌-◌}
 use mathlib.Core.Path.{◌≡◌, ap, ◌∙◌}
 use lib.ListN.{length}
 use lib.Seq.{length-sets}
+use Rattle.std.proofs.lemmas.List.{get_or-take, length-take-le}
 use Rattle.views.specs.View.{views_of}
 use Rattle.service.specs.Service.{views_text}
 use Rattle.service.proofs.ServiceLaws.{views-first, views-next, views-all}
 use Rattle.service.proofs.sets.put_views.Goals as goal
 
-pub loop-i-init : goal.loop-i-init
-loop-i-init c = (omega arith, omega arith, views-first _ _ _)
-
-pub list_at-requires : goal.list_at-requires
-list_at-requires c = omega (arith, c.requires.0, c.loop-i-test.true)
+pub loop-v-init : goal.loop-v-init
+loop-v-init c = (omega arith, views-first _ _ _)
 
 pub put_listed-at-requires : goal.put_listed-at-requires
-put_listed-at-requires c = omega (arith, c.requires.0, c.requires.1, c.loop-i-test.true, c.loop-i.invariant.1, ap length c.loop-i.invariant.2.is ∙ length-sets c.args.out.now c.args.from (views_text (views_of c.args.list.now c.loop-i.i)))
+put_listed-at-requires c =
+    let m = length-take-le c.args.n c.args.list.now (omega arith) in
+    omega (arith, c.requires.0, c.requires.1, c.loop-v-test.true, c.loop-v.invariant.0, ap length c.loop-v.invariant.1.is ∙ length-sets c.args.out.now c.args.from (views_text (views_of c.args.list.now c.loop-v.v-index)))
 
-pub loop-i-preserved : goal.loop-i-preserved
-loop-i-preserved c = (omega arith, omega (arith, c.put_listed-at.ensures.1, c.loop-i.invariant.1), views-next c.args.list.now c.loop-i.i _ c.list_at.ensures c.loop-i.invariant.2 c.put_listed-at.ensures.0)
+pub loop-v-preserved : goal.loop-v-preserved
+loop-v-preserved c =
+    let m = length-take-le c.args.n c.args.list.now (omega arith) in
+    (omega (arith, c.put_listed-at.ensures.1, c.loop-v.invariant.0), views-next c.args.list.now c.loop-v.v-index _ (get_or-take c.args.n c.args.list.now c.loop-v.v-index 0 (omega arith)) c.loop-v.invariant.1 c.put_listed-at.ensures.0)
 
 pub shape_of-out : goal.shape_of-out
-shape_of-out c = ap length c.loop-i.invariant.2.is ∙ simp length-sets
+shape_of-out c = ap length c.loop-v.invariant.1.is ∙ simp length-sets
 
 pub returns : goal.returns
-returns c = let e : c.loop-i.i ≡ c.args.n = omega arith in (views-all _ _ _ e c.loop-i.invariant.2, omega (arith, c.loop-i.invariant.1))
+returns c =
+    let m = length-take-le c.args.n c.args.list.now (omega arith) in
+    let e : c.loop-v.v-index ≡ c.args.n = omega arith in
+    (views-all _ _ _ e c.loop-v.invariant.1, omega (arith, c.loop-v.invariant.0))

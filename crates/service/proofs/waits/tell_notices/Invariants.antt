@@ -1,9 +1,5 @@
-use Prim.Native.Nat.{◌-◌, ◌≤◌}
 use Rattle.engine.specs.Situation.{ToldTo}
 use Rattle.service.proofs.waits.tell_notices.Given as goal
 
 abbrev pub invariant-loop-j : goal.invariant-loop-j
-invariant-loop-j l = (l.j ≤ l.n) × ToldTo l.held l.e l.certs l.j l.told
-
-abbrev pub decreases-loop-j : goal.decreases-loop-j
-decreases-loop-j l = l.n - l.j
+invariant-loop-j l = ToldTo l.held l.e l.certs l.j l.told

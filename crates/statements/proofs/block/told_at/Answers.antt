@@ -7,4 +7,4 @@ pub returns-then-j-ge-NOTICES : goal.returns-then-j-ge-NOTICES
 returns-then-j-ge-NOTICES c = nothing-past c.args.block.now c.args.j c.if-j-ge-NOTICES.true false 0 refl
 
 pub returns : goal.returns
-returns c = told-made c.args.block.now c.args.j c.binding_at-b.result _ _ _ c.binding_at-b.ensures c.word.ensures c.has.ensures c.word-2.ensures
+returns c = told-made c.args.block.now c.args.j c.binding_at.result _ _ _ c.binding_at.ensures c.word.ensures c.has.ensures c.word-2.ensures

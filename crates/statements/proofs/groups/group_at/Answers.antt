@@ -1,5 +1,17 @@
-use Rattle.statements.proofs.GroupLaws.{group-from}
+use Rattle.statements.proofs.GroupLaws.{no-binding, no-payload, no-stored, no-kept, group-from}
 use Rattle.statements.proofs.groups.group_at.Goals as goal
 
+pub returns-in_err-binding : goal.returns-in_err-binding
+returns-in_err-binding c = rw c.from_residual.ensures (no-binding c.args.s.now c.args.at c.in_err-binding.ensures)
+
+pub returns-in_err-payload : goal.returns-in_err-payload
+returns-in_err-payload c = rw c.from_residual-in_err-payload.ensures (no-payload c.args.s.now c.args.at c.in_ok-binding.binding c.in_ok-binding.ensures _ c.limit.ensures c.in_err-payload.ensures)
+
+pub returns-in_err-stored : goal.returns-in_err-stored
+returns-in_err-stored c = rw c.from_residual-in_err-stored.ensures (no-stored c.args.s.now c.args.at c.in_ok-binding.binding c.in_ok-binding.ensures _ c.limit.ensures c.in_ok-payload.payload c.in_ok-payload.ensures c.in_err-stored.ensures)
+
+pub returns-in_err-kept : goal.returns-in_err-kept
+returns-in_err-kept c = rw c.from_residual-in_err-kept.ensures (no-kept c.args.s.now c.args.at c.in_ok-binding.binding c.in_ok-binding.ensures _ c.limit.ensures c.in_ok-payload.payload c.in_ok-payload.ensures c.in_ok-stored.stored c.in_ok-stored.ensures _ c.limit-2.ensures c.in_err-kept.ensures)
+
 pub returns : goal.returns
-returns c = group-from c.args.s.now c.args.at _ _ _ _ _ _ _ c.number_at-binding.ensures c.limit.ensures c.number_at-payload.ensures c.number_at-stored.ensures c.limit-2.ensures c.number_at-kept.ensures c.binding_of.ensures
+returns c = group-from c.args.s.now c.args.at c.in_ok-binding.binding c.in_ok-binding.ensures _ c.limit.ensures c.in_ok-payload.payload c.in_ok-payload.ensures c.in_ok-stored.stored c.in_ok-stored.ensures _ c.limit-2.ensures c.in_ok-kept.kept _ c.in_ok-kept.ensures c.binding_of.ensures

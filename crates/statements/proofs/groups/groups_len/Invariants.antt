@@ -1,4 +1,4 @@
-use Prim.Native.Nat.{◌-◌, ◌≤◌, ◌*◌}
+use Prim.Native.Nat.{◌≤◌, ◌*◌}
 use mathlib.Core.Path.{◌≡◌}
 use lib.ListN.{length}
 use Rattle.protocol.specs.Lists.{list_of}
@@ -7,7 +7,4 @@ use Rattle.statements.specs.Parts.{groups_text}
 use Rattle.statements.proofs.groups.groups_len.Given as goal
 
 abbrev pub invariant-loop-j : goal.invariant-loop-j
-invariant-loop-j l = (l.j ≤ l.n) × (l.n ≤ 64) × (l.size ≡ length (groups_text (list_of l.j (group_at l.block)))) × (l.size ≤ 46 * l.j)
-
-abbrev pub decreases-loop-j : goal.decreases-loop-j
-decreases-loop-j l = l.n - l.j
+invariant-loop-j l = (l.size ≡ length (groups_text (list_of l.j (group_at l.block)))) × (l.size ≤ 46 * l.j)

@@ -1,5 +1,6 @@
 use Rattle.statements.proofs.Held.{plain-made}
+use Rattle.statements.proofs.KindNumbers.{number_is}
 use Rattle.statements.proofs.make.plain.Goals as goal
 
 pub returns : goal.returns
-returns c = plain-made _ c.requires.0 c.requires.1
+returns c = rw (number_is c.args.kind) (plain-made _ c.requires.0 c.requires.1)

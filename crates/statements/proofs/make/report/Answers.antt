@@ -3,4 +3,4 @@ use Rattle.statements.proofs.Held.{report-made}
 use Rattle.statements.proofs.make.report.Goals as goal
 
 pub returns : goal.returns
-returns c = report-made _ _ refl refl c.shortened-short.ensures.1 c.shortened-short.ensures.0
+returns c = report-made _ _ refl refl c.shortened.ensures.1 c.shortened.ensures.0

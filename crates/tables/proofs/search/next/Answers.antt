@@ -1,15 +1,8 @@
 use native.Mathlib.Omega.{arith}
-use Rattle.tables.proofs.Searches.{starts-next, next-is}
+use Rattle.std.proofs.Common.{eqb, of_calls}
+use Rattle.tables.specs.Index.{key_at}
+use Rattle.tables.proofs.Searches.{next-row, latest-found, next-is}
 use Rattle.tables.proofs.search.next.Goals as goal
 
-pub key-requires : goal.key-requires
-key-requires c = (c.requires.0, omega (arith, c.requires.1.1.few, c.requires.1.2))
-
-pub older-requires : goal.older-requires
-older-requires c = (c.requires.0, omega (arith, c.requires.1.1.few, c.requires.1.2))
-
-pub walk-requires : goal.walk-requires
-walk-requires c = (let s = starts-next c.requires.1.1 c.requires.1.2 c.key.ensures c.older.ensures in (c.requires.0, (c.requires.1.0, c.requires.1.1, s.0), s.1))
-
 pub returns : goal.returns
-returns c = next-is c.requires.1.1 c.requires.1.2 c.key.ensures c.older.ensures c.walk.ensures
+returns c = next-is _ _ _ c.key-w.ensures (latest-found c.requires.1.1 (omega (arith, c.requires.1.2)) (next-row c.requires.1.1 c.requires.1.2 c.key-w.ensures c.older-before.ensures) (c.find.ensures (λ i. eqb (key_at c.args.keys.now c.args.t i) c.key-w.result) (λ row b l post. search of_calls)))

@@ -1,9 +1,12 @@
 use native.Mathlib.Omega.{arith}
-use Rattle.views.proofs.Held.{member-far, member-at}
+use Rattle.protocol.specs.View.{member}
+use Rattle.views.specs.Held.{view_is}
+use Rattle.views.proofs.Sets.{set_of-lt}
+use Rattle.views.proofs.Held.{member-bit}
 use Rattle.views.proofs.View.has_member.Goals as goal
 
-pub returns-then-k-ge-WIDTH : goal.returns-then-k-ge-WIDTH
-returns-then-k-ge-WIDTH c = member-far _ _ _ (omega arith) c.if-k-ge-WIDTH.true
+pub has-requires : goal.has-requires
+has-requires c = omega (arith, c.members.ensures, set_of-lt 16 (member (view_is c.args.self)))
 
 pub returns : goal.returns
-returns c = member-at _ _ _ c.members.ensures (omega arith)
+returns c = member-bit _ _ _ c.members.ensures c.has.ensures (omega arith)

@@ -1,9 +1,5 @@
-use lib.Bits.{and_le_l}
 use Rattle.views.proofs.Held.{members-are}
 use Rattle.views.proofs.View.members.Goals as goal
-
-pub overflow_sub-result : goal.overflow_sub-result
-overflow_sub-result c = and_le_l _ _
 
 pub returns : goal.returns
 returns c = members-are _ _ _ c.joined_set-joined.ensures.0 c.joined_set-joined.ensures.1 c.left_set.ensures.0

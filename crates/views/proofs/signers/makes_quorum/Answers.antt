@@ -1,10 +1,9 @@
-use mathlib.Core.Path.{refl}
-use borrow.Author.Tests.{not-true, not-false}
+use mathlib.Core.Path.{refl, ◌∙◌}
 use Rattle.views.proofs.Signing.{quorum-none, quorum-some}
 use Rattle.views.proofs.signers.makes_quorum.Goals as goal
 
-pub returns-then-not-has_members : goal.returns-then-not-has_members
-returns-then-not-has_members c = quorum-none _ _ _ c.of_word-w.ensures _ c.has_members.ensures (not-true _ c.if-not-has_members.true-raw)
+pub returns-then-has_members : goal.returns-then-has_members
+returns-then-has_members c = quorum-some _ _ _ c.of_word-w.ensures _ c.has_members.ensures c.if-has_members.true _ _ c.quorum.ensures refl
 
-pub returns : goal.returns
-returns c = quorum-some _ _ _ c.of_word-w.ensures _ c.has_members.ensures (not-false _ c.if-not-has_members.false-raw) _ _ c.quorum.ensures refl
+pub returns-else-has_members : goal.returns-else-has_members
+returns-else-has_members c = c.if-has_members.false ∙ quorum-none _ _ _ c.of_word-w.ensures _ c.has_members.ensures c.if-has_members.false

@@ -1,31 +1,20 @@
 use native.Mathlib.Omega.{arith}
 use mathlib.Core.Path.{sym, ◌∙◌}
-use mathlib.Core.Bool.{true, false}
-use borrow.Author.Tests.{not-true, not-false}
-use Rattle.protocol.specs.Lists.{any}
-use Rattle.protocol.specs.View.{same_view}
-use Rattle.views.proofs.Histories.{asked-one}
-use Rattle.pool.specs.Pool.{stmt_at}
-use Rattle.votes.specs.Chosen.{agreement_by}
-use Rattle.votes.proofs.Picked.{stop1, stop2, stop3, stop4, pass4, kind-is, kind-not, top-is, top-not}
+use Rattle.votes.proofs.Picked.{all-but-last, second-fails, first-fails, agreement-not, agreement-told, top-other}
 use Rattle.votes.proofs.chosen.is_agreement.Goals as goal
+use Rattle.votes.proofs.chosen.is_agreement.Goals.{then-has_view, else-has_view}
 
-pub returns-then-own_of-ne4 : goal.returns-then-own_of-ne4
-unfolding agreement_by
-returns-then-own_of-ne4 c = stop1 _ _ _ _ _ (kind-not _ _ 4 (omega arith) (c.own_of.ensures ∙ c.requires) c.if-own_of-ne4.true)
-
-pub returns-then-not-is_complete : goal.returns-then-not-is_complete
-unfolding agreement_by
-returns-then-not-is_complete c = stop2 _ _ _ _ _ (kind-is _ _ 4 (omega arith) (c.own_of.ensures ∙ c.requires) c.if-own_of-ne4.false) (sym c.is_complete.ensures ∙ not-true _ c.if-not-is_complete.true-raw)
-
-pub returns-then-not-has_view : goal.returns-then-not-has_view
-unfolding agreement_by
-returns-then-not-has_view c = stop3 _ _ _ _ _ (kind-is _ _ 4 (omega arith) (c.own_of.ensures ∙ c.requires) c.if-own_of-ne4.false) (sym c.is_complete.ensures ∙ not-false _ c.if-not-is_complete.false-raw) (asked-one (λ t. any (same_view t) (stmt_at c.args.words.now c.args.s).views) _ false c.has_view.ensures (not-true _ c.if-not-has_view.true-raw) c.at-t.ensures)
+pub returns-then-not-agrees_to : goal.returns-then-not-agrees_to
+returns-then-not-agrees_to c = agreement-not _ _ _ _ c.requires _ c.agrees_to.ensures c.if-not-agrees_to.true
 
 pub returns-then-top_view-t : goal.returns-then-top_view-t
-unfolding agreement_by
-returns-then-top_view-t c = stop4 _ _ _ _ _ (kind-is _ _ 4 (omega arith) (c.own_of.ensures ∙ c.requires) c.if-own_of-ne4.false) (sym c.is_complete.ensures ∙ not-false _ c.if-not-is_complete.false-raw) (asked-one (λ t. any (same_view t) (stmt_at c.args.words.now c.args.s).views) _ true c.has_view.ensures (not-false _ c.if-not-has_view.false-raw) c.at-t.ensures) (top-is _ _ _ _ c.at-t.ensures c.top_view.ensures c.if-top_view-t.true)
+returns-then-top_view-t c = agreement-told _ _ _ _ c.requires _ _ _ c.agrees_to.ensures c.if-not-agrees_to.false c.at-t.ensures (elim c.if-has_view.branch [
+  | then-has_view w ↦ all-but-last _ _ _ (sym c.has_view.ensures ∙ w.if-has_view.true) (sym (top-other _ _ _ w.top_view.ensures (omega arith) (omega arith)) ∙ sym w.value-is ∙ c.if-top_view-t.true) c.is_history.ensures
+  | else-has_view w ↦ absurd (cc)
+])
 
-pub returns : goal.returns
-unfolding agreement_by
-returns c = pass4 _ _ _ _ _ _ (kind-is _ _ 4 (omega arith) (c.own_of.ensures ∙ c.requires) c.if-own_of-ne4.false) (sym c.is_complete.ensures ∙ not-false _ c.if-not-is_complete.false-raw) (asked-one (λ t. any (same_view t) (stmt_at c.args.words.now c.args.s).views) _ true c.has_view.ensures (not-false _ c.if-not-has_view.false-raw) c.at-t.ensures) (top-not _ _ _ _ c.at-t.ensures c.top_view.ensures (omega arith) (omega arith) c.if-top_view-t.false) c.is_history.ensures
+pub returns-else-top_view-t : goal.returns-else-top_view-t
+returns-else-top_view-t c = agreement-told _ _ _ _ c.requires _ _ _ c.agrees_to.ensures c.if-not-agrees_to.false c.at-t.ensures (elim c.if-has_view.branch [
+  | then-has_view w ↦ second-fails _ _ _ (sym c.has_view.ensures ∙ w.if-has_view.true) (w.value-is ∙ top-other _ _ _ w.top_view.ensures (omega arith) (omega arith)) c.if-top_view-t.false
+  | else-has_view w ↦ first-fails _ _ _ (sym c.has_view.ensures ∙ w.if-has_view.false) c.if-top_view-t.false
+])

@@ -1,11 +1,17 @@
 use native.Mathlib.Omega.{arith}
-use Rattle.tables.proofs.Chains.{empty-kept}
-use Rattle.votes.proofs.Picked.{rows-kept}
+use Rattle.std.proofs.Common.{of_calls}
+use Rattle.votes.proofs.Picked.{choice-in, choice-out, agreement-in, agreement-out, rows-kept}
 use Rattle.votes.proofs.Tabled.{tables-are}
 use Rattle.votes.proofs.chosen.tabulate.Goals as goal
 
-pub agreements-agreement_count-requires : goal.agreements-agreement_count-requires
-agreements-agreement_count-requires c = record { groups = c.requires.groups; wished = c.requires.wished; empty = empty-kept c.choices-choice_count.ensures.1 c.requires.empty }
-
 pub returns : goal.returns
-returns c = tables-are _ _ _ _ _ c.requires.groups _ _ _ _ (omega arith) (rows-kept c.agreements-agreement_count.ensures.1 c.agreements-agreement_count.ensures.2 c.choices-choice_count.ensures.0) c.agreements-agreement_count.ensures.0
+returns c = tables-are _ _ _ _ _ c.requires.groups _ _ _ _ (omega arith)
+    (rows-kept (c.enter-agreements.ensures.others.keys 0 (omega arith) (λ e. omega arith)) (c.enter-agreements.ensures.others.rows 0 (omega arith) (λ e. omega arith))
+    (c.enter-choices.ensures.entered _ _ _ (record {
+      some = λ g w l post. choice-in _ _ _ _ c.requires.groups l c.args.found.wished c.requires.wished (search of_calls);
+      none = λ g l post. choice-out _ _ _ _ c.requires.groups l c.args.found.wished c.requires.wished (search of_calls);
+    })))
+    (c.enter-agreements.ensures.entered _ _ _ (record {
+      some = λ g w l post. agreement-in _ _ _ _ c.requires.groups l (search of_calls);
+      none = λ g l post. agreement-out _ _ _ _ c.requires.groups l (search of_calls);
+    }))

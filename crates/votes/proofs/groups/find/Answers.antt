@@ -1,44 +1,45 @@
 use native.Mathlib.Omega.{arith}
-use Prim.Native.Nat.{◌-◌}
-use mathlib.Core.Bool.{true}
-use Rattle.votes.proofs.Searches.{searched-first, searched-walk, searched-next, leads, older-less, not-names, found_at, none_found}
+use Rattle.std.proofs.Common.{of_calls}
+use Rattle.votes.specs.Keys.{has_words}
+use Rattle.tables.proofs.Searches.{rows-to-less}
+use Rattle.votes.proofs.Searches.{searched-first, searched-next, along-first, along-next, leads, found-words, not-names, found_at, none_found}
 use Rattle.votes.proofs.groups.find.Goals as goal
 
-pub newest-newest-requires : goal.newest-newest-requires
-newest-newest-requires c = (omega arith, c.slot_of.ensures.1)
+pub find-at-requires-clause-linked : goal.find-at-requires-clause-linked
+find-at-requires-clause-linked c = leads c.requires.groups.1 c.args.v (along-first c.requires.groups.1 c.args.v c.slot_of.ensures.0 c.slot_of.ensures.1 c.newest-newest.ensures)
 
-pub walk-x-requires : goal.walk-x-requires
-walk-x-requires c = leads c.requires.1 c.requires.2 c.requires.3 c.requires.0 (searched-first c.requires.1 c.requires.2 c.requires.3 c.slot_of.ensures.0 c.slot_of.ensures.1 c.newest-newest.ensures)
+pub loop-at-init : goal.loop-at-init
+loop-at-init c = λ n ok. searched-first ok.worded c.requires.key (found-words ok c.args.v (along-first ok c.args.v c.slot_of.ensures.0 c.slot_of.ensures.1 c.newest-newest.ensures) (c.find-at.ensures (has_words c.args.keys.now c.args.groups.now c.args.v) (λ row b l post. search of_calls)))
 
-pub loop-x-init : goal.loop-x-init
-loop-x-init c = (searched-walk c.requires.1 c.requires.2 (searched-first c.requires.1 c.requires.2 c.requires.3 c.slot_of.ensures.0 c.slot_of.ensures.1 c.newest-newest.ensures) c.walk-x.ensures, c.walk-x.ensures.here)
-
+-- the group that the search has come to
 pub offset_bounds-groups-g : goal.offset_bounds-groups-g
-offset_bounds-groups-g c = omega (arith, c.loop-x.invariant.0.most, c.requires.0)
+offset_bounds-groups-g c = omega (arith, c.requires.groups.1.few, ((c.loop-at.invariant _ c.requires.groups.1).here _ c.in-Some.is).0)
 
 pub bounds-groups-g : goal.bounds-groups-g
-bounds-groups-g c = omega (arith, c.loop-x.invariant.0.most, c.requires.0)
+bounds-groups-g c = omega (arith, c.requires.groups.1.few, ((c.loop-at.invariant _ c.requires.groups.1).here _ c.in-Some.is).0)
 
 pub offset_bounds-ids-f : goal.offset_bounds-ids-f
-offset_bounds-ids-f c = omega (arith, c.place_of-f.ensures, c.requires.1.place (c.loop-x.x - 1) (omega (arith, c.loop-x.invariant.0.most, c.loop-x-test.true)))
+offset_bounds-ids-f c = omega (arith, c.place_of-f.ensures, c.requires.groups.1.worded.place _ ((c.loop-at.invariant _ c.requires.groups.1).here _ c.in-Some.is).0)
 
 pub bounds-ids-f : goal.bounds-ids-f
-bounds-ids-f c = omega (arith, c.place_of-f.ensures, c.requires.1.place (c.loop-x.x - 1) (omega (arith, c.loop-x.invariant.0.most, c.loop-x-test.true)))
+bounds-ids-f c = omega (arith, c.place_of-f.ensures, c.requires.groups.1.worded.place _ ((c.loop-at.invariant _ c.requires.groups.1).here _ c.in-Some.is).0)
 
 pub returns-then-same_names : goal.returns-then-same_names
-returns-then-same_names c = found_at c.requires.1 c.requires.2 (c.loop-x.x - 1) _ (omega (arith, c.loop-x.invariant.0.most, c.loop-x-test.true)) (c.loop-x.invariant.1 c.loop-x-test.true) c.place_of-f.ensures c.same_names.ensures c.if-same_names.true
+returns-then-same_names c = λ n ok. (let h = (c.loop-at.invariant n ok).here _ c.in-Some.is in found_at ok.worded c.requires.key _ _ h.0 h.1 c.place_of-f.ensures c.same_names.ensures c.if-same_names.true)
 
-pub older-requires : goal.older-requires
-older-requires c = (omega arith, omega (arith, c.loop-x.invariant.0.most, c.requires.0))
+pub older-before-requires : goal.older-before-requires
+older-before-requires c = (omega arith, omega (arith, c.requires.groups.1.few, ((c.loop-at.invariant _ c.requires.groups.1).here _ c.in-Some.is).0))
 
-pub walk-x-requires-in-loop-x : goal.walk-x-requires-in-loop-x
-walk-x-requires-in-loop-x c = leads c.requires.1 c.requires.2 c.requires.3 c.requires.0 (searched-next c.requires.1 c.requires.2 c.requires.3 c.loop-x.invariant.0 c.loop-x-test.true c.older.ensures (not-names c.requires.1 c.requires.2 _ _ c.place_of-f.ensures c.same_names.ensures c.if-same_names.false))
+pub find-at-requires-in-Some-clause-linked : goal.find-at-requires-in-Some-clause-linked
+find-at-requires-in-Some-clause-linked c = leads c.requires.groups.1 c.args.v (along-next c.requires.groups.1 c.args.v ((c.loop-at.invariant _ c.requires.groups.1).here _ c.in-Some.is) c.older-before.ensures)
 
-pub loop-x-smaller : goal.loop-x-smaller
-loop-x-smaller c = omega (arith, older-less c.requires.1 c.requires.2 c.requires.3 c.loop-x.invariant.0.most c.loop-x-test.true c.older.ensures, c.walk-x-in-loop-x.ensures.most)
+pub loop-at-smaller : goal.loop-at-smaller
+loop-at-smaller c = rows-to-less c.in-Some.is (found-words c.requires.groups.1 c.args.v (along-next c.requires.groups.1 c.args.v ((c.loop-at.invariant _ c.requires.groups.1).here _ c.in-Some.is) c.older-before.ensures) (c.find-at-in-Some.ensures (has_words c.args.keys.now c.args.groups.now c.args.v) (λ row b l post. search of_calls)))
 
-pub loop-x-preserved : goal.loop-x-preserved
-loop-x-preserved c = (searched-walk c.requires.1 c.requires.2 (searched-next c.requires.1 c.requires.2 c.requires.3 c.loop-x.invariant.0 c.loop-x-test.true c.older.ensures (not-names c.requires.1 c.requires.2 _ _ c.place_of-f.ensures c.same_names.ensures c.if-same_names.false)) c.walk-x-in-loop-x.ensures, c.walk-x-in-loop-x.ensures.here)
+pub loop-at-preserved : goal.loop-at-preserved
+loop-at-preserved c = λ n ok. searched-next ok.worded c.requires.key (c.loop-at.invariant n ok) c.in-Some.is
+    (not-names ok.worded c.requires.key _ _ c.place_of-f.ensures c.same_names.ensures c.if-same_names.false)
+    (found-words ok c.args.v (along-next ok c.args.v ((c.loop-at.invariant n ok).here _ c.in-Some.is) c.older-before.ensures) (c.find-at-in-Some.ensures (has_words c.args.keys.now c.args.groups.now c.args.v) (λ row b l post. search of_calls)))
 
 pub returns : goal.returns
-returns c = none_found c.loop-x.invariant.0 (omega arith)
+returns c = λ n ok. none_found (c.loop-at.invariant n ok) c.in_default.is

@@ -1,4 +1,4 @@
-use Prim.Native.Nat.{◌-◌, ◌/◌, ◌%◌, ◌≤◌}
+use Prim.Native.Nat.{◌/◌, ◌%◌}
 use Rattle.protocol.specs.Statement.{is_kind}
 use Rattle.protocol.specs.Evidence.{signs}
 use Rattle.views.specs.Sets.{IsSet}
@@ -8,7 +8,4 @@ use Rattle.votes.proofs.groups.gather.Given as goal
 
 abbrev pub invariant-loop-i : goal.invariant-loop-i
 invariant-loop-i l =
-    (l.i ≤ l.end) × Sofar l.words l.ids l.i l.keys l.rows l.groups l.n × IsSet (l.asked % 4294967296) (signs (is_kind 1) (record_up_to l.words l.ids l.i)) × IsSet (l.asked / 4294967296 % 4294967296) (signs (is_kind 2) (record_up_to l.words l.ids l.i))
-
-abbrev pub decreases-loop-i : goal.decreases-loop-i
-decreases-loop-i l = l.end - l.i
+    Sofar l.words l.ids l.i l.keys l.rows l.groups l.n × IsSet (l.asked % 4294967296) (signs (is_kind 1) (record_up_to l.words l.ids l.i)) × IsSet (l.asked / 4294967296 % 4294967296) (signs (is_kind 2) (record_up_to l.words l.ids l.i))

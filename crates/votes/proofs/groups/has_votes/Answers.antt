@@ -1,19 +1,16 @@
-use native.Mathlib.Omega.{arith}
-use mathlib.Core.Path.{sym, ◌∙◌}
-use mathlib.Core.Bool.{false}
-use Prim.Native.Nat.{◌-◌}
-use Rattle.pool.proofs.Records as records
+use Rattle.std.proofs.Common.{rules, take, arith, sym, ap, ◌∙◌}
+use borrow.Author.Tests.{tests}
+use Rattle.std.proofs.lemmas.Iterator.{YieldsList-from_slice}
+use Rattle.std.proofs.lemmas.Iterator.Search.{any_from_yields_List}
+use Rattle.protocol.specs.Lists.{any}
+use Rattle.pool.proofs.Records.{so_far, whole}
+use Rattle.pool.specs.Pool.{stmt_at}
 use Rattle.votes.specs.Votes.{is_vote}
+use Rattle.views.proofs.Chains.{any-take}
 use Rattle.votes.proofs.groups.has_votes.Goals as goal
 
-pub loop-i-init : goal.loop-i-init
-loop-i-init c = (omega arith, records.none_first _ _ _)
-
-pub returns-then-is_vote : goal.returns-then-is_vote
-returns-then-is_vote c = sym (records.found _ _ _ _ _ (omega (arith, c.record_length-end.ensures.0)) (sym c.is_vote.ensures ∙ c.if-is_vote.true))
-
-pub loop-i-preserved : goal.loop-i-preserved
-loop-i-preserved c = (omega arith, records.none-next _ _ _ _ (omega (arith, c.record_length-end.ensures.1)) c.loop-i.invariant.1 (sym c.is_vote.ensures ∙ c.if-is_vote.false))
-
 pub returns : goal.returns
-returns c = sym (records.none _ _ _ _ _ (omega (arith, c.record_length-end.ensures.0)) c.loop-i.invariant.1)
+returns c =
+    any_from_yields_List (λ s. is_vote (stmt_at c.args.words.now s)) _ _ _ c.any.ensures.ran (YieldsList-from_slice (take c.record_length-end.result c.args.ids.now) cc) (λ x b q k. search (rules, tests))
+    ∙ any-take is_vote (stmt_at c.args.words.now) _ _ 0 (omega arith)
+    ∙ ap (any is_vote) (sym (so_far _ _ _ c.record_length-end.ensures.1) ∙ whole _ _ _ _ c.record_length-end.ensures.0)

@@ -1,19 +1,14 @@
-use native.Mathlib.Omega.{arith}
-use Prim.Native.Nat.{◌-◌}
-use Rattle.votes.proofs.Questions.{views-first, views-next, views-differ, views-short, views-all}
+use Rattle.std.proofs.Common.{rules, refl, arith, ◌∙◌}
+use borrow.Author.Tests.{tests, ne_eqb}
+use Rattle.std.proofs.lemmas.Iterator.{YieldsList-from_range, cases_from_all}
+use Rattle.votes.proofs.Questions.{Same, word-other, views-told, views-short}
 use Rattle.votes.proofs.question.has_views.Goals as goal
 
-pub returns-then-c-n : goal.returns-then-c-n
-returns-then-c-n c = views-short _ _ _ _ _ c.count-c.ensures.0 c.if-c-n.true
+pub returns-then-count-n : goal.returns-then-count-n
+returns-then-count-n c =
+    views-told _ _ _ _ _ c.count.ensures.0 c.if-count-n.true _
+    (cases_from_all _ _ _ (Same c.args.words.now c.args.list.now c.args.s) (λ p. Same c.args.words.now c.args.list.now c.args.s p → ⊥) c.all.ensures.ran (YieldsList-from_range 0 c.args.n c.args.n refl (omega arith))
+    (λ x q k. search (rules, tests)) (λ x q k. search (rules, tests, word-other c.args.words.now c.args.list.now c.args.s x c.fits-list)))
 
-pub loop-p-init : goal.loop-p-init
-loop-p-init c = (omega arith, views-first _ _ _)
-
-pub returns-then-nth-list_at : goal.returns-then-nth-list_at
-returns-then-nth-list_at c = views-differ _ _ _ _ _ _ c.nth.ensures c.list_at.ensures _ _ c.count-c.ensures.0 c.if-c-n.false c.loop-p-test.true (omega arith) (omega arith) c.if-nth-list_at.true
-
-pub loop-p-preserved : goal.loop-p-preserved
-loop-p-preserved c = (omega arith, views-next _ _ _ _ _ _ c.nth.ensures c.list_at.ensures c.loop-p.invariant.1 c.if-nth-list_at.false)
-
-pub returns : goal.returns
-returns c = views-all _ _ _ _ _ c.count-c.ensures.0 _ (omega arith) c.if-c-n.false c.loop-p.invariant.1
+pub returns-else-count-n : goal.returns-else-count-n
+returns-else-count-n c = ne_eqb _ _ c.if-count-n.false ∙ views-short _ _ _ _ _ c.count.ensures.0 c.if-count-n.false

@@ -1,8 +1,6 @@
-use Rattle.votes.proofs.Questions.{notice-other, notice-same}
+use mathlib.Core.Path.{◌∙◌}
+use Rattle.votes.proofs.Questions.{notice-same}
 use Rattle.votes.proofs.question.is_for.Goals as goal
 
-pub returns-then-notice : goal.returns-then-notice
-returns-then-notice c = λ d. notice-other _ _ _ _ _ c.notice.ensures.0 c.if-notice.true
-
-pub returns : goal.returns
-returns c = λ d. notice-same _ _ _ _ _ c.notice.ensures.0 _ c.if-notice.false c.payload.ensures d
+pub returns-then-notice-from : goal.returns-then-notice-from
+returns-then-notice-from c = λ d. notice-same _ _ _ _ _ c.notice.ensures.0 _ (c.if-notice-from.true ∙ c.from.ensures) c.payload.ensures d

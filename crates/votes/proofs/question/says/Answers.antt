@@ -1,25 +1,28 @@
 use native.Mathlib.Omega.{arith}
-use mathlib.Core.Logic.{inl, inr}
-use Rattle.votes.proofs.Questions.{asks-not-kind, asks-not-at, asks-view, asks-history, asks_none, asks-notice}
+use mathlib.Core.Path.{sym, ◌∙◌}
+use mathlib.Core.Logic.{inl}
+use Rattle.std.proofs.Common.{rules}
+use Rattle.votes.proofs.Questions.{asks-not-kind, asks-not-at, asks-view, asks-history, asks_none, asks-unknown, asks-notice}
 use Rattle.votes.proofs.question.says.Goals as goal
+use Rattle.votes.proofs.question.says.Goals.{then-kind-from-via-then-kind-from, then-kind-from-via-else-kind-from+then-at-q}
 
-pub returns-then-kind-q : goal.returns-then-kind-q
-returns-then-kind-q c = asks-not-kind c.args.q _ _ _ c.kind.ensures.0 c.if-kind-q.true
+pub returns-then-kind-from : goal.returns-then-kind-from
+returns-then-kind-from c = elim c.then-kind-from.branch [
+  | then-kind-from-via-then-kind-from w ↦ asks-not-kind c.args.q _ _ _ c.kind.ensures.0 (λ e. w.if-kind-from.true (e ∙ sym c.from.ensures))
+  | then-kind-from-via-else-kind-from+then-at-q w ↦ asks-not-at c.args.q _ _ _ _ c.kind.ensures.0 w.at.ensures (omega arith) (omega arith) w.if-at-q.true
+]
 
-pub returns-then-at-q : goal.returns-then-at-q
-returns-then-at-q c = asks-not-at c.args.q _ _ _ _ c.kind.ensures.0 c.at.ensures (omega arith) (omega arith) c.if-at-q.true
+pub returns-in-Ok-AgreeView : goal.returns-in-Ok-AgreeView
+returns-in-Ok-AgreeView c = asks-view c.args.q _ _ _ _ c.kind.ensures.0 c.at.ensures (omega arith) (omega arith) (c.if-kind-from.false ∙ c.from.ensures) c.if-at-q.false _ (sym (rw c.in-Ok-AgreeView.field-0-is at c.in-Ok-AgreeView.ensures)) c.view.ensures (omega arith) (omega arith)
 
-pub returns-then-q-eq-AGREE_VIEW : goal.returns-then-q-eq-AGREE_VIEW
-returns-then-q-eq-AGREE_VIEW c = asks-view c.args.q _ _ _ _ c.kind.ensures.0 c.at.ensures (omega arith) (omega arith) c.if-kind-q.false c.if-at-q.false _ c.if-q-eq-AGREE_VIEW.true c.view.ensures (omega arith) (omega arith)
+pub returns-in-Ok-AgreeHistory : goal.returns-in-Ok-AgreeHistory
+returns-in-Ok-AgreeHistory c = asks-history c.args.q _ _ _ _ c.kind.ensures.0 c.at.ensures (omega arith) (omega arith) (c.if-kind-from.false ∙ c.from.ensures) c.if-at-q.false _ (sym (rw c.in-Ok-AgreeHistory.field-0-is at c.in-Ok-AgreeHistory.ensures)) c.has_views.ensures
 
-pub returns-then-q-eq-AGREE_HISTORY : goal.returns-then-q-eq-AGREE_HISTORY
-returns-then-q-eq-AGREE_HISTORY c = asks-history c.args.q _ _ _ _ c.kind.ensures.0 c.at.ensures (omega arith) (omega arith) c.if-kind-q.false c.if-at-q.false _ c.if-q-eq-AGREE_HISTORY.true c.has_views.ensures
+pub returns-in-Ok-Ack : goal.returns-in-Ok-Ack
+returns-in-Ok-Ack c = asks-notice c.args.q _ _ _ _ c.kind.ensures.0 c.at.ensures (omega arith) (omega arith) (c.if-kind-from.false ∙ c.from.ensures) c.if-at-q.false _ (search rules) (search (rules, c.in-Ok-Ack.ensures)) c.is_for.ensures
 
-pub returns-then-q-lt-ACK : goal.returns-then-q-lt-ACK
-returns-then-q-lt-ACK c = asks_none c.args.q _ _ c.if-q-eq-AGREE_VIEW.false c.if-q-eq-AGREE_HISTORY.false (inl c.if-q-lt-ACK.true)
+pub returns-in_default : goal.returns-in_default
+returns-in_default c = asks_none c.args.q _ _ (λ e. search (rules, e)) (λ e. search (rules, e)) (inl (search rules))
 
-pub returns-then-q-gt-STORE : goal.returns-then-q-gt-STORE
-returns-then-q-gt-STORE c = asks_none c.args.q _ _ c.if-q-eq-AGREE_VIEW.false c.if-q-eq-AGREE_HISTORY.false (inr c.if-q-gt-STORE.true)
-
-pub returns : goal.returns
-returns c = asks-notice c.args.q _ _ _ _ c.kind.ensures.0 c.at.ensures (omega arith) (omega arith) c.if-kind-q.false c.if-at-q.false _ c.if-q-lt-ACK.false c.if-q-gt-STORE.false c.is_for.ensures
+pub returns-in_default-2 : goal.returns-in_default-2
+returns-in_default-2 c = let told = rw c.in_default.is at c.try_from.ensures in asks-unknown c.args.q _ _ told.1

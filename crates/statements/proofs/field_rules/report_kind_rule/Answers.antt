@@ -1,8 +1,0 @@
-use mathlib.Core.List.{[]}
-use Rattle.statements.specs.Meaning.{stmt_of}
-use Rattle.statements.proofs.FieldLaws.{report-is}
-use Rattle.statements.proofs.field_rules.report_kind_rule.Goals as goal
-
-pub returns : goal.returns
-unfolding stmt_of
-returns c = cc (report-is c.args.n (stmt_of c.args.st []) c.requires)

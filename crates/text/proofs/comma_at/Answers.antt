@@ -1,6 +1,0 @@
--- `text::comma_at` meets its contract. Assumes nothing.
-use lib.ListN.{get_or-eq_default}
-use Rattle.text.proofs.comma_at.Goals as goal
-
-pub returns-else-at-s : goal.returns-else-at-s
-returns-else-at-s c = simp (get_or-eq_default c.args.s.now 0 c.if-at-s.false)

@@ -1,9 +1,0 @@
--- `text::digit` meets its contract. Assumes nothing.
-use borrow.Author.Tests.{lt-ltb, le-ltb}
-use Rattle.text.proofs.digit.Goals as goal
-
-pub returns-then-b-lt48 : goal.returns-then-b-lt48
-returns-then-b-lt48 c = simp (lt-ltb _ _ c.if-b-lt48.true)
-
-pub returns-else-b-lt48 : goal.returns-else-b-lt48
-returns-else-b-lt48 c = simp (le-ltb _ _ c.if-b-lt48.false)
