@@ -30,7 +30,7 @@ use Rattle.sealing.specs.Memos.{Verdicts}
 use Rattle.ranking.specs.declared.Ranked.{Ranked}
 use Rattle.ranking.specs.declared.Summit.{Summit}
 use Rattle.evidence.specs.declared.certificates.Certified.{Certified}
-use Rattle.ranking.specs.Slots.{choice_mark}
+use Rattle.ranking.specs.Slots.{choice_mark, seal_mark}
 use Rattle.ranking.specs.Ranking.{MarkedChoices, MarkedAgreements, CandidatesOf, HistoriesOf}
 use Rattle.evidence.specs.Shown.{CertificatesOf, StoredOf}
 use Rattle.evidence.specs.Evidence.{EvidenceOf}
@@ -102,7 +102,7 @@ module _ (W ids : List ℕ) (init : ℕ) (K R : List ℕ) (choice_count agreemen
   says-listed : (H : List View) → Says (same_views H (view_of init ∷ []) || any (seals_as W X init K R H) (up_to agreement_count)) ((H ≡ view_of init ∷ []) ⊎ T (any (seals_as W X init K R H) (up_to agreement_count)))
   says-listed H = says-or (says-sames H (view_of init ∷ [])) (says-self (any (seals_as W X init K R H) (up_to agreement_count)))
 
-  pub agreements-marked : MarkedAgreements init X W R M agreement_count
+  pub agreements-marked : MarkedAgreements init X W R (seal_mark M) agreement_count
   agreements-marked = record {
     sound = λ a l e.
         let H = (agreement_at W R a).views in

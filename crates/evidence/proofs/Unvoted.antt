@@ -67,7 +67,7 @@ module _ (init : ℕ) (X : List Stmt) (voteless : any is_vote X ≡ false) where
       is v m = only-candidate ((candidates-exact (ring_of_word init) X v).0 m)
 
   histories-of : (G : List ℕ) → length G ≡ 16 → HistoriesOf init X (set G 0 init) (record { conflict = false; length = 1; skipped = 0 })
-  histories-of G long = alone init X [] [] [] 0 (record { sound = λ a l. absurd (omega arith); complete = λ H k. inl (only-sealed k) }) G long (record { none = λ a l. absurd (omega arith) })
+  histories-of G long = alone init X [] [] (λ a. false) 0 (record { sound = λ a l. absurd (omega arith); complete = λ H k. inl (only-sealed k) }) G long (record { none = λ a l. absurd (omega arith) })
 
   certificates-of : (senders P : List ℕ) → CertificatesOf init senders X P (record { conflict = false; some = 0 })
   certificates-of senders P = record {

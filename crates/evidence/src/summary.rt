@@ -61,7 +61,7 @@ fn of_votes(
     let mut memo = [Verdict::Unknown; MEMO];
     sealing::verdicts(words, ids, init, keys, &rows, &mut memo, counts);
     let r = ranking::rank(keys, &memo, counts.choices, init, candidates);
-    let h = ranking::climb(words, &rows, &memo, counts.agreements, init, greatest);
+    let h = ranking::greatest_history(words, &rows, &memo, counts.agreements, init, greatest);
     certificates::end(groups, found.groups);
     let n = certificates::keep_backed(words, ids, init, keys, &rows, &memo, groups);
     let c = certificates::certificates(

@@ -9,6 +9,7 @@ use Prim.Native.Nat.{ℕ, ◌+◌, ◌≤◌, ◌<◌}
 use native.Mathlib.Decide.{dec_lt}
 use native.Mathlib.Numerals.{add-one}
 use native.Mathlib.Omega.{arith}
+use borrow.Author.Tests.{eqb-true, eq-eqb}
 use lib.Dec.{T}
 use lib.ListN as list
 use lib.ListN.{length, get_or, set}
@@ -30,9 +31,8 @@ use Rattle.views.proofs.Tables.{views-count}
 use Rattle.views.proofs.Views.{passes, fails}
 use Rattle.pool.specs.Pool.{count_of, view_at, stmt_at}
 use Rattle.pool.proofs.Laws.{views-of}
-use Rattle.sealing.specs.declared.verdict.Verdict.{Verdict}
-use Rattle.ranking.specs.Slots.{history_scale, start_scale, number_in, seal_mark, Starts, Stands, Slots, Clash, occupied, Broken, Chain}
-use Rattle.ranking.specs.Ranking.{Unmarked, ChainOf, PassedOf, SkippedOf, MarkedAgreements, HistoriesOf}
+use Rattle.ranking.specs.Slots.{history_scale, start_scale, number_in, seal_byte, Starts, Stands, Slots, Clash, occupied, Broken, Chain}
+use Rattle.ranking.specs.Ranking.{Unmarked, ChainOf, PassedOf, SkippedOf, MarkedAgreements, MarkedBytes, HistoriesOf}
 use Rattle.ranking.proofs.Members.{Climbs, list_of-in, same-members}
 use Rattle.ranking.proofs.Slots.{views-put, occupied-in, occupied-out, occupied-wide}
 use Rattle.ranking.proofs.Skips.{starts-same, unpassed}
@@ -177,7 +177,13 @@ module _ (init : ℕ) (X : List Stmt) where
 
   -- ---- the agreements that are marked
 
-  module _ (W R : List ℕ) (M : List Verdict) (n : ℕ) (agreements : MarkedAgreements init X W R M n) where
+  pub bytes-marked : (W R M : List ℕ) (n : ℕ) → MarkedBytes init X W R M n → MarkedAgreements init X W R (seal_byte M) n
+  bytes-marked W R M n marked = record {
+    sound = λ a l e. marked.sound a l (eqb-true _ _ e);
+    complete = λ H h. elim (marked.complete H h) [ inl e ↦ inl e | inr (a, l, m, e) ↦ inr (a, l, eq-eqb _ _ m, e) ];
+  }
+
+  module _ (W R : List ℕ) (M : ℕ → Bool) (n : ℕ) (agreements : MarkedAgreements init X W R M n) where
     -- none is marked
     pub alone : (out : List ℕ) → length out ≡ 16 → Unmarked M n → HistoriesOf init X (set out 0 init) (record { conflict = false; length = 1; skipped = 0 })
     alone out w f =
@@ -188,25 +194,25 @@ module _ (init : ℕ) (X : List Stmt) where
         only : (K : List View) → Sealed (ring_of_word init) X K → K ≡ view_of init ∷ []
         only K k = elim (agreements.complete K k) [ inl q ↦ q | inr (a, l, m, _) ↦ absurd (f.none a l m) ]
 
-    module _ (a base : ℕ) (l : a < n) (m : seal_mark M a ≡ true) (is : base ≡ number_in R a) where
-      stands-sealed : (w : ℕ) → Stands (history_scale W) base (number_in R) (seal_mark M) n w → Sealed (ring_of_word init) X (stmt_at W w).views
+    module _ (a base : ℕ) (l : a < n) (m : M a ≡ true) (is : base ≡ number_in R a) where
+      stands-sealed : (w : ℕ) → Stands (history_scale W) base (number_in R) M n w → Sealed (ring_of_word init) X (stmt_at W w).views
       stands-sealed w (inl e) = subst (λ x. Sealed (ring_of_word init) X (stmt_at W x).views) (sym (e ∙ is)) (agreements.sound a l m)
       stands-sealed w (inr (c, h, k, e)) = subst (λ x. Sealed (ring_of_word init) X (stmt_at W x).views) e (agreements.sound c h k)
 
-      pub clash-conflict : Clash (history_scale W) base (number_in R) (seal_mark M) n → (length skipped : ℕ) (out : List ℕ) → HistoriesOf init X out (record { conflict = true; length = length; skipped = skipped })
+      pub clash-conflict : Clash (history_scale W) base (number_in R) M n → (length skipped : ℕ) (out : List ℕ) → HistoriesOf init X out (record { conflict = true; length = length; skipped = skipped })
       clash-conflict k =
           let h = stands-sealed k.one k.stands in
           let g = stands-sealed k.other k.besides in
           conflict h g (λ p. k.differ (held-level h g k.level p)) (λ p. k.differ (sym (held-level g h (sym k.level) p)))
 
-      module _ (S : List ℕ) (slots : Slots (history_scale W) base (number_in R) (seal_mark M) n S) where
+      module _ (S : List ℕ) (slots : Slots (history_scale W) base (number_in R) M n S) where
         abbrev shown : List (List View)
         shown = occupied (history_scale W) S 17
 
         slot-sealed : {H : List View} → H ∈ shown → Sealed (ring_of_word init) X H
         slot-sealed i = let (j, h, e, f) = occupied-out (history_scale W) S 17 i in subst (Sealed (ring_of_word init) X) f (stands-sealed (get_or S j 0) (slots.sound j h))
 
-        word : (w : ℕ) → Stands (history_scale W) base (number_in R) (seal_mark M) n w → (stmt_at W w).views ∈ shown
+        word : (w : ℕ) → Stands (history_scale W) base (number_in R) M n w → (stmt_at W w).views ∈ shown
         word w s =
             let e = slots.complete w s in
             subst (λ H. H ∈ shown) e (occupied-in (history_scale W) S 17 (length (stmt_at W w).views) (views-short W w) (ap length e))

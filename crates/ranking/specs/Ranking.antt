@@ -1,6 +1,6 @@
 -- What the candidates in order and the greatest sealed history are of.
 -- Assumes nothing.
-use Rattle.std.specs.Prelude.{◌≡◌, ◌⊎◌, Bool, true, false, not, ◌||◌, List, [], ◌∷◌, ℕ, ◌<◌, ltb, length, get_or}
+use Rattle.std.specs.Prelude.{◌≡◌, ◌⊎◌, Bool, true, false, not, ◌||◌, List, [], ◌∷◌, ℕ, ◌+◌, ◌<◌, ltb, length, get_or}
 use Rattle.protocol.specs.Sets.{bit}
 use Rattle.protocol.specs.Lists.{◌∈◌, any, pairwise}
 use Rattle.protocol.specs.View.{View, Ring, comparable}
@@ -12,19 +12,19 @@ use Rattle.views.specs.View.{view_of, ring_of_word, views_of}
 use Rattle.pool.specs.Pool.{stmt_at}
 use Rattle.tables.specs.Index.{key_at}
 use Rattle.sealing.specs.declared.verdict.Verdict.{Verdict}
-use Rattle.ranking.specs.Slots.{history_scale, start_scale, number_in, choice_mark, seal_mark, Chain}
+use Rattle.ranking.specs.Slots.{history_scale, start_scale, number_in, choice_mark, Chain}
 use Rattle.ranking.specs.declared.Ranked.{Ranked}
 use Rattle.ranking.specs.declared.Summit.{Summit}
 
 -- None of n agreements is marked.
-pub record Unmarked (M : List Verdict) (n : ℕ) : Type 0 where
-  pub none : (a : ℕ) → a < n → seal_mark M a ≡ true → ⊥
+pub record Unmarked (M : ℕ → Bool) (n : ℕ) : Type 0 where
+  pub none : (a : ℕ) → a < n → M a ≡ true → ⊥
 
 -- r is the first of n agreements that is marked.
-pub record FirstMarked (M : List Verdict) (n r : ℕ) : Type 0 where
+pub record FirstMarked (M : ℕ → Bool) (n r : ℕ) : Type 0 where
   pub most : r < n
-  pub none : (a : ℕ) → a < r → seal_mark M a ≡ true → ⊥
-  pub is : seal_mark M r ≡ true
+  pub none : (a : ℕ) → a < r → M a ≡ true → ⊥
+  pub is : M r ≡ true
 
 -- The histories in the slots are a chain that ends with that of statement `last`; or they are none. Where it is steady, each starts with the one before.
 pub record ChainOf (W S : List ℕ) (steady : Bool) (last : ℕ) : Type 0 where
@@ -62,9 +62,14 @@ module _ (init : ℕ) (X : List Stmt) where
     pub views : r.conflict ≡ false → r.many ≡ false → views_of C r.count ≡ candidates (ring_of_word init) X
 
   -- The sealed histories are that of the initial view and those of the agreements before n that are marked.
-  pub record MarkedAgreements (W R : List ℕ) (M : List Verdict) (n : ℕ) : Type 0 where
-    pub sound : (a : ℕ) → a < n → seal_mark M a ≡ true → Sealed (ring_of_word init) X (stmt_at W (number_in R a)).views
-    pub complete : (H : List View) → Sealed (ring_of_word init) X H → (H ≡ view_of init ∷ []) ⊎ ((a : ℕ) × (a < n) × (seal_mark M a ≡ true) × ((stmt_at W (number_in R a)).views ≡ H))
+  pub record MarkedAgreements (W R : List ℕ) (M : ℕ → Bool) (n : ℕ) : Type 0 where
+    pub sound : (a : ℕ) → a < n → M a ≡ true → Sealed (ring_of_word init) X (stmt_at W (number_in R a)).views
+    pub complete : (H : List View) → Sealed (ring_of_word init) X H → (H ≡ view_of init ∷ []) ⊎ ((a : ℕ) × (a < n) × (M a ≡ true) × ((stmt_at W (number_in R a)).views ≡ H))
+
+  -- The same of verdicts that are bytes, of which a 1 at place 512 + a marks agreement a.
+  pub record MarkedBytes (W R M : List ℕ) (n : ℕ) : Type 0 where
+    pub sound : (a : ℕ) → a < n → get_or M (512 + a) 0 ≡ 1 → Sealed (ring_of_word init) X (stmt_at W (number_in R a)).views
+    pub complete : (H : List View) → Sealed (ring_of_word init) X H → (H ≡ view_of init ∷ []) ⊎ ((a : ℕ) × (a < n) × (get_or M (512 + a) 0 ≡ 1) × ((stmt_at W (number_in R a)).views ≡ H))
 
   -- What is said of the sealed histories, of which G is the greatest, is right: which of its views are skipped, by their places.
   pub record HistoriesOf (G : List ℕ) (r : Summit) : Type 0 where

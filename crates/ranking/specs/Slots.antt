@@ -48,6 +48,10 @@ choice_mark M c = is_yes (get_or M c Unknown)
 abbrev pub seal_mark : List Verdict → ℕ → Bool
 seal_mark M a = is_yes (get_or M (512 + a) Unknown)
 
+-- An agreement's, where bytes stand for verdicts: 0 for nothing yet, 1 for a yes, and another for a no.
+abbrev pub seal_byte : List ℕ → ℕ → Bool
+seal_byte M a = eqb (get_or M (512 + a) 0) 1
+
 module _ (Q : Scale) where
   open Q use {Thing, thing, slots, Under}
 

@@ -5,13 +5,14 @@ ghost use Rattle.protocol.specs.Statement.{Stmt};
 ghost use Rattle.protocol.specs.Evidence.{passes_over};
 ghost use Rattle.pool.specs.Pool.{stmt_at};
 ghost use Rattle.views.specs.View.{view_of, ring_of_word, views_of};
-ghost use Rattle.ranking.specs.Slots.{history_scale, number_in, seal_mark, occupied, Starts, Slots, Filled, Broken};
-ghost use Rattle.ranking.specs.Ranking.{Unmarked, FirstMarked, ChainOf, PassedToo, PassedOf, SkippedOf, MarkedAgreements, HistoriesOf};
+ghost use Rattle.ranking.specs.Slots.{history_scale, number_in, occupied, Starts, Slots, Filled, Broken};
+ghost use Rattle.ranking.specs.Ranking.{Unmarked, FirstMarked, ChainOf, PassedToo, PassedOf, SkippedOf, MarkedAgreements, MarkedBytes, HistoriesOf};
 
 use crate::Summit;
+use crate::marks::Marks;
 use pool::POOL_WORDS;
-use sealing::{MEMO, Verdict};
-use tables::{CAPACITY, ROWS};
+use sealing::MEMO;
+use tables::ROWS;
 use views::View;
 use votes::AGREEMENTS;
 
@@ -54,12 +55,12 @@ fn starts_with(words: &[u64; POOL_WORDS], i: u16, j: u16) -> bool
 }
 
 // The first agreement that is marked.
-fn first_marked(memo: &[Verdict; MEMO], agreements: usize) -> Option<usize>
+fn first_marked<M: Marks>(memo: &M, agreements: usize) -> Option<usize>
     requires { agreements ≤ 512 }
-    ensures { MatchOption result (Unmarked memo.now agreements) (FirstMarked memo.now agreements) }
+    ensures { MatchOption result (Unmarked (M.seals memo.now) agreements) (FirstMarked (M.seals memo.now) agreements) }
 {
     for a in 0..agreements {
-        if memo[CAPACITY + a].is_yes() {
+        if memo.seals(a) {
             return Some(a);
         }
     }
@@ -67,19 +68,19 @@ fn first_marked(memo: &[Verdict; MEMO], agreements: usize) -> Option<usize>
 }
 
 // Puts the histories of the marked agreements into the slots of their lengths; false where two of one length differ.
-fn fill_lengths(
+fn fill_lengths<M: Marks>(
     words: &[u64; POOL_WORDS],
     rows: &[u16; ROWS],
-    memo: &[Verdict; MEMO],
+    memo: &M,
     agreements: usize,
     base: u16,
     slots: &mut [u16; LENGTHS],
 ) -> bool
-    requires { (agreements ≤ 512) × Slots (history_scale words.now) base (number_in rows.now) (seal_mark memo.now) 0 slots.old }
-    ensures { Filled (history_scale words.now) base (number_in rows.now) (seal_mark memo.now) agreements slots.new result }
+    requires { (agreements ≤ 512) × Slots (history_scale words.now) base (number_in rows.now) (M.seals memo.now) 0 slots.old }
+    ensures { Filled (history_scale words.now) base (number_in rows.now) (M.seals memo.now) agreements slots.new result }
 {
     for a in 0..agreements {
-        if !memo[CAPACITY + a].is_yes() {
+        if !memo.seals(a) {
             continue;
         }
         let n = tables::number(rows, AGREEMENTS, a);
@@ -214,16 +215,16 @@ fn copy_views(words: &[u64; POOL_WORDS], n: u16, out: &mut [u64; View::LIMIT]) -
 }
 
 // The greatest sealed history of a record, of whose agreements, so many, `memo` marks those that seal theirs, into `out`, and the places in it of the views that are skipped.
-pub fn climb(
+pub fn greatest_history<M: Marks>(
     words: &[u64; POOL_WORDS],
     rows: &[u16; ROWS],
-    memo: &[Verdict; MEMO],
+    memo: &M,
     agreements: usize,
     init: u64,
     out: &mut [u64; View::LIMIT],
 ) -> Summit
     requires { agreements ≤ 512 }
-    ensures { (X : List Stmt) → MarkedAgreements init X words.now rows.now memo.now agreements → HistoriesOf init X out.new result }
+    ensures { (X : List Stmt) → MarkedAgreements init X words.now rows.now (M.seals memo.now) agreements → HistoriesOf init X out.new result }
 {
     let Some(a) = first_marked(memo, agreements) else {
         out[0] = init;
@@ -248,4 +249,19 @@ pub fn climb(
         length,
         skipped,
     }
+}
+
+// The same where bytes stand for verdicts: 0 for nothing yet, 1 for a yes, which marks, and another for a no.
+pub fn climb(
+    words: &[u64; POOL_WORDS],
+    rows: &[u16; ROWS],
+    memo: &[u8; MEMO],
+    agreements: usize,
+    init: u64,
+    out: &mut [u64; View::LIMIT],
+) -> Summit
+    requires { agreements ≤ 512 }
+    ensures { (X : List Stmt) → MarkedBytes init X words.now rows.now memo.now agreements → HistoriesOf init X out.new result }
+{
+    greatest_history(words, rows, memo, agreements, init, out)
 }

@@ -3,9 +3,11 @@
 
 mod candidates;
 mod histories;
+mod marks;
 
 pub use candidates::rank;
-pub use histories::climb;
+pub use histories::{climb, greatest_history};
+pub use marks::Marks;
 // How many candidates are listed, or that two of them are incomparable; `many` where there are more than sixteen.
 #[derive(Clone, Copy)]
 pub struct Ranked {
