@@ -49,7 +49,7 @@ use Rattle.bench.specs.Rows.{row_text, header_text, rows_from, ReadAll, refused_
 use Rattle.bench.specs.After.{bench_after}
 use Rattle.bench.specs.Writing.{word_for, value_is, row_of}
 use Rattle.bench.specs.Seats.{blank, seat_is, terms_of, bench_of, Sound, Full, Keeps, ReadFrom, seat_of, setup_in, MayStart, seats_after, reply_is, changes_is, CalledAtSeat, Known, IfIdle, Rests, CalledByLine, next_turn, Judged, LacksNothing, Advanced, SteppedBy, word_of_answer, value_of_answer}
-use Rattle.bench.specs.Running.{row_is, seats_is, bench_is, BenchKept, Fulls, Turnings, Started, Reading, RunSoFar, AtStart, HasRoom, RowWritten, RowPut, full_after, CallRun, LineRun, Ran, PrintedInto}
+use Rattle.bench.specs.Running.{row_is, seats_is, bench_is, BenchKept, Fulls, Turnings, Started, Reading, RunSoFar, AtStart, HasRoom, RowWritten, RowPut, full_after, CallMade, CallRun, LineRun, Ran, PrintedInto}
 use Rattle.bench.proofs.Rows.{shown}
 use Rattle.bench.proofs.Records.{full-none, full-kept}
 use Rattle.bench.proofs.States.{fit-seat, record-kept, whole-kept, no-pool}
@@ -224,6 +224,21 @@ module _ (c : Controller) {r : Result Outcome Refusal} {c' : Controller} {a : Re
   pub came-refused : (q : Refusal) → r ≡ Err q → c' ≡ c → a ≡ Err q → CameTo c r c' a
   came-refused q e h i = subst (λ t. CameTo c t c' a) (sym e) (record { stored = inr (refl, h); answered = i })
 
+-- a call that is made
+pub call-made : (W R : List ℕ) (c : Controller) (l : Held) {W' R' : List ℕ} {r : Result Outcome Refusal} {c' : Controller} {a : Result Answer Refusal} {v : Known} → CalledByLine W R c l (came_to c r) W' R' → CameTo c r c' a
+    → v ≡ next_turn c l a → CallMade W R c l a W' R' c' v
+call-made W R c l {W'} {R'} {r} {c'} {a} {v} m t x = record {
+  came = came_to c r;
+  called = m;
+  answered = t.answered;
+  stored = t.stored;
+  rests = rests-as W' W' R' R' (came_to c r).controller c' v (same t.stored) refl (subst (λ u. IfIdle u (Rests W' R' (came_to c r).controller)) (sym (x ∙ ap (next_turn c l) t.answered)) m.rests);
+}
+  where
+    same : StoredIn c (came_to c r) c' → controller_is c' ≡ controller_is (came_to c r).controller
+    same (inl (e, z)) = ap controller_is z
+    same (inr (e, z)) = ap controller_is z ∙ sym (m.called.same e)
+
 -- a call, and its row
 module _ (W R : List ℕ) (place : Place) (next : ℕ) (c : Controller) (l : Held) (rows rows' : List ℕ) (on : Place) (number : ℕ) where
   -- one that is known to change nothing
@@ -241,19 +256,16 @@ module _ (W R : List ℕ) (place : Place) (next : ℕ) (c : Controller) (l : Hel
       go true e = inl (e, refl)
       go false e = inr (e, refl)
 
-  pub called-run : {W' R' : List ℕ} {r : Result Outcome Refusal} {c' : Controller} {a : Result Answer Refusal} {v : Known} {k : ℕ} → CalledByLine W R c l (came_to c r) W' R' → CameTo c r c' a → v ≡ next_turn c l a
-      → k ≡ seat_of l → number ≡ signed_number a → RowPut rows place next (row_is place.n k a number) on rows' → CallRun W R place next c l rows on W' R' c' v rows'
-  called-run {W'} {R'} {r} {c'} {a} {v} {k} m t x q n p = record {
-    came = came_to c r;
-    called = m;
-    stored = t.stored;
-    rests = rests-as W' W' R' R' (came_to c r).controller c' v (same t.stored) refl (subst (λ u. IfIdle u (Rests W' R' (came_to c r).controller)) (sym (x ∙ ap (next_turn c l) t.answered)) m.rests);
-    passed = subst (λ u. RowPut rows place next u on rows') (ap₂ (λ i j. row_is place.n i a j) q n ∙ ap (λ b. row_is place.n (seat_of l) b (signed_number b)) t.answered) p;
+  -- one that was made
+  pub made-run : {W' R' : List ℕ} {c' : Controller} {a : Result Answer Refusal} {v : Known} {k : ℕ} → CallMade W R c l a W' R' c' v → k ≡ seat_of l → number ≡ signed_number a
+      → RowPut rows place next (row_is place.n k a number) on rows' → CallRun W R place next c l rows on W' R' c' v rows'
+  made-run {a = a} m q n p = record {
+    came = m.came;
+    called = m.called;
+    stored = m.stored;
+    rests = m.rests;
+    passed = subst (λ u. RowPut rows place next u on rows') (ap₂ (λ i j. row_is place.n i a j) q n ∙ ap (λ b. row_is place.n (seat_of l) b (signed_number b)) m.answered) p;
   }
-    where
-      same : StoredIn c (came_to c r) c' → controller_is c' ≡ controller_is (came_to c r).controller
-      same (inl (e, z)) = ap controller_is z
-      same (inr (e, z)) = ap controller_is z ∙ sym (m.called.same e)
 
 module _ (g : Setting) (W W' : List ℕ) (cs cs' : List Controller) (Rs : List (List ℕ)) (R' : List ℕ) (k : ℕ) (l : Line) (o : Came) (h : k < 16) (m : BenchKept W cs Rs)
     (a : CalledAtSeat W (get_or Rs k []) (get_or cs k blank) k l o W' R') (t : Stored cs k o cs') where

@@ -106,6 +106,14 @@ abbrev pub full_after : Bool → ℕ → ℕ → ℕ
 full_after true n full = n
 full_after false n full = full
 
+-- The call of the line l on the controller c with the record R was made, and a is its answer. The controller is stored where the call may have changed it, and v' is known of its next turn.
+pub record CallMade (W R : List ℕ) (c : Controller) (l : Held) (a : Result Answer Refusal) (W' R' : List ℕ) (c' : Controller) (v' : Known) : Type 0 where
+  pub came : Came
+  pub called : CalledByLine W R c l came W' R'
+  pub answered : a ≡ came.answer
+  pub stored : ((changes_is came.answer ≡ true) × (c' ≡ came.controller)) ⊎ ((changes_is came.answer ≡ false) × (c' ≡ c))
+  pub rests : IfIdle v' (Rests W' R' c')
+
 -- The line l, which calls the controller c with the record R, was run. The controller is stored where the call may have changed it, and v' is known of its next turn.
 pub record CallRun (W R : List ℕ) (place : Place) (next : ℕ) (c : Controller) (l : Held) (rows : List ℕ) (on : Place) (W' R' : List ℕ) (c' : Controller) (v' : Known) (rows' : List ℕ) : Type 0 where
   pub came : Came

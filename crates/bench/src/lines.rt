@@ -5,7 +5,7 @@ ghost use Rattle.bench.specs.Rows.{refused_row, Answered};
 ghost use Rattle.bench.specs.After.{SeatAfter};
 ghost use Rattle.bench.specs.Seats.{Sound, Full, ReadFrom, seat_of, is_call, IfIdle, Rests, word_of_answer, value_of_answer, setup_in, MayStart};
 ghost use Rattle.bench.specs.Writing.{row_of};
-ghost use Rattle.bench.specs.Running.{row_is, Started, HasRoom, RowPut, full_after, CallRun, LineRun, AtStart, Ran, NotRun, RanWith, PrintedInto, Long};
+ghost use Rattle.bench.specs.Running.{row_is, Started, HasRoom, RowPut, full_after, CallMade, CallRun, LineRun, AtStart, Ran, NotRun, RanWith, PrintedInto, Long};
 ghost use Rattle.pool.specs.Pool.{pool_len};
 
 use crate::row::{Value, Word};
@@ -176,7 +176,35 @@ fn known(words: &[u64; POOL_WORDS], whole: bool, full: usize) -> usize
     if whole { pool::pool_len(words) } else { full }
 }
 
-// A line that calls the controller c: what it does, and its row. The controller is lent, and stored only where the call may have changed it.
+// A call on the controller c, which is lent, and stored only where the call may have changed it. It is a function of its own, and not inlined, since what a call needs of
+// memory is cleared first, and most lines need no call.
+#[inline(never)]
+fn make_call(
+    c: &mut Controller,
+    turn: &mut Known,
+    ids: &mut [u16; RECORD],
+    words: &mut [u64; POOL_WORDS],
+    line: Line,
+) -> Result<Answer, Refusal>
+    requires { Sound words.old ids.old × (is_call line ≡ true) }
+    ensures { CallMade words.old ids.old c.old line result words.new ids.new c.new turn.new }
+{
+    let called = *c;
+    let came = state::call(called, ids, words, line);
+    let a = match came {
+        Ok(o) => {
+            if state::changes(o.answer) {
+                *c = o.controller;
+            }
+            Ok(o.answer)
+        }
+        Err(refusal) => Err(refusal),
+    };
+    *turn = state::next_turn(called, line, a);
+    a
+}
+
+// A line that calls the controller c: what it does, and its row.
 fn run_call(
     rows: &mut [u8],
     place: Place,
@@ -195,18 +223,7 @@ fn run_call(
     if let Some(a) = judged {
         return put_step(rows, place, next, k, a, state::number_of(a));
     }
-    let called = *c;
-    let came = state::call(called, ids, words, line);
-    let a = match came {
-        Ok(o) => {
-            if state::changes(o.answer) {
-                *c = o.controller;
-            }
-            Ok(o.answer)
-        }
-        Err(refusal) => Err(refusal),
-    };
-    *turn = state::next_turn(called, line, a);
+    let a = make_call(c, turn, ids, words, line);
     put_step(rows, place, next, k, a, state::number_of(a))
 }
 

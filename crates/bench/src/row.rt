@@ -7,8 +7,6 @@ ghost use Rattle.bench.specs.Writing.{word_is, value_shown, row_of};
 use text::NEWLINE;
 use views::View;
 
-const COMMA: u8 = b',';
-
 // How long the header is.
 pub const HEADER: usize = 22;
 
@@ -33,18 +31,19 @@ pub enum Value {
 }
 
 impl Word {
-    // As a row has it.
-    fn text(self) -> &'static [u8]
-        ensures { result.now ≡ word_is self }
+    // Writes it as a row has it, after a comma; the longest has nine letters. Each is a constant, which a compiler copies without a call.
+    fn put(self, out: &mut [u8], at: usize) -> usize
+        requires { at + 10 ≤ length out.old }
+        ensures { Wrote out.old at (44 ∷ word_is self) result out.new }
     {
         match self {
-            Word::Taken => b"taken",
-            Word::Signed => b"signed",
-            Word::Entered => b"entered",
-            Word::Delivered => b"delivered",
-            Word::Left => b"left",
-            Word::Quiet => b"quiet",
-            Word::Refused => b"refused",
+            Word::Taken => text::write_text(out, at, b",taken"),
+            Word::Signed => text::write_text(out, at, b",signed"),
+            Word::Entered => text::write_text(out, at, b",entered"),
+            Word::Delivered => text::write_text(out, at, b",delivered"),
+            Word::Left => text::write_text(out, at, b",left"),
+            Word::Quiet => text::write_text(out, at, b",quiet"),
+            Word::Refused => text::write_text(out, at, b",refused"),
         }
     }
 }
@@ -58,15 +57,6 @@ fn put_within(out: &mut [u8], at: usize, t: &[u8]) -> usize
     let room = t.len().min(out.len() - start);
     out[start..start + room].copy_from_slice(&t[..room]);
     at + t.len()
-}
-
-// A comma and the word; the longest has nine letters.
-fn put_word(out: &mut [u8], at: usize, word: Word) -> usize
-    requires { at + 10 ≤ length out.old }
-    ensures { Wrote out.old at (44 ∷ word_is word) result out.new }
-{
-    out[at] = COMMA;
-    text::write_text(out, at + 1, word.text())
 }
 
 // A comma and the value; the longest has twenty digits.
@@ -87,7 +77,7 @@ fn put_row(out: &mut [u8], at: usize, n: u64, who: u64, word: Word, value: Value
 {
     let a = text::write_dec(out, at, n);
     let b = statements::put_number(out, a, who);
-    let c = put_word(out, b, word);
+    let c = word.put(out, b);
     let d = put_value(out, c, value);
     out[d] = NEWLINE;
     d + 1

@@ -1,10 +1,9 @@
 // Where a statement is in the pool, and one more at its end.
-ghost use Rattle.std.specs.Prelude.{◌≡◌, ◌<◌, ◌&&◌};
+ghost use Rattle.std.specs.Prelude.{◌≡◌, ◌<◌};
 ghost use Rattle.protocol.specs.View.{same_view};
 ghost use Rattle.protocol.specs.History.{same_views};
 ghost use Rattle.views.specs.View.{view_of};
-ghost use Rattle.protocol.specs.Statement.{same_groups, same_stmt};
-ghost use Rattle.statements.specs.Block.{groups_of};
+ghost use Rattle.protocol.specs.Statement.{same_stmt};
 ghost use Rattle.statements.specs.Meaning.{first_views, stmt_of};
 ghost use Rattle.pool.specs.Pool.{stmt_at};
 ghost use Rattle.views.specs.Options.{option_of};
@@ -48,22 +47,8 @@ fn names(words: &[u64; POOL_WORDS], n: u16, t: u64) -> bool
     read::view(words, n) == t
 }
 
-// Whether statement n has the view, the history and the groups of st. It stands by itself, since the loops that ask it pass over most statements by `is_other`.
-fn has_rest(
-    words: &[u64; POOL_WORDS],
-    n: u16,
-    st: &Statement,
-    view: u64,
-    block: &[u64; BLOCK],
-) -> bool
-    ensures { result ≡ (same_view (stmt_at words.now n).view (view_of view) && same_views (first_views st.now.history.len st.now.history.views) (stmt_at words.now n).views && same_groups (groups_of (stmt_at words.now n).kind st.now.groups st.now.payload block.now) (stmt_at words.now n).groups) }
-{
-    names(words, n, view)
-        && same_history(words, n, &st.history)
-        && report::same_groups(words, n, st.groups, st.payload, block)
-}
-
-// Whether statement n is st with its block, where key, at and view are the numbers of its parts. Most others differ in the first two; liars differ in views alone, so that these are asked before the groups.
+// Whether statement n is st with its block, where key, at and view are the numbers of its parts. Most others differ in the first two; liars differ in views alone, so that these are asked before the groups. Inlined, since a search that calls it for each statement takes half as long again.
+#[inline(always)]
 pub fn is_sought(
     words: &[u64; POOL_WORDS],
     n: u16,
@@ -75,7 +60,10 @@ pub fn is_sought(
 ) -> bool
     ensures { Sought st.now key at view → result ≡ same_stmt (stmt_of st.now block.now) (stmt_at words.now n) }
 {
-    !is_other(words, n, key, at) && has_rest(words, n, st, view, block)
+    !is_other(words, n, key, at)
+        && names(words, n, view)
+        && same_history(words, n, &st.history)
+        && report::same_groups(words, n, st.groups, st.payload, block)
 }
 
 // Whether statement n is st with its block.

@@ -50,7 +50,8 @@ pub struct ReadLine {
     pub next: usize,
 }
 
-// Where the first newline stands.
+// Where the first newline stands. Not inlined, since a compiler then counts what is left of the line beside each byte.
+#[inline(never)]
 fn newline_in(s: &[u8]) -> Option<usize>
     ensures { result ≡ position (λ b. b == 10) s.now }
 {

@@ -44,12 +44,16 @@ fn says(words: &[u64; POOL_WORDS], s: u16, q: Question, history: &[u64; View::LI
     if pool::kind(words, s) != u64::from(q.kind) || pool::at(words, s) != q.at {
         return false;
     }
-    match Kind::try_from(q.kind) {
-        Ok(Kind::AgreeView) => pool::view(words, s) == q.what,
-        Ok(Kind::AgreeHistory) => has_views(words, s, history, q.length),
-        Ok(Kind::Ack | Kind::Store) => is_for(words, s, q.notice, q.what),
-        _ => false,
+    if q.kind == Kind::AgreeView as u8 {
+        return pool::view(words, s) == q.what;
     }
+    if q.kind == Kind::AgreeHistory as u8 {
+        return has_views(words, s, history, q.length);
+    }
+    if q.kind < Kind::Ack as u8 || q.kind > Kind::Store as u8 {
+        return false;
+    }
+    is_for(words, s, q.notice, q.what)
 }
 
 // Whether a quorum signed such votes, and how many statements of the record were read.
@@ -93,9 +97,11 @@ pub fn signers(
 {
     let end = pool::record_length(ids);
     let mut seen = 0u32;
-    for s in &ids[..end] {
-        if says(words, *s, q, history) {
-            seen = views::note(seen, true, pool::origin(words, *s));
+    // By index, since a compiler then makes a loop for each kind.
+    for i in 0..end {
+        let s = ids[i];
+        if says(words, s, q, history) {
+            seen = views::note(seen, true, pool::origin(words, s));
         }
     }
     views::members_among(q.at, seen)

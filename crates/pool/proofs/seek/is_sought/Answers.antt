@@ -4,8 +4,8 @@ use Rattle.pool.proofs.Laws.{kind-small, origin-small}
 use Rattle.pool.proofs.Searches.{sought}
 use Rattle.pool.proofs.seek.is_sought.Goals as goal
 
-pub returns-then-not-is_other : goal.returns-then-not-is_other
-returns-then-not-is_other c = λ s. grind (arith, nat_tests) ∙ sought c.args.st.now c.args.block.now _ c.args.key c.args.at c.args.view s (kind-small _ _, origin-small _ _)
+pub returns-then-same_history : goal.returns-then-same_history
+returns-then-same_history c = λ s. grind (arith, nat_tests) ∙ sought c.args.st.now c.args.block.now _ c.args.key c.args.at c.args.view s (kind-small _ _, origin-small _ _)
 
-pub returns-else-not-is_other : goal.returns-else-not-is_other
-returns-else-not-is_other c = λ s. grind (arith, nat_tests) ∙ sought c.args.st.now c.args.block.now _ c.args.key c.args.at c.args.view s (kind-small _ _, origin-small _ _)
+pub returns-else-same_history : goal.returns-else-same_history
+returns-else-same_history c = λ s. grind (arith, nat_tests) ∙ sought c.args.st.now c.args.block.now _ c.args.key c.args.at c.args.view s (kind-small _ _, origin-small _ _)
