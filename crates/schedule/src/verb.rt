@@ -20,23 +20,15 @@ pub enum Verb {
 pub fn verb_of(line: &[u8]) -> Verb
     ensures { result ≡ verb_of line.now }
 {
-    if line.starts_with(b"turn") {
-        Verb::Turn
-    } else if line.starts_with(b"all") {
-        Verb::All
-    } else if line.starts_with(b"give") {
-        Verb::Give
-    } else if line.starts_with(b"join") {
-        Verb::Join
-    } else if line.starts_with(b"leave") {
-        Verb::Leave
-    } else if line.starts_with(b"send") {
-        Verb::Send
-    } else if line.starts_with(b"setup") {
-        Verb::Setup
-    } else if line.starts_with(b"lie") {
-        Verb::Lie
-    } else {
-        Verb::Unknown
+    match line {
+        [b't', b'u', b'r', b'n', ..] => Verb::Turn,
+        [b'a', b'l', b'l', ..] => Verb::All,
+        [b'g', b'i', b'v', b'e', ..] => Verb::Give,
+        [b'j', b'o', b'i', b'n', ..] => Verb::Join,
+        [b'l', b'e', b'a', b'v', b'e', ..] => Verb::Leave,
+        [b's', b'e', b'n', b'd', ..] => Verb::Send,
+        [b's', b'e', b't', b'u', b'p', ..] => Verb::Setup,
+        [b'l', b'i', b'e', ..] => Verb::Lie,
+        _ => Verb::Unknown,
     }
 }

@@ -97,12 +97,12 @@ pub fn signers(
 {
     let end = pool::record_length(ids);
     let mut seen = 0u32;
-    // By index, since a compiler then makes a loop for each kind.
     for i in 0..end {
         let s = ids[i];
-        if says(words, s, q, history) {
-            seen = views::note(seen, true, pool::origin(words, s));
+        if !says(words, s, q, history) {
+            continue;
         }
+        seen = views::note(seen, true, pool::origin(words, s));
     }
     views::members_among(q.at, seen)
 }
